@@ -14,8 +14,9 @@
  * out of memory. Nothing checks what a C caller owes; it is said here. The functions `spvk_..` are written in this
  * header, and do nothing but test pointers for null and call those; they are tested and not proved.
  *
- * What a valid module may still hold. No rule looks at the operands of OpExtInst after its number: there a valid
- * module may name ids that are over the bound or defined nowhere. A loader that follows these ids tests them itself.
+ * What a valid module may still hold. No rule of the profile looks at the operands of OpExtInst after its number: there
+ * a valid module may name ids that are over the bound or defined nowhere. With the flag SPVK_EXTENDED they are looked
+ * at; a loader that follows these ids sets it, or tests them itself.
  *
  * Memory. All of it comes from malloc, realloc and free, which must be one allocator. No call keeps a pointer that
  * it is given after it has returned. Nothing is kept between calls but what grammars and buffers hold.
@@ -25,9 +26,10 @@
  * size.
  * `spvk_check` and `spvk_explain` take time nearly linear in the module, at most 800 instructions for each word, and
  * may look at all that the module's capabilities imply in the grammar; their memory is at most 14 times the module.
- * With SPVK_AS_1_6 a call copies the bytes of the module once more, and frees the copy before it returns. A text
- * that `spvk_show` or `spvk_explain` makes may be as long as the longest names of the grammar times the number of
- * instructions: if the grammar or the module comes from a stranger, limit what malloc gives, and the call answers
+ * With SPVK_AS_1_6 a call copies the bytes of the module once more, and frees the copy before it returns. With
+ * SPVK_EXTENDED a module with a fault that is explained is decoded once more, in memory of at most 17 times the module.
+ * A text that `spvk_show` or `spvk_explain` makes may be as long as the longest names of the grammar times the number
+ * of instructions: if the grammar or the module comes from a stranger, limit what malloc gives, and the call answers
  * SPVK_MEMORY. A module that `spvk_assemble` makes has at most 16,777,216 bytes; its time and memory go with the
  * text.
  *
@@ -87,6 +89,7 @@ typedef enum spvk_code {
     SPVK_D1 = 401, SPVK_D2 = 402, SPVK_D3 = 403, SPVK_D4 = 404, SPVK_D5 = 405,
     SPVK_Y1 = 501, SPVK_Y2 = 502, SPVK_Y3 = 503, SPVK_Y4 = 504,
     SPVK_Y5 = 505, SPVK_Y6 = 506, SPVK_Y7 = 507, SPVK_Y8 = 508,
+    SPVK_Y9 = 509, /* with SPVK_EXTENDED alone */
     SPVK_C1 = 601, SPVK_C2 = 602,
     SPVK_M1 = 701,
     SPVK_E1 = 801, SPVK_E2 = 802,
@@ -110,6 +113,14 @@ typedef enum spvk_text_code {
  *  judged by the rules of 1.6. A module of any other version still breaks W5. The bytes that are given are not
  *  changed. */
 #define SPVK_AS_1_6 UINT32_C(1)
+
+/** A flag of `spvk_check_with`, `spvk_explain_with` and `spvk_explain_json_with`: extended instructions are looked at
+ *  whole, also behind their number. Of the set `OpenCL.std` an id there is used as a value: it breaks SPVK_D1, SPVK_D3,
+ *  SPVK_D4, SPVK_D5, SPVK_Y1 or SPVK_A1 where any other use of it would; and SPVK_Y9 is broken where the set has no
+ *  instruction of that number, or has one that takes fewer or more operands. Of any other set, as of debug information,
+ *  each id is below the bound and defined (SPVK_D1, SPVK_D3). Nothing else is asked, and no type is looked at. Loaders
+ *  that follow the ids of extended instructions should set it. */
+#define SPVK_EXTENDED UINT32_C(2)
 
 /** Stands for no instruction and no word: in the verdict on a valid module, and in one of W2 to W8. */
 #define SPVK_NOWHERE UINT32_MAX
@@ -186,14 +197,21 @@ uint32_t spvk_raw_grammar_explain(const uint8_t *text, size_t len, spvk_buffer *
 spvk_answer spvk_raw_check(const void *held, const uint8_t *bytes, size_t len);
 /** As `spvk_check_with` by SPVK_AS_1_6. */
 spvk_answer spvk_raw_check_as_1_6(const void *held, const uint8_t *bytes, size_t len);
+/** As `spvk_check_with`. */
+spvk_answer spvk_raw_check_with(const void *held, const uint8_t *bytes, size_t len, uint32_t flags);
 /** As `spvk_explain`. After any status but SPVK_OK `text` is as it was. */
 uint32_t spvk_raw_explain(const void *held, const uint8_t *bytes, size_t len, spvk_text *text);
 /** As `spvk_explain_with` by SPVK_AS_1_6. After any status but SPVK_OK `text` is as it was. */
 uint32_t spvk_raw_explain_as_1_6(const void *held, const uint8_t *bytes, size_t len, spvk_text *text);
+/** As `spvk_explain_with`. After any status but SPVK_OK `text` is as it was. */
+uint32_t spvk_raw_explain_with(const void *held, const uint8_t *bytes, size_t len, uint32_t flags, spvk_text *text);
 /** As `spvk_explain_json`. After any status but SPVK_OK `text` is as it was. */
 uint32_t spvk_raw_explain_json(const void *held, const uint8_t *bytes, size_t len, spvk_text *text);
 /** As `spvk_explain_json_with` by SPVK_AS_1_6. After any status but SPVK_OK `text` is as it was. */
 uint32_t spvk_raw_explain_json_as_1_6(const void *held, const uint8_t *bytes, size_t len, spvk_text *text);
+/** As `spvk_explain_json_with`. After any status but SPVK_OK `text` is as it was. */
+uint32_t spvk_raw_explain_json_with(const void *held, const uint8_t *bytes, size_t len, uint32_t flags,
+                                    spvk_text *text);
 /** As `spvk_show`. After any status but SPVK_OK `text` is as it was. */
 uint32_t spvk_raw_show(const void *held, const uint8_t *bytes, size_t len, spvk_text *text);
 /** As `spvk_show_with` by SPVK_AS_1_6. After any status but SPVK_OK `text` is as it was. */
@@ -270,7 +288,7 @@ static inline void spvk_grammar_delete(spvk_grammar *grammar) {
     if (grammar != NULL) spvk_raw_grammar_delete(grammar);
 }
 
-/** As `spvk_check`, by flags: SPVK_AS_1_6, or 0 for none.
+/** As `spvk_check`, by flags: SPVK_AS_1_6, SPVK_EXTENDED, or both by `|`; 0 for none.
  *
  *  Also SPVK_NO_FLAG: `flags` has another bit. */
 static inline spvk_status spvk_check_with(const spvk_grammar *grammar, const uint8_t *bytes, size_t len,
@@ -278,9 +296,7 @@ static inline spvk_status spvk_check_with(const spvk_grammar *grammar, const uin
     spvk_answer answer;
     if (grammar == NULL || grammar->held == NULL) return SPVK_NO_GRAMMAR;
     if (verdict == NULL || (bytes == NULL && len != 0)) return SPVK_NULL;
-    if ((flags & ~SPVK_AS_1_6) != 0) return SPVK_NO_FLAG;
-    answer = flags != 0 ? spvk_raw_check_as_1_6(grammar->held, spvk_some_bytes(bytes), len)
-                        : spvk_raw_check(grammar->held, spvk_some_bytes(bytes), len);
+    answer = spvk_raw_check_with(grammar->held, spvk_some_bytes(bytes), len, flags);
     if (answer.status == SPVK_OK) {
         verdict->code = answer.code;
         verdict->inst = answer.inst;
@@ -299,10 +315,8 @@ static inline spvk_status spvk_check(const spvk_grammar *grammar, const uint8_t 
     return spvk_check_with(grammar, bytes, len, 0, verdict);
 }
 
-/** What `spvk_explain`, `spvk_explain_json` and `spvk_show` answer, by one of two calls of the library: without a flag,
- *  and by SPVK_AS_1_6. (For this header.) */
-static inline spvk_status spvk_told_by(uint32_t (*raw)(const void *, const uint8_t *, size_t, spvk_text *),
-                                       uint32_t (*as_1_6)(const void *, const uint8_t *, size_t, spvk_text *),
+/** What `spvk_explain`, `spvk_explain_json` and `spvk_show` answer, by a call of the library. (For this header.) */
+static inline spvk_status spvk_told_by(uint32_t (*raw)(const void *, const uint8_t *, size_t, uint32_t, spvk_text *),
                                        const spvk_grammar *grammar, const uint8_t *bytes, size_t len,
                                        uint32_t flags, spvk_verdict *verdict, spvk_buffer *buffer) {
     spvk_text text = {{0, 0, 0}, SPVK_BUFFER_NONE};
@@ -310,8 +324,7 @@ static inline spvk_status spvk_told_by(uint32_t (*raw)(const void *, const uint8
     if (buffer != NULL) *buffer = text.buffer;
     if (grammar == NULL || grammar->held == NULL) return SPVK_NO_GRAMMAR;
     if (verdict == NULL || buffer == NULL || (bytes == NULL && len != 0)) return SPVK_NULL;
-    if ((flags & ~SPVK_AS_1_6) != 0) return SPVK_NO_FLAG;
-    status = (flags != 0 ? as_1_6 : raw)(grammar->held, spvk_some_bytes(bytes), len, &text);
+    status = raw(grammar->held, spvk_some_bytes(bytes), len, flags, &text);
     if (status == SPVK_OK) {
         *verdict = text.verdict;
         *buffer = text.buffer;
@@ -319,12 +332,13 @@ static inline spvk_status spvk_told_by(uint32_t (*raw)(const void *, const uint8
     return (spvk_status)status;
 }
 
-/** As `spvk_explain`, by flags: SPVK_AS_1_6, or 0 for none. The lines speak of the module as it was read.
+/** As `spvk_explain`, by flags: SPVK_AS_1_6, SPVK_EXTENDED, or both by `|`; 0 for none. The lines speak of the module
+ *  as it was read.
  *
  *  Also SPVK_NO_FLAG: `flags` has another bit. */
 static inline spvk_status spvk_explain_with(const spvk_grammar *grammar, const uint8_t *bytes, size_t len,
                                             uint32_t flags, spvk_verdict *verdict, spvk_buffer *buffer) {
-    return spvk_told_by(spvk_raw_explain, spvk_raw_explain_as_1_6, grammar, bytes, len, flags, verdict, buffer);
+    return spvk_told_by(spvk_raw_explain_with, grammar, bytes, len, flags, verdict, buffer);
 }
 
 /** The verdict on the bytes of a module, and the lines of `spv explain`: that of the verdict, and after that of a
@@ -338,13 +352,13 @@ static inline spvk_status spvk_explain(const spvk_grammar *grammar, const uint8_
     return spvk_explain_with(grammar, bytes, len, 0, verdict, buffer);
 }
 
-/** As `spvk_explain_json`, by flags: SPVK_AS_1_6, or 0 for none. The object speaks of the module as it was read.
+/** As `spvk_explain_json`, by flags: SPVK_AS_1_6, SPVK_EXTENDED, or both by `|`; 0 for none. The object speaks of the
+ *  module as it was read.
  *
  *  Also SPVK_NO_FLAG: `flags` has another bit. */
 static inline spvk_status spvk_explain_json_with(const spvk_grammar *grammar, const uint8_t *bytes, size_t len,
                                                  uint32_t flags, spvk_verdict *verdict, spvk_buffer *buffer) {
-    return spvk_told_by(spvk_raw_explain_json, spvk_raw_explain_json_as_1_6, grammar, bytes, len, flags, verdict,
-                        buffer);
+    return spvk_told_by(spvk_raw_explain_json_with, grammar, bytes, len, flags, verdict, buffer);
 }
 
 /** The verdict on the bytes of a module, and what `spv explain --json` writes of it: a JSON object with a line feed
@@ -358,12 +372,19 @@ static inline spvk_status spvk_explain_json(const spvk_grammar *grammar, const u
     return spvk_explain_json_with(grammar, bytes, len, 0, verdict, buffer);
 }
 
+/** What the archive shows by flags. (For this header.) */
+static inline uint32_t spvk_shown_by(const void *held, const uint8_t *bytes, size_t len, uint32_t flags,
+                                     spvk_text *text) {
+    if ((flags & ~SPVK_AS_1_6) != 0) return SPVK_NO_FLAG;
+    return flags != 0 ? spvk_raw_show_as_1_6(held, bytes, len, text) : spvk_raw_show(held, bytes, len, text);
+}
+
 /** As `spvk_show`, by flags: SPVK_AS_1_6, or 0 for none. The text then tells version 1.6.
  *
- *  Also SPVK_NO_FLAG: `flags` has another bit. */
+ *  Also SPVK_NO_FLAG: `flags` has another bit, as SPVK_EXTENDED is: no rule but of W or I is asked here. */
 static inline spvk_status spvk_show_with(const spvk_grammar *grammar, const uint8_t *bytes, size_t len,
                                          uint32_t flags, spvk_verdict *verdict, spvk_buffer *buffer) {
-    return spvk_told_by(spvk_raw_show, spvk_raw_show_as_1_6, grammar, bytes, len, flags, verdict, buffer);
+    return spvk_told_by(spvk_shown_by, grammar, bytes, len, flags, verdict, buffer);
 }
 
 /** The text of a module, as `spv show` writes it, or the rule of W or I by which its bytes are no list of

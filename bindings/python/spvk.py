@@ -54,6 +54,7 @@ _FILE = "libspvk.so.1"
 _OK, _MEMORY, _NOT_TEXT, _J1 = 0, 1, 4, 101
 _VALID, _ASSEMBLED, _S1 = 0, 0, 1201
 _NOWHERE = 0xFFFFFFFF
+_AS_1_6, _EXTENDED = 1, 2
 
 
 class Error(Exception):
@@ -256,6 +257,10 @@ class Evidence:
     walk: Tuple[int, ...] = ()
     calls: Tuple[int, ...] = ()
     cycle: Tuple[int, ...] = ()
+    number: Optional[int] = None
+    operands: Optional[int] = None
+    least: Optional[int] = None
+    most: Optional[int] = None
 
     def __bool__(self) -> bool:
         return self.verdict.is_valid
@@ -336,6 +341,10 @@ _MEMBERS: Dict[str, Tuple[str, Callable[[Any], Any]]] = {
     "walk": ("walk", tuple),
     "calls": ("calls", tuple),
     "cycle": ("cycle", tuple),
+    "number": ("number", _same),
+    "operands": ("operands", _same),
+    "least": ("least", _same),
+    "most": ("most", _same),
 }
 
 
@@ -388,12 +397,9 @@ def _library() -> ctypes.CDLL:
         "grammar_default": (ctypes.c_uint32, [to(_Grammar)]),
         "grammar_delete": (None, [to(_Grammar)]),
         "grammar_explain": (ctypes.c_uint32, [*given, to(_Buffer)]),
-        "check": (_Answer, asked),
-        "check_as_1_6": (_Answer, asked),
-        "explain": (ctypes.c_uint32, [*asked, to(_Text)]),
-        "explain_as_1_6": (ctypes.c_uint32, [*asked, to(_Text)]),
-        "explain_json": (ctypes.c_uint32, [*asked, to(_Text)]),
-        "explain_json_as_1_6": (ctypes.c_uint32, [*asked, to(_Text)]),
+        "check_with": (_Answer, [*asked, ctypes.c_uint32]),
+        "explain_with": (ctypes.c_uint32, [*asked, ctypes.c_uint32, to(_Text)]),
+        "explain_json_with": (ctypes.c_uint32, [*asked, ctypes.c_uint32, to(_Text)]),
         "show": (ctypes.c_uint32, [*asked, to(_Text)]),
         "show_as_1_6": (ctypes.c_uint32, [*asked, to(_Text)]),
         "assemble_little": (ctypes.c_uint32, [*asked, to(_Image)]),
@@ -460,10 +466,17 @@ def _held_by(buffer: _Buffer) -> bytes:
     return ctypes.string_at(buffer.data, buffer.size) if buffer.size else b""
 
 
-def _made(call: Callable[..., int], held: "_Held", given: bytes, answer: Union[_Text, _Image]) -> bytes:
+def _flags(as_1_6: bool, extended: bool) -> int:
+    """The flags of the library."""
+    return (_AS_1_6 if as_1_6 else 0) | (_EXTENDED if extended else 0)
+
+
+def _made(
+    call: Callable[..., int], held: "_Held", given: bytes, answer: Union[_Text, _Image], *flags: int
+) -> bytes:
     """Makes a call that puts bytes into a buffer, and takes them out of it."""
     try:
-        _done(call(held.grammar.held, given, len(given), ctypes.byref(answer)))
+        _done(call(held.grammar.held, given, len(given), *flags, ctypes.byref(answer)))
         return _held_by(answer.buffer)
     finally:
         _C.spvk_raw_buffer_delete(ctypes.byref(answer.buffer))
@@ -513,42 +526,46 @@ class Grammar:
     either byte order, and a version from 1.0 to 1.6, version 1.6 stands in its place, and what is read is
     judged by the rules of 1.6. A module of another version breaks W5, and so does one of any version but
     1.6 without `as_1_6`.
+
+    By `extended` extended instructions are looked at whole, also behind their number, as loaders that follow
+    the ids there need it. Of the set `OpenCL.std` an id there is used as a value (D1, D3, D4, D5, Y1, A1),
+    and Y9 is broken where the set has no instruction of that number, or has one that takes fewer or more
+    operands; of any other set each id is below the bound and defined (D1, D3).
     """
 
     def __init__(self, text: Optional[bytes] = None) -> None:
         self._held = _Held(None if text is None else _octets(text))
 
-    def check(self, module: bytes, *, as_1_6: bool = False) -> Verdict:
+    def check(self, module: bytes, *, as_1_6: bool = False, extended: bool = False) -> Verdict:
         """The verdict on the bytes of a module, in either byte order."""
         held, given = self._held, _octets(module)
-        call = _C.spvk_raw_check_as_1_6 if as_1_6 else _C.spvk_raw_check
-        answer = call(held.grammar.held, given, len(given))
+        answer = _C.spvk_raw_check_with(held.grammar.held, given, len(given), _flags(as_1_6, extended))
         _done(answer.status)
         return _verdict(answer)
 
-    def explain(self, module: bytes, *, as_1_6: bool = False) -> Explanation:
+    def explain(self, module: bytes, *, as_1_6: bool = False, extended: bool = False) -> Explanation:
         """The verdict on the bytes of a module, with the lines that explain it."""
         answer = _Text()
-        call = _C.spvk_raw_explain_as_1_6 if as_1_6 else _C.spvk_raw_explain
-        lines = _made(call, self._held, _octets(module), answer)
+        flags = _flags(as_1_6, extended)
+        lines = _made(_C.spvk_raw_explain_with, self._held, _octets(module), answer, flags)
         return Explanation(_verdict(answer), lines.decode())
 
-    def explain_json(self, module: bytes, *, as_1_6: bool = False) -> str:
+    def explain_json(self, module: bytes, *, as_1_6: bool = False, extended: bool = False) -> str:
         """The JSON object of `spv explain --json`, without a member `file`, and a line feed.
 
         docs/explain.schema.json of the library's repository is its JSON Schema.
         """
-        return self._object(module, as_1_6)[1]
+        return self._object(module, as_1_6, extended)[1]
 
-    def evidence(self, module: bytes, *, as_1_6: bool = False) -> Evidence:
+    def evidence(self, module: bytes, *, as_1_6: bool = False, extended: bool = False) -> Evidence:
         """The verdict on the bytes of a module, and as values what the lines of `explain` say."""
-        return _evidence(*self._object(module, as_1_6))
+        return _evidence(*self._object(module, as_1_6, extended))
 
-    def _object(self, module: bytes, as_1_6: bool) -> Tuple[Verdict, str]:
+    def _object(self, module: bytes, as_1_6: bool, extended: bool) -> Tuple[Verdict, str]:
         """The verdict on a module, and the JSON object that explains it."""
         answer = _Text()
-        call = _C.spvk_raw_explain_json_as_1_6 if as_1_6 else _C.spvk_raw_explain_json
-        text = _made(call, self._held, _octets(module), answer)
+        flags = _flags(as_1_6, extended)
+        text = _made(_C.spvk_raw_explain_json_with, self._held, _octets(module), answer, flags)
         return _verdict(answer), text.decode()
 
     def show(self, module: bytes, *, as_1_6: bool = False) -> str:

@@ -132,15 +132,15 @@ static int without_grammar(const spvk_grammar *grammar, file module, file text) 
     spvk_buffer buffer = unread();
     CHECK(spvk_check(grammar, module.bytes, module.size, &verdict) == SPVK_NO_GRAMMAR);
     CHECK(spvk_check(grammar, NULL, 9, NULL) == SPVK_NO_GRAMMAR);
-    CHECK(spvk_check_with(grammar, NULL, 9, 2, NULL) == SPVK_NO_GRAMMAR);
-    CHECK(spvk_explain_with(grammar, NULL, 9, 2, NULL, NULL) == SPVK_NO_GRAMMAR);
-    CHECK(spvk_show_with(grammar, NULL, 9, 2, NULL, NULL) == SPVK_NO_GRAMMAR);
+    CHECK(spvk_check_with(grammar, NULL, 9, 4, NULL) == SPVK_NO_GRAMMAR);
+    CHECK(spvk_explain_with(grammar, NULL, 9, 4, NULL, NULL) == SPVK_NO_GRAMMAR);
+    CHECK(spvk_show_with(grammar, NULL, 9, 4, NULL, NULL) == SPVK_NO_GRAMMAR);
     CHECK(spvk_explain(grammar, module.bytes, module.size, &verdict, &buffer) == SPVK_NO_GRAMMAR && is_empty(buffer));
     CHECK(spvk_explain(grammar, NULL, 9, NULL, NULL) == SPVK_NO_GRAMMAR);
     buffer = unread();
     CHECK(spvk_explain_json(grammar, module.bytes, module.size, &verdict, &buffer) == SPVK_NO_GRAMMAR);
     CHECK(is_empty(buffer));
-    CHECK(spvk_explain_json_with(grammar, NULL, 9, 2, NULL, NULL) == SPVK_NO_GRAMMAR);
+    CHECK(spvk_explain_json_with(grammar, NULL, 9, 4, NULL, NULL) == SPVK_NO_GRAMMAR);
     buffer = unread();
     CHECK(spvk_show(grammar, module.bytes, module.size, &verdict, &buffer) == SPVK_NO_GRAMMAR && is_empty(buffer));
     CHECK(spvk_show(grammar, NULL, 9, NULL, NULL) == SPVK_NO_GRAMMAR);
@@ -292,16 +292,137 @@ static int older(const spvk_grammar *grammar, file module, file text, bool big, 
     return 0;
 }
 
+// A module of which the instruction 11, at word 40, is such a call of a set.
+#define CALLING(set, call)                                                                        \
+    "; SPIR-V\n; Version: 1.6\n; Generator: 0\n; Bound: 12\n; Schema: 0\n"                        \
+    "OpCapability Addresses\nOpCapability Kernel\n%9 = OpExtInstImport \"" set "\"\n"            \
+    "OpMemoryModel Physical64 OpenCL\nOpEntryPoint Kernel %3 \"k\"\n%1 = OpTypeVoid\n"          \
+    "%5 = OpTypeFloat 32\n%6 = OpConstant %5 0x3f800000\n%2 = OpTypeFunction %1\n"               \
+    "%3 = OpFunction %1 None %2\n%4 = OpLabel\n%7 = OpExtInst %5 %9 " call "\nOpReturn\nOpFunctionEnd\n"
+
+// A module whose extended instruction is looked at, or not, as the flags say: its text, the code and its name.
+typedef struct calling {
+    const char *text;
+    uint32_t code;
+    const char *name;
+} calling;
+
+static const calling CALLS_OF_SETS[] = {
+    {CALLING("OpenCL.std", "61 %6"), SPVK_VALID, NULL},    // sqrt of a value
+    {CALLING("OpenCL.std", "61 %11"), SPVK_D3, "D3"},      // of what nothing defines
+    {CALLING("OpenCL.std", "61 %400"), SPVK_D1, "D1"},     // of an id over the bound
+    {CALLING("OpenCL.std", "61 %5"), SPVK_Y1, "Y1"},       // of a type
+    {CALLING("OpenCL.std", "61 %7"), SPVK_A1, "A1"},       // of itself
+    {CALLING("OpenCL.std", "61 %6 %6"), SPVK_Y9, "Y9"},    // of two values
+    {CALLING("OpenCL.std", "9999 %6"), SPVK_Y9, "Y9"},     // no instruction of the set
+    {CALLING("DebugInfo", "0 %11"), SPVK_D3, "D3"},        // another set
+    {CALLING("DebugInfo", "9999 %5"), SPVK_VALID, NULL},   // of which no more is asked
+};
+
+// What the calls by a flag say of a module: the code, at the place of its extended instruction.
+static int looked_at(const spvk_grammar *grammar, file module, uint32_t flags, uint32_t code, const char *name) {
+    spvk_verdict verdict = UNTOUCHED;
+    spvk_buffer buffer = unread();
+    char line[60] = "valid", member[60] = "{\"verdict\":\"valid\"}";
+    const bool valid = code == SPVK_VALID;
+    const uint32_t inst = valid ? SPVK_NOWHERE : 11, word = valid ? SPVK_NOWHERE : 40;
+    if (!valid) {
+        snprintf(line, sizeof line, "fault %s inst 11 word 40\nrule: ", name);
+        snprintf(member, sizeof member, "{\"verdict\":\"fault\",\"code\":\"%s\",\"inst\":11,", name);
+    }
+    CHECK(spvk_check_with(grammar, module.bytes, module.size, flags, &verdict) == SPVK_OK);
+    CHECK(is_verdict(verdict, code, inst, word));
+    verdict = UNTOUCHED;
+    CHECK(spvk_explain_with(grammar, module.bytes, module.size, flags, &verdict, &buffer) == SPVK_OK);
+    CHECK(is_verdict(verdict, code, inst, word) && begins(buffer, line));
+    spvk_buffer_delete(&buffer);
+    verdict = UNTOUCHED;
+    CHECK(spvk_explain_json_with(grammar, module.bytes, module.size, flags, &verdict, &buffer) == SPVK_OK);
+    CHECK(is_verdict(verdict, code, inst, word) && begins(buffer, member));
+    spvk_buffer_delete(&buffer);
+    return 0;
+}
+
+// Extended instructions are looked at whole by their flag, alone and with the other one, and not without.
+static int extended(const spvk_grammar *grammar) {
+    for (size_t at = 0; at < sizeof CALLS_OF_SETS / sizeof *CALLS_OF_SETS; at++) {
+        const calling it = CALLS_OF_SETS[at];
+        spvk_fault fault = UNTOUCHED_FAULT;
+        spvk_buffer made = unread();
+        const uint8_t *text = (const uint8_t *)it.text;
+        CHECK(spvk_assemble(grammar, text, strlen(it.text), false, &fault, &made) == SPVK_OK);
+        CHECK(is_fault(fault, SPVK_ASSEMBLED, 0));
+        const file module = {(uint8_t *)made.data, made.size};
+        CHECK(looked_at(grammar, module, 0, SPVK_VALID, NULL) == 0);
+        CHECK(looked_at(grammar, module, SPVK_AS_1_6, SPVK_VALID, NULL) == 0);
+        CHECK(looked_at(grammar, module, SPVK_EXTENDED, it.code, it.name) == 0);
+        file older = other_version(module, true, 1, 3);
+        CHECK(looked_at(grammar, older, SPVK_AS_1_6 | SPVK_EXTENDED, it.code, it.name) == 0);
+        free(older.bytes);
+        spvk_buffer_delete(&made);
+    }
+    return 0;
+}
+
+// Whether two answers are the same.
+static bool are_equal(spvk_answer one, spvk_answer other) {
+    return one.status == other.status && one.code == other.code && one.inst == other.inst && one.word == other.word;
+}
+
+typedef uint32_t raw_telling(const void *, const uint8_t *, size_t, spvk_text *);
+typedef uint32_t raw_telling_with(const void *, const uint8_t *, size_t, uint32_t, spvk_text *);
+
+// A call of the archive that makes a text answers what the one with flags answers.
+static int raw_texts(raw_telling *call, raw_telling_with *with, uint32_t flags, const void *held, file module) {
+    spvk_text one = {{7, 8, 9}, SPVK_BUFFER_NONE}, other = {{7, 8, 9}, SPVK_BUFFER_NONE};
+    CHECK(with(held, module.bytes, module.size, flags | 4, &other) == SPVK_NO_FLAG);
+    CHECK(with(NULL, module.bytes, module.size, flags | 4, &other) == SPVK_NO_GRAMMAR);
+    CHECK(is_untouched(other.verdict) && is_empty(other.buffer));
+    CHECK(call(held, module.bytes, module.size, &one) == SPVK_OK);
+    CHECK(with(held, module.bytes, module.size, flags, &other) == SPVK_OK);
+    CHECK(is_verdict(one.verdict, other.verdict.code, other.verdict.inst, other.verdict.word));
+    const file told = {(uint8_t *)other.buffer.data, other.buffer.size};
+    CHECK(has(one.buffer, told));
+    spvk_buffer_delete(&one.buffer);
+    spvk_buffer_delete(&other.buffer);
+    return 0;
+}
+
+// The archive's calls without flags answer what those with them answer.
+static int raw_calls(const spvk_grammar *grammar, file module) {
+    const void *held = grammar->held;
+    file older = other_version(module, false, 1, 0);
+    const spvk_answer none = spvk_raw_check_with(held, module.bytes, module.size, 4);
+    CHECK(none.status == SPVK_NO_FLAG && none.code == SPVK_NOWHERE);
+    CHECK(spvk_raw_check_with(NULL, module.bytes, module.size, 4).status == SPVK_NO_GRAMMAR);
+    for (size_t cut = 0; cut <= 4; cut += 4) {
+        const file it = {older.bytes, older.size - cut};
+        CHECK(are_equal(spvk_raw_check(held, it.bytes, it.size), spvk_raw_check_with(held, it.bytes, it.size, 0)));
+        CHECK(are_equal(spvk_raw_check_as_1_6(held, it.bytes, it.size),
+                        spvk_raw_check_with(held, it.bytes, it.size, SPVK_AS_1_6)));
+        CHECK(raw_texts(spvk_raw_explain, spvk_raw_explain_with, 0, held, it) == 0);
+        CHECK(raw_texts(spvk_raw_explain_as_1_6, spvk_raw_explain_with, SPVK_AS_1_6, held, it) == 0);
+        CHECK(raw_texts(spvk_raw_explain_json, spvk_raw_explain_json_with, 0, held, it) == 0);
+        CHECK(raw_texts(spvk_raw_explain_json_as_1_6, spvk_raw_explain_json_with, SPVK_AS_1_6, held, it) == 0);
+    }
+    free(older.bytes);
+    return 0;
+}
+
 // What the flags of a call ask for.
 static int flags(const spvk_grammar *grammar, file module, file text) {
     const struct { uint8_t major, minor; } none[] = {{1, 7}, {2, 0}, {0, 6}};
     spvk_verdict verdict = UNTOUCHED;
     spvk_buffer buffer = unread();
-    CHECK(spvk_check_with(grammar, module.bytes, module.size, 2, &verdict) == SPVK_NO_FLAG);
-    CHECK(spvk_explain_with(grammar, module.bytes, module.size, 2, &verdict, &buffer) == SPVK_NO_FLAG);
+    CHECK(spvk_check_with(grammar, module.bytes, module.size, 4, &verdict) == SPVK_NO_FLAG);
+    CHECK(spvk_check_with(grammar, module.bytes, module.size, 7, &verdict) == SPVK_NO_FLAG);
+    CHECK(spvk_explain_with(grammar, module.bytes, module.size, 4, &verdict, &buffer) == SPVK_NO_FLAG);
     CHECK(is_empty(buffer));
     buffer = unread();
-    CHECK(spvk_explain_json_with(grammar, module.bytes, module.size, 2, &verdict, &buffer) == SPVK_NO_FLAG);
+    CHECK(spvk_explain_json_with(grammar, module.bytes, module.size, 4, &verdict, &buffer) == SPVK_NO_FLAG);
+    CHECK(is_empty(buffer));
+    buffer = unread();
+    CHECK(spvk_show_with(grammar, module.bytes, module.size, SPVK_EXTENDED, &verdict, &buffer) == SPVK_NO_FLAG);
     CHECK(is_empty(buffer));
     buffer = unread();
     CHECK(spvk_show_with(grammar, module.bytes, module.size, SPVK_AS_1_6 | 4, &verdict, &buffer) == SPVK_NO_FLAG);
@@ -415,7 +536,8 @@ int main(int count, char **words) {
     failed = checks(&grammar, module) || longest(&grammar) || explanations(&grammar, module, lines);
     failed = failed || objects(&grammar, module);
     failed = failed || texts(&grammar, module, shown) || modules(&grammar, module, shown) || rules();
-    failed = failed || flags(&grammar, module, shown) || built_in(module, shown) || statuses();
+    failed = failed || flags(&grammar, module, shown) || extended(&grammar) || raw_calls(&grammar, module);
+    failed = failed || built_in(module, shown) || statuses();
     CHECK(!failed);
     CHECK(errno == 0);
     spvk_grammar_delete(&grammar);

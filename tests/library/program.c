@@ -1,7 +1,7 @@
 // Answers as the program `spv` does, by the library: the commands check, explain, show and asm, with their words in
-// the order that tests/cases has them, explain with --json (without the member `file`), and of `rules` the first line of
-// each code. What the library has no call for
-// (faults of the command line, files that do not open) is not told apart: exit status 3.
+// the order that tests/cases has them, check and explain with --extended, explain with --json (without the member
+// `file`), and of `rules` the first line of each code. What the library has no call for (faults of the command line,
+// files that do not open) is not told apart: exit status 3.
 #include "spvk.h"
 
 #include "files.h"
@@ -11,11 +11,12 @@
 typedef struct task {
     const char *command, *grammar, *file, *out;
     bool big, json;
+    uint32_t flags;
 } task;
 
 // The words of the command line.
 static task task_of(int count, char **words) {
-    task it = {count > 1 ? words[1] : "", NULL, NULL, NULL, false, false};
+    task it = {count > 1 ? words[1] : "", NULL, NULL, NULL, false, false, 0};
     for (int at = 2; at < count; at++) {
         if (strcmp(words[at], "--grammar") == 0 && at + 1 < count) {
             it.grammar = words[++at];
@@ -25,6 +26,8 @@ static task task_of(int count, char **words) {
             it.big = true;
         } else if (strcmp(words[at], "--json") == 0) {
             it.json = true;
+        } else if (strcmp(words[at], "--extended") == 0) {
+            it.flags |= SPVK_EXTENDED;
         } else {
             it.file = words[at];
         }
@@ -55,16 +58,17 @@ static int verdict_of(spvk_verdict verdict) {
     return 1;
 }
 
-static int check(const spvk_grammar *grammar, file in) {
+static int check(const spvk_grammar *grammar, file in, uint32_t flags) {
     spvk_verdict verdict = {0, 0, 0};
-    spvk_status status = spvk_check(grammar, in.bytes, in.size, &verdict);
+    spvk_status status = spvk_check_with(grammar, in.bytes, in.size, flags, &verdict);
     return status == SPVK_OK ? verdict_of(verdict) : error_of(status);
 }
 
-static int explain(const spvk_grammar *grammar, file in, bool json) {
+static int explain(const spvk_grammar *grammar, file in, const task *it) {
     spvk_verdict verdict = {0, 0, 0};
     spvk_buffer lines;
-    spvk_status status = (json ? spvk_explain_json : spvk_explain)(grammar, in.bytes, in.size, &verdict, &lines);
+    spvk_status status = (it->json ? spvk_explain_json_with : spvk_explain_with)(grammar, in.bytes, in.size, it->flags,
+                                                                                &verdict, &lines);
     if (status != SPVK_OK) return error_of(status);
     fwrite(lines.data, 1, lines.size, stdout);
     spvk_buffer_delete(&lines);
@@ -117,9 +121,9 @@ int main(int count, char **words) {
         if (it.out != NULL) fclose(fopen(it.out, "wb"));
         status = error_of(made);
     } else if (strcmp(it.command, "check") == 0) {
-        status = check(&grammar, in);
+        status = check(&grammar, in, it.flags);
     } else if (strcmp(it.command, "explain") == 0) {
-        status = explain(&grammar, in, it.json);
+        status = explain(&grammar, in, &it);
     } else if (strcmp(it.command, "show") == 0) {
         status = show(&grammar, in);
     } else if (strcmp(it.command, "asm") == 0) {

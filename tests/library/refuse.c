@@ -116,6 +116,47 @@ static answer by_check_as_1_6(void) {
     return it;
 }
 
+// A module with an extended instruction, and the same where it breaks Y9.
+#define CALLING(call)                                                                                \
+    "; SPIR-V\n; Version: 1.6\n; Generator: 0\n; Bound: 12\n; Schema: 0\n"                           \
+    "OpCapability Addresses\nOpCapability Kernel\n%9 = OpExtInstImport \"OpenCL.std\"\n"             \
+    "OpMemoryModel Physical64 OpenCL\nOpEntryPoint Kernel %3 \"k\"\n%1 = OpTypeVoid\n"             \
+    "%5 = OpTypeFloat 32\n%6 = OpConstant %5 0x3f800000\n%2 = OpTypeFunction %1\n"                  \
+    "%3 = OpFunction %1 None %2\n%4 = OpLabel\n%7 = OpExtInst %5 %9 61 " call "\nOpReturn\n"        \
+    "OpFunctionEnd\n"
+
+static const char *const CALLING_TEXTS[2] = {CALLING("%6"), CALLING("%6 %6")};
+static spvk_buffer calling[2];
+
+static answer by_check_extended_of(spvk_buffer it) {
+    spvk_verdict verdict = {7, 8, 9};
+    answer got = {spvk_check_with(&grammar, it.data, it.size, SPVK_EXTENDED | SPVK_AS_1_6, &verdict), 0, 0, 0};
+    got.code = verdict.code;
+    got.place = verdict.inst;
+    return got;
+}
+
+static answer by_check_extended(void) { return by_check_extended_of(calling[0]); }
+
+static answer by_check_extended_of_fault(void) { return by_check_extended_of(calling[1]); }
+
+// What `spvk_explain_with` or `spvk_explain_json_with` answers of a module.
+typedef spvk_status telling_with(const spvk_grammar *, const uint8_t *, size_t, uint32_t, spvk_verdict *,
+                                 spvk_buffer *);
+
+static answer by_extended_text_of(telling_with *call, spvk_buffer module) {
+    spvk_verdict verdict = {7, 8, 9};
+    spvk_buffer buffer = SPVK_BUFFER_NONE;
+    spvk_status status = call(&grammar, module.data, module.size, SPVK_EXTENDED, &verdict, &buffer);
+    answer it = {status, verdict.code, verdict.inst, buffer.size};
+    spvk_buffer_delete(&buffer);
+    return it;
+}
+
+static answer by_explain_extended(void) { return by_extended_text_of(spvk_explain_with, calling[1]); }
+
+static answer by_explain_json_extended(void) { return by_extended_text_of(spvk_explain_json_with, calling[1]); }
+
 // What `spvk_explain`, `spvk_explain_json` or `spvk_show` answers of the first bytes of the module.
 typedef spvk_status telling(const spvk_grammar *, const uint8_t *, size_t, spvk_verdict *, spvk_buffer *);
 
@@ -199,6 +240,10 @@ static const call CALLS[] = {
     {"explain as 1.6", by_explain_as_1_6},
     {"explain_json as 1.6", by_explain_json_as_1_6},
     {"show as 1.6", by_show_as_1_6},
+    {"check extended", by_check_extended},
+    {"check extended of a fault", by_check_extended_of_fault},
+    {"explain extended of a fault", by_explain_extended},
+    {"explain_json extended of a fault", by_explain_json_extended},
     {"assemble", by_assemble},
     {"assemble of a fault", by_assemble_of_fault},
 };
@@ -252,6 +297,12 @@ int main(int count, char **words) {
     if (spvk_show(&grammar, module.bytes, module.size, &verdict, &buffer) != SPVK_OK) return 2;
     shown.size = buffer.size;
     shown.bytes = (uint8_t *)buffer.data;
+    for (int it = 0; it < 2; it++) {
+        const uint8_t *bytes = (const uint8_t *)CALLING_TEXTS[it];
+        spvk_fault fault = {0, 0};
+        if (spvk_assemble(&grammar, bytes, strlen(CALLING_TEXTS[it]), false, &fault, &calling[it]) != SPVK_OK) return 2;
+    }
+    if (by_check_extended().code != SPVK_VALID || by_check_extended_of_fault().code != SPVK_Y9) return 2;
     for (int later = 0; later < 2; later++) {
         all_later = later;
         for (size_t at = 0; at < sizeof CALLS / sizeof *CALLS; at++) {
@@ -259,6 +310,7 @@ int main(int count, char **words) {
         }
     }
     spvk_buffer_delete(&buffer);
+    for (int it = 0; it < 2; it++) spvk_buffer_delete(&calling[it]);
     spvk_grammar_delete(&grammar);
     if (blocks != before) printf("%ld blocks are lost\n", blocks - before);
     return blocks != before;

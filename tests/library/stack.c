@@ -30,7 +30,8 @@ static const char *read_all(const spvk_grammar *grammar, uint32_t flags) {
             return "spvk_explain_json_with";
         spvk_buffer_delete(&text);
     }
-    if (spvk_show_with(grammar, module.bytes, module.size, flags, &verdict, &text) != SPVK_OK) return "spvk_show_with";
+    if (spvk_show_with(grammar, module.bytes, module.size, flags & SPVK_AS_1_6, &verdict, &text) != SPVK_OK)
+        return "spvk_show_with";
     if (text.size > 0 && spvk_assemble(grammar, text.data, text.size, flags == 0, &fault, &bytes) != SPVK_OK)
         return "spvk_assemble";
     spvk_buffer_delete(&text);
@@ -53,7 +54,7 @@ static void *call_all(void *unused) {
                                       : spvk_grammar_new(grammar_text.bytes, grammar_text.size, &grammar);
         if (status != SPVK_OK) return built_in ? "spvk_grammar_default" : "spvk_grammar_new";
         wrong = read_all(&grammar, 0);
-        if (wrong == NULL) wrong = read_all(&grammar, SPVK_AS_1_6);
+        if (wrong == NULL) wrong = read_all(&grammar, SPVK_AS_1_6 | SPVK_EXTENDED);
         spvk_grammar_delete(&grammar);
     }
     if (spvk_rule_name(SPVK_L2) == NULL || spvk_rule_sentence(SPVK_L2) == NULL) return unused;

@@ -9,6 +9,7 @@ PATH                 a module, or a folder, of which all files whose name ends i
 --batch N            how many modules go to one process of spv (500)
 --spv PROGRAM        the program (spv), which each worker must find
 --as-1.6             take modules of version 1.0 to 1.5 as ones of 1.6
+--extended           look at extended instructions whole
 
 Each batch is judged by one `spv check --json`, so the grammar is made once a batch. A worker that dies costs nothing
 but time: its batches are judged anew by another one. A file that cannot be read has its object, with `error`. The
@@ -93,11 +94,12 @@ def main() -> int:
     parser.add_argument("--batch", type=int, default=500)
     parser.add_argument("--spv", default="spv")
     parser.add_argument("--as-1.6", dest="as_1_6", action="store_true")
+    parser.add_argument("--extended", action="store_true")
     parser.add_argument("--list")
     parser.add_argument("paths", nargs="*", metavar="PATH")
     words = parser.parse_args()
     names = list(modules_of([*words.paths, *(named_in(words.list) if words.list else [])]))
-    flags = ["--as-1.6"] if words.as_1_6 else []
+    flags = [*["--as-1.6"] * words.as_1_6, *["--extended"] * words.extended]
     if words.scheduler:
         with distributed.Client(words.scheduler) as client:
             return check(client, words.spv, flags, names, words.batch)

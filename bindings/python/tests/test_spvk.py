@@ -28,15 +28,19 @@ def verdict_answer(verdict, text):
     return (0 if verdict.is_valid else 1, text.encode(), b"", b"")
 
 
-def by_check(grammar, module):
+def by_check(**how):
     """What `spv check` gives."""
-    verdict = grammar.check(module)
-    return verdict_answer(verdict, f"{verdict}\n")
+
+    def answer(grammar, module):
+        verdict = grammar.check(module, **how)
+        return verdict_answer(verdict, f"{verdict}\n")
+
+    return answer
 
 
-def by_explain(grammar, module):
+def by_explain(**how):
     """What `spv explain` gives."""
-    return verdict_answer(*grammar.explain(module))
+    return lambda grammar, module: verdict_answer(*grammar.explain(module, **how))
 
 
 def by_show(grammar, module):
@@ -62,8 +66,10 @@ def by_assemble(big):
 
 
 CALLS = {
-    "check --grammar G F": by_check,
-    "explain --grammar G F": by_explain,
+    "check --grammar G F": by_check(),
+    "check --extended --grammar G F": by_check(extended=True),
+    "explain --grammar G F": by_explain(),
+    "explain --extended --grammar G F": by_explain(extended=True),
     "show --grammar G F": by_show,
     "asm --grammar G --out O F": by_assemble(big=False),
     "asm --grammar G --out O --big F": by_assemble(big=True),
@@ -196,6 +202,33 @@ class Calls(unittest.TestCase):
                 other[place] = number
                 self.assertEqual(str(self.grammar.check(other, as_1_6=True)), "fault W5")
 
+    def test_extended_instructions(self):
+        module = bytearray(read("modules/inside-of-an-extended-instruction.spv"))
+        self.assertTrue(self.grammar.check(module))
+        told = self.grammar.check(module, extended=True)
+        self.assertEqual(str(told), "fault D1 inst 13 word 45")
+        self.assertTrue(self.grammar.explain(module, extended=True).text.startswith(f"{told}\n"))
+        self.assertTrue(self.grammar.evidence(module))
+        found = self.grammar.evidence(module, extended=True)
+        self.assertEqual((found.verdict, found.operand), (told, spvk.Operand(4, id=0)))
+        self.assertEqual(found.members, json.loads(self.grammar.explain_json(module, extended=True)))
+        module[5] = 2
+        self.assertEqual(str(self.grammar.check(module, extended=True)), "fault W5")
+        self.assertTrue(self.grammar.check(module, as_1_6=True))
+        self.assertEqual(self.grammar.check(module, as_1_6=True, extended=True), told)
+
+    def test_calls_of_what_a_set_does_not_have(self):
+        text = (TOP / "tests/modules/inside-of-an-extended-instruction.spvasm").read_text(encoding="utf-8")
+        call = text.replace('"x"', '"OpenCL.std"').replace("%5 7 %0 %99 %2 %1", "%5 61 %11 %11")
+        module = self.grammar.assemble(call)
+        self.assertTrue(self.grammar.check(module))
+        told = self.grammar.check(module, extended=True)
+        self.assertEqual((told.number, str(told)), (509, "fault Y9 inst 13 word 47"))
+        found = self.grammar.evidence(module, extended=True)
+        self.assertEqual((found.verdict, found.number, found.operands), (told, 61, 2))
+        self.assertEqual((found.least, found.most), (1, 1))
+        self.assertTrue(self.grammar.check(self.grammar.assemble(call.replace("%11 %11", "%11")), extended=True))
+
     def test_texts_and_back(self):
         text = self.grammar.show(self.kernel)
         self.assertTrue(text.startswith("; SPIR-V\n"))
@@ -241,7 +274,7 @@ class Calls(unittest.TestCase):
 
     def test_rules(self):
         names = [name for name in map(spvk.rule_name, range(1300)) if name]
-        self.assertEqual((len(names), len(set(names))), (49, 49))
+        self.assertEqual((len(names), len(set(names))), (50, 50))
         self.assertEqual((spvk.rule_name(107), spvk.rule_name(-1), spvk.rule_name(1 << 40)), ("I7", None, None))
         self.assertEqual(spvk.version(), spvk.__version__)
 

@@ -7,6 +7,8 @@ pub const OK: u32 = 0;
 pub const VALID: u32 = 0;
 pub const ASSEMBLED: u32 = 0;
 pub const NOWHERE: u32 = u32::MAX;
+pub const AS_1_6: u32 = 1;
+pub const EXTENDED: u32 = 2;
 
 #[repr(C)]
 pub struct Grammar {
@@ -75,41 +77,35 @@ impl Image {
     };
 }
 
-/// `spvk_raw_check`, and the same as 1.6.
-pub type Check = unsafe extern "C" fn(*const c_void, *const u8, usize) -> Answer;
+/// `spvk_raw_explain_with` and `spvk_raw_explain_json_with`.
+pub type Explain = unsafe extern "C" fn(*const c_void, *const u8, usize, u32, *mut Text) -> u32;
 
-/// `spvk_raw_explain`, `spvk_raw_explain_json` and `spvk_raw_show`, and the same as 1.6.
-pub type MakeText = unsafe extern "C" fn(*const c_void, *const u8, usize, *mut Text) -> u32;
+/// `spvk_raw_show`, and the same as 1.6.
+pub type Show = unsafe extern "C" fn(*const c_void, *const u8, usize, *mut Text) -> u32;
 
 extern "C" {
     pub fn spvk_raw_grammar_new(text: *const u8, len: usize, grammar: *mut Grammar) -> u32;
     pub fn spvk_raw_grammar_default(grammar: *mut Grammar) -> u32;
     pub fn spvk_raw_grammar_delete(grammar: *mut Grammar);
     pub fn spvk_raw_grammar_explain(text: *const u8, len: usize, buffer: *mut Buffer) -> u32;
-    pub fn spvk_raw_check(held: *const c_void, bytes: *const u8, len: usize) -> Answer;
-    pub fn spvk_raw_check_as_1_6(held: *const c_void, bytes: *const u8, len: usize) -> Answer;
-    pub fn spvk_raw_explain(
+    pub fn spvk_raw_check_with(
         held: *const c_void,
         bytes: *const u8,
         len: usize,
+        flags: u32,
+    ) -> Answer;
+    pub fn spvk_raw_explain_with(
+        held: *const c_void,
+        bytes: *const u8,
+        len: usize,
+        flags: u32,
         text: *mut Text,
     ) -> u32;
-    pub fn spvk_raw_explain_as_1_6(
+    pub fn spvk_raw_explain_json_with(
         held: *const c_void,
         bytes: *const u8,
         len: usize,
-        text: *mut Text,
-    ) -> u32;
-    pub fn spvk_raw_explain_json(
-        held: *const c_void,
-        bytes: *const u8,
-        len: usize,
-        text: *mut Text,
-    ) -> u32;
-    pub fn spvk_raw_explain_json_as_1_6(
-        held: *const c_void,
-        bytes: *const u8,
-        len: usize,
+        flags: u32,
         text: *mut Text,
     ) -> u32;
     pub fn spvk_raw_show(held: *const c_void, bytes: *const u8, len: usize, text: *mut Text)

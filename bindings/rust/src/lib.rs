@@ -52,6 +52,52 @@ pub enum Version {
     As1_6,
 }
 
+/// How a module is judged: as which version its bytes are read, and how far it is looked at.
+///
+/// `Version::As1_6.into()` or `Version::AsTold.extended()` makes one.
+#[derive(Clone, Copy, Debug, Default, PartialEq, Eq, Hash)]
+#[non_exhaustive]
+pub struct Judging {
+    /// As which version the bytes are read.
+    pub version: Version,
+    /// Whether extended instructions are looked at whole, also behind their number, as loaders that follow the ids there
+    /// need it. Of the set `OpenCL.std` an id there is used as a value (D1, D3, D4, D5, Y1, A1), and Y9 is broken where
+    /// the set has no instruction of that number, or has one that takes fewer or more operands; of any other set each id
+    /// is below the bound and defined (D1, D3).
+    pub extended: bool,
+}
+
+impl Version {
+    /// Extended instructions are looked at whole, too.
+    pub fn extended(self) -> Judging {
+        Judging {
+            version: self,
+            extended: true,
+        }
+    }
+}
+
+impl From<Version> for Judging {
+    /// As far as the profile asks: of an extended instruction up to its number.
+    fn from(version: Version) -> Judging {
+        Judging {
+            version,
+            extended: false,
+        }
+    }
+}
+
+impl Judging {
+    /// The flags of the library that ask for it.
+    fn flags(self) -> u32 {
+        let version = match self.version {
+            Version::AsTold => 0,
+            Version::As1_6 => ffi::AS_1_6,
+        };
+        version | if self.extended { ffi::EXTENDED } else { 0 }
+    }
+}
+
 /// In which order the bytes of a word stand.
 #[derive(Clone, Copy, Debug, PartialEq, Eq)]
 pub enum ByteOrder {
@@ -125,17 +171,18 @@ impl Grammar {
         self.check_with(module, Version::AsTold)
     }
 
-    /// The same of the bytes read as a version.
+    /// The same by a version, as `Version::As1_6`, or by `Judging`, as `Version::AsTold.extended()`.
     ///
     /// # Errors
     /// As of `check`.
-    pub fn check_with(&self, module: &[u8], version: Version) -> Result<Verdict, OutOfMemory> {
-        let call: ffi::Check = match version {
-            Version::AsTold => ffi::spvk_raw_check,
-            Version::As1_6 => ffi::spvk_raw_check_as_1_6,
-        };
+    pub fn check_with(
+        &self,
+        module: &[u8],
+        how: impl Into<Judging>,
+    ) -> Result<Verdict, OutOfMemory> {
+        let (start, len, flags) = (module.as_ptr(), module.len(), how.into().flags());
         // SAFETY: the grammar is not deleted while it is lent, and the module is lent for the call.
-        let answer = unsafe { call(self.0.held, module.as_ptr(), module.len()) };
+        let answer = unsafe { ffi::spvk_raw_check_with(self.0.held, start, len, flags) };
         match answer.status {
             ffi::OK => Ok(Verdict::of(answer.verdict)),
             _ => Err(OutOfMemory),
@@ -150,21 +197,16 @@ impl Grammar {
         self.explain_with(module, Version::AsTold)
     }
 
-    /// The same of the bytes read as a version.
+    /// The same by a version, or by `Judging`. The lines speak of the module as it was read.
     ///
     /// # Errors
     /// As of `explain`.
     pub fn explain_with(
         &self,
         module: &[u8],
-        version: Version,
+        how: impl Into<Judging>,
     ) -> Result<Explanation, OutOfMemory> {
-        let call: ffi::MakeText = match version {
-            Version::AsTold => ffi::spvk_raw_explain,
-            Version::As1_6 => ffi::spvk_raw_explain_as_1_6,
-        };
-        let (verdict, text) = self.text_by(call, module)?;
-        Ok(Explanation { verdict, text })
+        self.explained_by(ffi::spvk_raw_explain_with, module, how.into())
     }
 
     /// The verdict on the bytes of a module, with the JSON object that explains it, as `spv explain --json` writes it, but
@@ -176,20 +218,29 @@ impl Grammar {
         self.explain_json_with(module, Version::AsTold)
     }
 
-    /// The same of the bytes read as a version.
+    /// The same by a version, or by `Judging`.
     ///
     /// # Errors
     /// As of `explain_json`.
     pub fn explain_json_with(
         &self,
         module: &[u8],
-        version: Version,
+        how: impl Into<Judging>,
     ) -> Result<Explanation, OutOfMemory> {
-        let call: ffi::MakeText = match version {
-            Version::AsTold => ffi::spvk_raw_explain_json,
-            Version::As1_6 => ffi::spvk_raw_explain_json_as_1_6,
-        };
-        let (verdict, text) = self.text_by(call, module)?;
+        self.explained_by(ffi::spvk_raw_explain_json_with, module, how.into())
+    }
+
+    /// The explanation that one of these calls gives.
+    fn explained_by(
+        &self,
+        call: ffi::Explain,
+        module: &[u8],
+        how: Judging,
+    ) -> Result<Explanation, OutOfMemory> {
+        let (start, len, flags) = (module.as_ptr(), module.len(), how.flags());
+        // SAFETY: as in `check_with`, and the text holds nothing.
+        let (verdict, text) =
+            text_by(|made| unsafe { call(self.0.held, start, len, flags, made) })?;
         Ok(Explanation { verdict, text })
     }
 
@@ -206,26 +257,16 @@ impl Grammar {
     /// # Errors
     /// As of `show`.
     pub fn show_with(&self, module: &[u8], version: Version) -> Result<Text, ShowError> {
-        let call: ffi::MakeText = match version {
+        let call: ffi::Show = match version {
             Version::AsTold => ffi::spvk_raw_show,
             Version::As1_6 => ffi::spvk_raw_show_as_1_6,
         };
-        match self.text_by(call, module) {
+        let (start, len) = (module.as_ptr(), module.len());
+        // SAFETY: as in `explained_by`.
+        match text_by(|made| unsafe { call(self.0.held, start, len, made) }) {
             Ok((Verdict::Valid, text)) => Ok(text),
             Ok((Verdict::Fault(fault), _)) => Err(ShowError::Fault(fault)),
             Err(OutOfMemory) => Err(ShowError::OutOfMemory),
-        }
-    }
-
-    /// The verdict and the text that one of these calls gives.
-    fn text_by(&self, call: ffi::MakeText, module: &[u8]) -> Result<(Verdict, Text), OutOfMemory> {
-        let mut made = ffi::Text::NONE;
-        // SAFETY: as in `check_with`, and the text holds nothing.
-        let status = unsafe { call(self.0.held, module.as_ptr(), module.len(), &mut made) };
-        let text = Text::of(Bytes(made.buffer));
-        match status {
-            ffi::OK => Ok((Verdict::of(made.verdict), text)),
-            _ => Err(OutOfMemory),
         }
     }
 
@@ -239,7 +280,7 @@ impl Grammar {
             ByteOrder::Little => ffi::spvk_raw_assemble_little,
             ByteOrder::Big => ffi::spvk_raw_assemble_big,
         };
-        // SAFETY: as in `text_by`.
+        // SAFETY: as in `check_with`, and the image holds nothing.
         let status = unsafe { call(self.0.held, text.as_ptr(), text.len(), &mut made) };
         let bytes = Bytes(made.buffer);
         let code = match (status, made.code) {
@@ -253,6 +294,17 @@ impl Grammar {
         };
         let line = made.line;
         Err(AssembleError::Fault { code, line })
+    }
+}
+
+/// The verdict and the text that a call makes in a text that holds nothing.
+fn text_by(call: impl FnOnce(&mut ffi::Text) -> u32) -> Result<(Verdict, Text), OutOfMemory> {
+    let mut made = ffi::Text::NONE;
+    let status = call(&mut made);
+    let text = Text::of(Bytes(made.buffer));
+    match status {
+        ffi::OK => Ok((Verdict::of(made.verdict), text)),
+        _ => Err(OutOfMemory),
     }
 }
 

@@ -1,8 +1,8 @@
 //! The calls of the crate, on the modules of tests/ at the top of the repository.
 
 use spvk::{
-    AssembleError, ByteOrder, Code, Fault, Grammar, GrammarError, Place, ShowError, TextCode,
-    Verdict, Version,
+    AssembleError, ByteOrder, Code, Fault, Grammar, GrammarError, Judging, Place, ShowError,
+    TextCode, Verdict, Version,
 };
 use std::error::Error;
 use std::path::PathBuf;
@@ -134,6 +134,52 @@ fn older_versions() {
 }
 
 #[test]
+fn extended_instructions() {
+    let grammar = grammar();
+    let mut module = file("modules/inside-of-an-extended-instruction.spv");
+    assert_eq!(grammar.check(&module), Ok(Verdict::Valid));
+    let how = Version::AsTold.extended();
+    let told = grammar.check_with(&module, how).unwrap();
+    assert_eq!(told.to_string(), "fault D1 inst 13 word 45");
+    let explained = grammar.explain_with(&module, how).unwrap();
+    assert_eq!(explained.verdict, told);
+    assert!(explained.text.starts_with("fault D1 inst 13 word 45\n"));
+    let object = grammar.explain_json_with(&module, how).unwrap();
+    let begin = "{\"verdict\":\"fault\",\"code\":\"D1\",\"inst\":13,\"word\":45,";
+    assert_eq!(object.verdict, told);
+    assert!(object.text.starts_with(begin));
+    module[5] = 2;
+    let older = grammar.check_with(&module, how).unwrap();
+    assert_eq!(older.to_string(), "fault W5");
+    let both = Version::As1_6.extended();
+    assert_eq!(grammar.check_with(&module, both), Ok(told));
+    assert_eq!(
+        grammar.check_with(&module, Version::As1_6),
+        Ok(Verdict::Valid)
+    );
+    assert_eq!(Judging::default(), Version::AsTold.into());
+    assert!(both.extended && both.version == Version::As1_6);
+}
+
+#[test]
+fn calls_of_what_a_set_does_not_have() {
+    let grammar = grammar();
+    let text = "; SPIR-V\n; Version: 1.6\n; Generator: 0\n; Bound: 12\n; Schema: 0\n\
+        OpCapability Addresses\nOpCapability Kernel\n%9 = OpExtInstImport \"OpenCL.std\"\n\
+        OpMemoryModel Physical64 OpenCL\nOpEntryPoint Kernel %3 \"k\"\n%1 = OpTypeVoid\n\
+        %5 = OpTypeFloat 32\n%6 = OpConstant %5 0x3f800000\n%2 = OpTypeFunction %1\n\
+        %3 = OpFunction %1 None %2\n%4 = OpLabel\n%7 = OpExtInst %5 %9 61 %6 %6\nOpReturn\n\
+        OpFunctionEnd\n";
+    let module = grammar.assemble(text, ByteOrder::Little).unwrap();
+    assert_eq!(grammar.check(&module), Ok(Verdict::Valid));
+    let told = grammar
+        .check_with(&module, Version::AsTold.extended())
+        .unwrap();
+    assert_eq!(told.to_string(), "fault Y9 inst 11 word 40");
+    assert_eq!(told.fault().unwrap().code, Code::new(509).unwrap());
+}
+
+#[test]
 fn refused_grammars() {
     assert_eq!(Grammar::new(b"").unwrap_err(), GrammarError::J1);
     let error: Box<dyn Error> = Box::new(Grammar::new(b"{}").unwrap_err());
@@ -158,7 +204,7 @@ fn where_grammars_are_refused() {
 #[test]
 fn rules() {
     let codes: Vec<Code> = (0..1300).filter_map(Code::new).collect();
-    assert_eq!(codes.len(), 49);
+    assert_eq!(codes.len(), 50);
     assert_eq!(Code::new(107).unwrap().to_string(), "I7");
     assert_eq!(Code::new(0), None);
     assert_eq!(spvk::version(), env!("CARGO_PKG_VERSION"));

@@ -1,7 +1,7 @@
 //! The cases of the repository's tests, as crates/spv_rows has them (tests/README.md, "The stored rows"): of each run
 //! of check, explain, show and asm the library answers what the program answers.
 
-use spvk::{AssembleError, ByteOrder, Grammar, GrammarError, ShowError};
+use spvk::{AssembleError, ByteOrder, Grammar, GrammarError, Judging, ShowError, Version};
 use std::fs;
 use std::path::PathBuf;
 
@@ -52,13 +52,13 @@ fn of_hex(text: &str) -> Vec<u8> {
     (0..text.len() / 2).map(|at| digits(2 * at)).collect()
 }
 
-fn check(grammar: &Grammar, input: &[u8]) -> Answer {
-    let verdict = grammar.check(input).expect("memory");
+fn check(grammar: &Grammar, input: &[u8], how: Judging) -> Answer {
+    let verdict = grammar.check_with(input, how).expect("memory");
     Answer::told(!verdict.is_valid() as u8, &verdict.to_string())
 }
 
-fn explain(grammar: &Grammar, input: &[u8]) -> Answer {
-    let it = grammar.explain(input).expect("memory");
+fn explain(grammar: &Grammar, input: &[u8], how: Judging) -> Answer {
+    let it = grammar.explain_with(input, how).expect("memory");
     let (status, out) = (!it.verdict.is_valid() as u8, it.text.as_bytes().to_vec());
     Answer {
         status,
@@ -103,8 +103,18 @@ fn answer(words: &[&str], grammar: &Result<Grammar, GrammarError>, input: &[u8])
         })
     };
     match words {
-        ["check", "--grammar", "G", "F"] => run(check),
-        ["explain", "--grammar", "G", "F"] => run(explain),
+        ["check", "--grammar", "G", "F"] => {
+            run(|grammar, input| check(grammar, input, Version::AsTold.into()))
+        }
+        ["check", "--extended", "--grammar", "G", "F"] => {
+            run(|grammar, input| check(grammar, input, Version::AsTold.extended()))
+        }
+        ["explain", "--grammar", "G", "F"] => {
+            run(|grammar, input| explain(grammar, input, Version::AsTold.into()))
+        }
+        ["explain", "--extended", "--grammar", "G", "F"] => {
+            run(|grammar, input| explain(grammar, input, Version::AsTold.extended()))
+        }
         ["show", "--grammar", "G", "F"] => run(show),
         ["asm", "--grammar", "G", "--out", "O", "F"] => {
             run(|grammar, input| assemble(grammar, input, ByteOrder::Little))

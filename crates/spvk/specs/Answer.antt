@@ -1,18 +1,21 @@
 -- What a call answers to C. (Own.)
-use Rattle.std.specs.Prelude.{◌≡◌, ℕ, List}
+use Rattle.std.specs.Prelude.{◌≡◌, ℕ, List, Option, Some, None}
 use Rattle.spv_table.specs.Table.{Table}
+use Rattle.spv_extended.specs.declared.reach.Reach.{Reach}
 use Rattle.spv_verdict.specs.declared.verdict_line.Judgment.{Judgment}
 use Rattle.spv_verdict.specs.Verdict.{IsVerdict}
 use Rattle.spv_verdict.specs.Text.{line_of}
+use Rattle.spvk.specs.Flags.{asked_by, taken}
+use Rattle.spvk.specs.declared.flags.Asked.{Asked}
 use Rattle.spvk.specs.declared.numbers.Answer.{Answer}
 use Rattle.spvk.specs.declared.numbers.Verdict.{Verdict}
 use Rattle.spvk.specs.Numbers.{nowhere, numbers_of}
 use denote.RawPtr.{Ptr, block_ptr, null_ptr}
 
 -- The numbers are those of the verdict whose line is the verdict line of the bytes.
-pub record Tells (G : Table) (bytes : List ℕ) (numbers : Verdict) : Type 0 where
+pub record Tells (G : Table) (reach : Reach) (bytes : List ℕ) (numbers : Verdict) : Type 0 where
   pub judgment : Judgment
-  pub line : IsVerdict G bytes (line_of judgment)
+  pub line : IsVerdict G reach bytes (line_of judgment)
   pub told : numbers ≡ numbers_of judgment
 
 -- a status and no verdict
@@ -20,12 +23,22 @@ abbrev pub status_alone : ℕ → Answer
 status_alone status = record { status = status; code = nowhere; inst = nowhere; word = nowhere }
 
 -- The answer of a check: status 0 and the verdict, or status 1, out of memory.
-pub data Answers (G : Table) (bytes : List ℕ) : Answer → Type 0 where
-  told : (v : Verdict) → Tells G bytes v
-      → Answers G bytes (record { status = 0; code = v.code; inst = v.inst; word = v.word })
-  unanswered : Answers G bytes (status_alone 1)
+pub data Answers (G : Table) (reach : Reach) (bytes : List ℕ) : Answer → Type 0 where
+  told : (v : Verdict) → Tells G reach bytes v
+      → Answers G reach bytes (record { status = 0; code = v.code; inst = v.inst; word = v.word })
+  unanswered : Answers G reach bytes (status_alone 1)
 
 -- The same by the table behind a pointer: status 2 where it is null.
-abbrev pub AnswersAt : Ptr → Table → List ℕ → Answer → Type 0
-AnswersAt null_ptr G bytes answer = answer ≡ status_alone 2
-AnswersAt (block_ptr b o) G bytes answer = Answers G bytes answer
+abbrev pub AnswersAt : Ptr → Table → Reach → List ℕ → Answer → Type 0
+AnswersAt null_ptr G reach bytes answer = answer ≡ status_alone 2
+AnswersAt (block_ptr b o) G reach bytes answer = Answers G reach bytes answer
+
+-- The answer by what flags ask for: status 5 where a bit is set that is no flag.
+abbrev pub AnswersAsked : Option Asked → Table → List ℕ → Answer → Type 0
+AnswersAsked None G bytes answer = answer ≡ status_alone 5
+AnswersAsked (Some a) G bytes answer = Answers G a.reach (taken a.newest bytes) answer
+
+-- The same by flags, and by the table behind a pointer: status 2 where it is null.
+abbrev pub AnswersWith : Ptr → Table → ℕ → List ℕ → Answer → Type 0
+AnswersWith null_ptr G flags bytes answer = answer ≡ status_alone 2
+AnswersWith (block_ptr b o) G flags bytes answer = AnswersAsked (asked_by flags) G bytes answer

@@ -3,6 +3,7 @@ pub mod Assemble
 pub mod Buffer
 pub mod Explain
 pub mod Faults
+pub mod Flags
 pub mod Grammar
 pub mod GrammarReason
 pub mod Held

@@ -4,16 +4,21 @@ ghost use Rattle.spv_table.specs.Table.{Table as TableView};
 ghost use base.Fml.{Lft, Share};
 ghost use types.Logic.{sem};
 ghost use Rattle.spvk.specs.Held.{shown};
-ghost use Rattle.spvk.specs.Explain.{Explains, ExplainsAt, IsExplaining};
+ghost use Rattle.spvk.specs.Explain.{Explains, ExplainsAsked, ExplainsAt, ExplainsWith, IsExplaining};
+ghost use Rattle.spvk.specs.Flags as spec;
+ghost use Rattle.spvk.specs.Flags.{taken};
+ghost use Rattle.spv_extended.specs.declared.reach.Reach.TheVariants.{Profile};
 ghost use Rattle.spv_verdict.specs.Text.{line_of};
 ghost use Rattle.spv_words.specs.Version.{as_1_6};
 
 use crate::buffer::Buffer;
+use crate::flags::{Asked, asked_by};
 use crate::numbers::numbers;
-use crate::status::{MEMORY, NO_GRAMMAR, OK};
+use crate::status::{MEMORY, NO_FLAG, NO_GRAMMAR, OK};
 use crate::text::Text;
 use crate::versions::copy_as_1_6;
 use spv_explain::{Detail, Explanation, explain_bytes};
+use spv_extended::Reach;
 use spv_table::{Memory, Table};
 use std::alloc::{AllocError, Global};
 use std::{mem, ptr};
@@ -27,10 +32,10 @@ fn buffer_of(alloc: Global, explanation: &Explanation) -> Result<Buffer, AllocEr
 }
 
 /// What explains the verdict on these bytes. The error is that memory ran out.
-fn explained_bytes(alloc: Global, table: &Table, bytes: &[u8]) -> Result<Text, Memory>
-    ensures { IfOk result (λ t. IsExplaining table.now bytes.now t) }
+fn explained_bytes(alloc: Global, table: &Table, reach: Reach, bytes: &[u8]) -> Result<Text, Memory>
+    ensures { IfOk result (λ t. IsExplaining table.now reach bytes.now t) }
 {
-    let explanation = explain_bytes(alloc, table, Detail::Short, bytes)?;
+    let explanation = explain_bytes(alloc, table, reach, Detail::Short, bytes)?;
     match buffer_of(alloc, &explanation) {
         Ok(buffer) => Ok(Text {
             verdict: numbers(explanation.judgment),
@@ -41,10 +46,10 @@ fn explained_bytes(alloc: Global, table: &Table, bytes: &[u8]) -> Result<Text, M
 }
 
 /// Explains the verdict on a module's bytes by a table.
-fn explain_by(alloc: Global, table: &Table, bytes: &[u8], text: &mut Text) -> u32
-    ensures { Explains table.now bytes.now text.old text.new result }
+fn explain_of(alloc: Global, table: &Table, reach: Reach, bytes: &[u8], text: &mut Text) -> u32
+    ensures { Explains table.now reach bytes.now text.old text.new result }
 {
-    match explained_bytes(alloc, table, bytes) {
+    match explained_bytes(alloc, table, reach, bytes) {
         Ok(made) => {
             mem::replace(text, made).let_go(alloc);
             OK
@@ -54,13 +59,54 @@ fn explain_by(alloc: Global, table: &Table, bytes: &[u8], text: &mut Text) -> u3
 }
 
 /// The same of the bytes with version 1.6 in place of another version.
-fn explain_as_1_6_by(alloc: Global, table: &Table, bytes: &[u8], text: &mut Text) -> u32
-    ensures { Explains table.now (as_1_6 bytes.now) text.old text.new result }
+fn explain_as_1_6_of(
+    alloc: Global,
+    table: &Table,
+    reach: Reach,
+    bytes: &[u8],
+    text: &mut Text,
+) -> u32
+    ensures { Explains table.now reach (as_1_6 bytes.now) text.old text.new result }
 {
     let Ok(copy) = copy_as_1_6(alloc, bytes) else {
         return MEMORY;
     };
-    explain_by(alloc, table, copy.as_slice(), text)
+    explain_of(alloc, table, reach, copy.as_slice(), text)
+}
+
+/// Explains the verdict without a flag.
+fn explain_by(alloc: Global, table: &Table, bytes: &[u8], text: &mut Text) -> u32
+    ensures { Explains table.now Profile bytes.now text.old text.new result }
+{
+    explain_of(alloc, table, Reach::Profile, bytes, text)
+}
+
+/// The same of the bytes with version 1.6 in place of another version.
+fn explain_as_1_6_by(alloc: Global, table: &Table, bytes: &[u8], text: &mut Text) -> u32
+    ensures { Explains table.now Profile (as_1_6 bytes.now) text.old text.new result }
+{
+    explain_as_1_6_of(alloc, table, Reach::Profile, bytes, text)
+}
+
+/// Explains the verdict as it is asked for.
+fn explain_asked(alloc: Global, table: &Table, asked: Asked, bytes: &[u8], text: &mut Text) -> u32
+    ensures { Explains table.now asked.reach (taken asked.newest bytes.now) text.old text.new result }
+{
+    if asked.newest {
+        explain_as_1_6_of(alloc, table, asked.reach, bytes, text)
+    } else {
+        explain_of(alloc, table, asked.reach, bytes, text)
+    }
+}
+
+/// Explains the verdict by flags.
+fn explain_with_by(alloc: Global, table: &Table, bytes: &[u8], flags: u32, text: &mut Text) -> u32
+    ensures { ExplainsAsked (spec.asked_by flags) table.now bytes.now text.old text.new result }
+{
+    match asked_by(flags) {
+        Some(asked) => explain_asked(alloc, table, asked, bytes, text),
+        None => NO_FLAG,
+    }
 }
 
 /// The verdict on a module's bytes with the lines that explain it, by the grammar behind a handle's pointer, which
@@ -74,7 +120,7 @@ pub unsafe extern "C" fn spvk_raw_explain(
 ) -> u32
     ghost lent: { Lft × Share × TableView }
     requires* { sem 𝓛 (shown grammar lent) }
-    ensures* { sem 𝓛 (shown grammar lent) ∗ ⌜ ExplainsAt grammar lent.2 bytes.now text.old text.new result ⌝ }
+    ensures* { sem 𝓛 (shown grammar lent) ∗ ⌜ ExplainsAt grammar lent.2 Profile bytes.now text.old text.new result ⌝ }
 {
     if grammar == ptr::null() {
         NO_GRAMMAR
@@ -93,12 +139,32 @@ pub unsafe extern "C" fn spvk_raw_explain_as_1_6(
 ) -> u32
     ghost lent: { Lft × Share × TableView }
     requires* { sem 𝓛 (shown grammar lent) }
-    ensures* { sem 𝓛 (shown grammar lent) ∗ ⌜ ExplainsAt grammar lent.2 (as_1_6 bytes.now) text.old text.new
+    ensures* { sem 𝓛 (shown grammar lent) ∗ ⌜ ExplainsAt grammar lent.2 Profile (as_1_6 bytes.now) text.old text.new
         result ⌝ }
 {
     if grammar == ptr::null() {
         NO_GRAMMAR
     } else {
         explain_as_1_6_by(alloc, &*(grammar as *const Table), bytes, text)
+    }
+}
+
+/// The same by flags: `SPVK_AS_1_6` (1), `SPVK_EXTENDED` (2), or both; 0 for none.
+#[unsafe(no_mangle)]
+pub unsafe extern "C" fn spvk_raw_explain_with(
+    alloc: Global,
+    grammar: *const u8,
+    bytes: &[u8],
+    flags: u32,
+    text: &mut Text,
+) -> u32
+    ghost lent: { Lft × Share × TableView }
+    requires* { sem 𝓛 (shown grammar lent) }
+    ensures* { sem 𝓛 (shown grammar lent) ∗ ⌜ ExplainsWith grammar lent.2 flags bytes.now text.old text.new result ⌝ }
+{
+    if grammar == ptr::null() {
+        NO_GRAMMAR
+    } else {
+        explain_with_by(alloc, &*(grammar as *const Table), bytes, flags, text)
     }
 }

@@ -4,7 +4,7 @@ ghost use Rattle.spvk.specs.GrammarReason.{ExplainsGrammar, IsExplained};
 
 use crate::buffer::Buffer;
 use crate::status::{MEMORY, OK};
-use spv_grammar::grammar_reason;
+use spv_builtin::grammar_reason;
 use spv_table::Memory;
 use std::alloc::Global;
 use std::mem;

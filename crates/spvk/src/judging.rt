@@ -6,6 +6,7 @@ ghost use Rattle.spv_verdict.specs.Verdict.{IsVerdict};
 ghost use Rattle.spv_verdict.specs.Text.{line_of};
 ghost use Rattle.spvk.specs.inner.Refusal.{refusal_of};
 
+use spv_extended::Reach;
 use spv_table::{Memory, Table};
 use spv_verdict::{Judgment, Verdict, check};
 use spv_words::{Image, WordError, image_of};
@@ -23,11 +24,11 @@ pub fn refusal(code: WordError) -> Result<Judgment, Memory>
 }
 
 /// The verdict on the words of an image. The error is that memory ran out.
-fn judged(alloc: Global, table: &Table, image: &Image) -> Result<Judgment, Memory>
+fn judged(alloc: Global, table: &Table, reach: Reach, image: &Image) -> Result<Judgment, Memory>
     ensures { (bytes : List ℕ) (order : Order) → IsModule order bytes image.now
-        → IfOk result (λ j. IsVerdict table.now bytes (line_of j)) }
+        → IfOk result (λ j. IsVerdict table.now reach bytes (line_of j)) }
 {
-    match check(alloc, table, image) {
+    match check(alloc, table, reach, image) {
         Ok(Verdict::Valid(_)) => Ok(Judgment::Valid),
         Ok(Verdict::Fault(fault)) => Ok(Judgment::Broken(fault)),
         Err(_) => Err(Memory),
@@ -35,11 +36,11 @@ fn judged(alloc: Global, table: &Table, image: &Image) -> Result<Judgment, Memor
 }
 
 /// The verdict on these bytes. The error is that memory ran out.
-pub fn judge(alloc: Global, table: &Table, bytes: &[u8]) -> Result<Judgment, Memory>
-    ensures { IfOk result (λ j. IsVerdict table.now bytes.now (line_of j)) }
+pub fn judge(alloc: Global, table: &Table, reach: Reach, bytes: &[u8]) -> Result<Judgment, Memory>
+    ensures { IfOk result (λ j. IsVerdict table.now reach bytes.now (line_of j)) }
 {
     match image_of(alloc, bytes) {
-        Ok((image, _)) => judged(alloc, table, &image),
+        Ok((image, _)) => judged(alloc, table, reach, &image),
         Err(code) => refusal(code),
     }
 }

@@ -1,6 +1,8 @@
 //! What follows from the definitions, and worked examples. Each function does nothing: its contract is what is proved.
-ghost use Rattle.std.specs.Prelude.{◌≡◌, ◌≢◌, ℕ, List, Option, None, Some, codes, false};
+ghost use Rattle.std.specs.Prelude.{◌≡◌, ◌≢◌, ℕ, List, Option, None, Some, codes, false, true};
 ghost use Rattle.spv_table.specs.Table.{Table as TableView};
+ghost use Rattle.spv_extended.specs.declared.reach.Reach.{Reach};
+ghost use Rattle.spv_extended.specs.declared.reach.Reach.TheVariants.{Extended, Profile};
 ghost use Rattle.spv_grammar.specs.Reason.{IsReason as IsReasonOf};
 ghost use Rattle.spv_grammar.specs.declared.error.GrammarError.TheVariants.{J4};
 ghost use Rattle.spv_lines.specs.declared.asm_error.AsmCode.TheVariants.{S2};
@@ -8,15 +10,16 @@ ghost use Rattle.spv_module.specs.declared.fault.Rule.TheVariants.{I7};
 ghost use Rattle.spv_verdict.specs.declared.verdict_line.Judgment.TheVariants.{Valid};
 ghost use Rattle.spv_words.specs.declared.words.Order.{Order};
 ghost use Rattle.spv_words.specs.declared.words.WordError.TheVariants.{W3};
-ghost use Rattle.spvk.specs.Answer.{Answers, AnswersAt, status_alone};
+ghost use Rattle.spvk.specs.Answer.{Answers, AnswersAsked, AnswersAt, AnswersWith, status_alone};
 ghost use Rattle.spvk.specs.Assemble.{AssemblesAt};
-ghost use Rattle.spvk.specs.Explain.{ExplainsAt};
+ghost use Rattle.spvk.specs.Explain.{ExplainsAsked, ExplainsAt, ExplainsWith};
 ghost use Rattle.spvk.specs.Faults.{text_code_number};
+ghost use Rattle.spvk.specs.Flags.{asked_by, taken};
 ghost use Rattle.spvk.specs.Grammar.{IsReason};
 ghost use Rattle.spvk.specs.GrammarReason.{ExplainsGrammar, IsExplained};
 ghost use Rattle.spvk.specs.Held.{boxed, lent};
 ghost use Rattle.spvk.specs.Numbers.{code_number, nowhere, numbers_of, rule_number};
-ghost use Rattle.spvk.specs.Object.{IsTelling, TellsObjectAt};
+ghost use Rattle.spvk.specs.Object.{IsTelling, TellsObjectAsked, TellsObjectAt, TellsObjectWith};
 ghost use Rattle.spvk.specs.Rules.{PutsIfAny};
 ghost use Rattle.spvk.specs.Show.{Shows, ShowsAt};
 ghost use Rattle.spvk.specs.Status.{status_of, status_text};
@@ -63,13 +66,28 @@ pub fn number_examples()
 
 /// What calls answer: out of memory by status 1, a null pointer by status 2.
 pub fn answer_examples()
-    ensures memory { (G : TableView) (bytes : List ℕ) → Answers G bytes (status_alone 1) }
-    ensures no_status_2 { (G : TableView) (bytes : List ℕ) → ¬ (Answers G bytes (status_alone 2)) }
-    ensures null { (G : TableView) (bytes : List ℕ) → AnswersAt null_ptr G bytes (status_alone 2) }
-    ensures null_is_told { (G : TableView) (bytes : List ℕ) → ¬ (AnswersAt null_ptr G bytes (status_alone 1)) }
+    ensures memory { (G : TableView) (r : Reach) (bytes : List ℕ) → Answers G r bytes (status_alone 1) }
+    ensures no_status_2 { (G : TableView) (r : Reach) (bytes : List ℕ) → ¬ (Answers G r bytes (status_alone 2)) }
+    ensures null { (G : TableView) (r : Reach) (bytes : List ℕ) → AnswersAt null_ptr G r bytes (status_alone 2) }
+    ensures null_is_told { (G : TableView) (r : Reach) (bytes : List ℕ)
+        → ¬ (AnswersAt null_ptr G r bytes (status_alone 1)) }
     // Out of memory is a reason for status 1, and nothing is one for status 0.
     ensures want { (text : Option (List ℕ)) → IsReason text 1 }
     ensures no_reason { (text : Option (List ℕ)) → ¬ (IsReason text 0) }
+{}
+
+/// What flags ask for.
+pub fn flag_examples()
+    ensures none { asked_by 0 ≡ Some (record { newest = false; reach = Profile }) }
+    ensures both { asked_by 3 ≡ Some (record { newest = true; reach = Extended }) }
+    ensures no_flag { asked_by 4 ≡ None }
+    ensures as_they_are { (bytes : List ℕ) → taken false bytes ≡ bytes }
+    ensures heeded { asked_by 2 ≢ asked_by 0 }
+    // A bit that is no flag is told, by status 5, and not taken for none.
+    ensures told { (G : TableView) (bytes : List ℕ) → AnswersAsked (asked_by 4) G bytes (status_alone 5) }
+    ensures not_taken { (G : TableView) (bytes : List ℕ) → ¬ (AnswersAsked (asked_by 2) G bytes (status_alone 5)) }
+    ensures null { (G : TableView) (bytes : List ℕ) → AnswersWith null_ptr G 4 bytes (status_alone 2) }
+    ensures null_first { (G : TableView) (bytes : List ℕ) → ¬ (AnswersWith null_ptr G 4 bytes (status_alone 5)) }
 {}
 
 /// What was there stays where nothing is answered.
@@ -78,12 +96,30 @@ pub fn kept_examples()
     ensures changed { (G : TableView) (bytes : List ℕ) (old new : Text) → old ≢ new
         → ¬ (Shows G bytes old new 1) }
     ensures shown { (G : TableView) (bytes : List ℕ) (old : Text) → ShowsAt null_ptr G bytes old old 2 }
-    ensures explained { (G : TableView) (bytes : List ℕ) (old : Text) → ExplainsAt null_ptr G bytes old old 2 }
-    ensures not_done { (G : TableView) (bytes : List ℕ) (old : Text) → ¬ (ExplainsAt null_ptr G bytes old old 0) }
-    ensures told { (G : TableView) (bytes : List ℕ) (old : Text) → TellsObjectAt null_ptr G bytes old old 2 }
-    ensures not_told { (G : TableView) (bytes : List ℕ) (old : Text) → ¬ (TellsObjectAt null_ptr G bytes old old 0) }
+    ensures explained { (G : TableView) (r : Reach) (bytes : List ℕ) (old : Text)
+        → ExplainsAt null_ptr G r bytes old old 2 }
+    ensures not_done { (G : TableView) (r : Reach) (bytes : List ℕ) (old : Text)
+        → ¬ (ExplainsAt null_ptr G r bytes old old 0) }
+    ensures flagged { (G : TableView) (bytes : List ℕ) (old : Text) → ExplainsAsked (asked_by 4) G bytes old old 5 }
+    ensures not_flagged { (G : TableView) (bytes : List ℕ) (old : Text)
+        → ¬ (ExplainsAsked (asked_by 4) G bytes old old 0) }
+    ensures explained_with { (G : TableView) (bytes : List ℕ) (old : Text)
+        → ExplainsWith null_ptr G 0 bytes old old 2 }
+    ensures not_with { (G : TableView) (bytes : List ℕ) (old : Text) → ¬ (ExplainsWith null_ptr G 0 bytes old old 0) }
+    ensures told { (G : TableView) (r : Reach) (bytes : List ℕ) (old : Text)
+        → TellsObjectAt null_ptr G r bytes old old 2 }
+    ensures not_told { (G : TableView) (r : Reach) (bytes : List ℕ) (old : Text)
+        → ¬ (TellsObjectAt null_ptr G r bytes old old 0) }
+    ensures told_no_flag { (G : TableView) (bytes : List ℕ) (old : Text)
+        → TellsObjectAsked (asked_by 4) G bytes old old 5 }
+    ensures not_told_flag { (G : TableView) (bytes : List ℕ) (old : Text)
+        → ¬ (TellsObjectAsked (asked_by 4) G bytes old old 0) }
+    ensures told_with { (G : TableView) (bytes : List ℕ) (old : Text) → TellsObjectWith null_ptr G 0 bytes old old 2 }
+    ensures not_told_with { (G : TableView) (bytes : List ℕ) (old : Text)
+        → ¬ (TellsObjectWith null_ptr G 0 bytes old old 0) }
     // A text that holds nothing tells no verdict as an object.
-    ensures no_object { (G : TableView) (bytes : List ℕ) (t : Text) → t.buffer.bytes ≡ None → ¬ (IsTelling G bytes t) }
+    ensures no_object { (G : TableView) (r : Reach) (bytes : List ℕ) (t : Text) → t.buffer.bytes ≡ None
+        → ¬ (IsTelling G r bytes t) }
     ensures assembled { (G : TableView) (o : Order) (text : List ℕ) (old : Assembled)
         → AssemblesAt null_ptr G o text old old 2 }
     ensures unsaid { (old : StaticText) → PutsIfAny None old old false }

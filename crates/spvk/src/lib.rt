@@ -10,6 +10,7 @@ mod buffers;
 mod checking;
 mod collected;
 mod explaining;
+mod flags;
 mod grammar_reason;
 mod grammars;
 mod handle;

@@ -4,24 +4,29 @@ ghost use Rattle.spv_table.specs.Table.{Table as TableView};
 ghost use base.Fml.{Lft, Share};
 ghost use types.Logic.{sem};
 ghost use Rattle.spvk.specs.Held.{shown};
-ghost use Rattle.spvk.specs.Object.{IsTelling, TellsObject, TellsObjectAt};
+ghost use Rattle.spvk.specs.Object.{IsTelling, TellsObject, TellsObjectAsked, TellsObjectAt, TellsObjectWith};
+ghost use Rattle.spvk.specs.Flags as spec;
+ghost use Rattle.spvk.specs.Flags.{taken};
+ghost use Rattle.spv_extended.specs.declared.reach.Reach.TheVariants.{Profile};
 ghost use Rattle.spv_words.specs.Version.{as_1_6};
 
 use crate::buffer::Buffer;
+use crate::flags::{Asked, asked_by};
 use crate::numbers::numbers;
-use crate::status::{MEMORY, NO_GRAMMAR, OK};
+use crate::status::{MEMORY, NO_FLAG, NO_GRAMMAR, OK};
 use crate::text::Text;
 use crate::versions::copy_as_1_6;
 use spv_explain::explain_json;
+use spv_extended::Reach;
 use spv_table::{Memory, Table};
 use std::alloc::Global;
 use std::{mem, ptr};
 
 /// The verdict on these bytes and the object that explains it. The error is that memory ran out.
-fn object_of(alloc: Global, table: &Table, bytes: &[u8]) -> Result<Text, Memory>
-    ensures { IfOk result (λ t. IsTelling table.now bytes.now t) }
+fn object_of(alloc: Global, table: &Table, reach: Reach, bytes: &[u8]) -> Result<Text, Memory>
+    ensures { IfOk result (λ t. IsTelling table.now reach bytes.now t) }
 {
-    let answer = explain_json(alloc, table, None, bytes)?;
+    let answer = explain_json(alloc, table, reach, None, bytes)?;
     let verdict = numbers(answer.judgment);
     match Buffer::of(alloc, answer.text) {
         Ok(buffer) => Ok(Text { verdict, buffer }),
@@ -30,10 +35,10 @@ fn object_of(alloc: Global, table: &Table, bytes: &[u8]) -> Result<Text, Memory>
 }
 
 /// Explains the verdict on a module's bytes by a table, as an object.
-fn tell_by(alloc: Global, table: &Table, bytes: &[u8], text: &mut Text) -> u32
-    ensures { TellsObject table.now bytes.now text.old text.new result }
+fn tell_of(alloc: Global, table: &Table, reach: Reach, bytes: &[u8], text: &mut Text) -> u32
+    ensures { TellsObject table.now reach bytes.now text.old text.new result }
 {
-    match object_of(alloc, table, bytes) {
+    match object_of(alloc, table, reach, bytes) {
         Ok(made) => {
             mem::replace(text, made).let_go(alloc);
             OK
@@ -43,13 +48,48 @@ fn tell_by(alloc: Global, table: &Table, bytes: &[u8], text: &mut Text) -> u32
 }
 
 /// The same of the bytes with version 1.6 in place of another version.
-fn tell_as_1_6_by(alloc: Global, table: &Table, bytes: &[u8], text: &mut Text) -> u32
-    ensures { TellsObject table.now (as_1_6 bytes.now) text.old text.new result }
+fn tell_as_1_6_of(alloc: Global, table: &Table, reach: Reach, bytes: &[u8], text: &mut Text) -> u32
+    ensures { TellsObject table.now reach (as_1_6 bytes.now) text.old text.new result }
 {
     let Ok(copy) = copy_as_1_6(alloc, bytes) else {
         return MEMORY;
     };
-    tell_by(alloc, table, copy.as_slice(), text)
+    tell_of(alloc, table, reach, copy.as_slice(), text)
+}
+
+/// Explains the verdict without a flag.
+fn tell_by(alloc: Global, table: &Table, bytes: &[u8], text: &mut Text) -> u32
+    ensures { TellsObject table.now Profile bytes.now text.old text.new result }
+{
+    tell_of(alloc, table, Reach::Profile, bytes, text)
+}
+
+/// The same of the bytes with version 1.6 in place of another version.
+fn tell_as_1_6_by(alloc: Global, table: &Table, bytes: &[u8], text: &mut Text) -> u32
+    ensures { TellsObject table.now Profile (as_1_6 bytes.now) text.old text.new result }
+{
+    tell_as_1_6_of(alloc, table, Reach::Profile, bytes, text)
+}
+
+/// Explains the verdict as it is asked for.
+fn tell_asked(alloc: Global, table: &Table, asked: Asked, bytes: &[u8], text: &mut Text) -> u32
+    ensures { TellsObject table.now asked.reach (taken asked.newest bytes.now) text.old text.new result }
+{
+    if asked.newest {
+        tell_as_1_6_of(alloc, table, asked.reach, bytes, text)
+    } else {
+        tell_of(alloc, table, asked.reach, bytes, text)
+    }
+}
+
+/// Explains the verdict by flags.
+fn tell_with_by(alloc: Global, table: &Table, bytes: &[u8], flags: u32, text: &mut Text) -> u32
+    ensures { TellsObjectAsked (spec.asked_by flags) table.now bytes.now text.old text.new result }
+{
+    match asked_by(flags) {
+        Some(asked) => tell_asked(alloc, table, asked, bytes, text),
+        None => NO_FLAG,
+    }
 }
 
 /// The verdict on a module's bytes with the JSON object that explains it, by the grammar behind a handle's pointer,
@@ -63,7 +103,7 @@ pub unsafe extern "C" fn spvk_raw_explain_json(
 ) -> u32
     ghost lent: { Lft × Share × TableView }
     requires* { sem 𝓛 (shown grammar lent) }
-    ensures* { sem 𝓛 (shown grammar lent) ∗ ⌜ TellsObjectAt grammar lent.2 bytes.now text.old text.new result ⌝ }
+    ensures* { sem 𝓛 (shown grammar lent) ∗ ⌜ TellsObjectAt grammar lent.2 Profile bytes.now text.old text.new result ⌝ }
 {
     if grammar == ptr::null() {
         NO_GRAMMAR
@@ -82,12 +122,32 @@ pub unsafe extern "C" fn spvk_raw_explain_json_as_1_6(
 ) -> u32
     ghost lent: { Lft × Share × TableView }
     requires* { sem 𝓛 (shown grammar lent) }
-    ensures* { sem 𝓛 (shown grammar lent) ∗ ⌜ TellsObjectAt grammar lent.2 (as_1_6 bytes.now) text.old text.new
+    ensures* { sem 𝓛 (shown grammar lent) ∗ ⌜ TellsObjectAt grammar lent.2 Profile (as_1_6 bytes.now) text.old text.new
         result ⌝ }
 {
     if grammar == ptr::null() {
         NO_GRAMMAR
     } else {
         tell_as_1_6_by(alloc, &*(grammar as *const Table), bytes, text)
+    }
+}
+
+/// The same by flags: `SPVK_AS_1_6` (1), `SPVK_EXTENDED` (2), or both; 0 for none.
+#[unsafe(no_mangle)]
+pub unsafe extern "C" fn spvk_raw_explain_json_with(
+    alloc: Global,
+    grammar: *const u8,
+    bytes: &[u8],
+    flags: u32,
+    text: &mut Text,
+) -> u32
+    ghost lent: { Lft × Share × TableView }
+    requires* { sem 𝓛 (shown grammar lent) }
+    ensures* { sem 𝓛 (shown grammar lent) ∗ ⌜ TellsObjectWith grammar lent.2 flags bytes.now text.old text.new result ⌝ }
+{
+    if grammar == ptr::null() {
+        NO_GRAMMAR
+    } else {
+        tell_with_by(alloc, &*(grammar as *const Table), bytes, flags, text)
     }
 }

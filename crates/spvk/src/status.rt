@@ -16,6 +16,9 @@ pub const NO_GRAMMAR: u32 = 2;
 /// What is to be assembled is no UTF-8.
 pub const NOT_TEXT: u32 = 4;
 
+/// The flags have a bit that is no flag.
+pub const NO_FLAG: u32 = 5;
+
 /// The status of a refused grammar file.
 pub fn status(error: GrammarError) -> u32
     ensures { result ≡ status_of error }

@@ -34,6 +34,7 @@ use Rattle.std.proofs.raw_atomic.Walks.{proved_at, leaves}
 use Rattle.spv_table.specs.Table.{Table}
 use Rattle.spv_table.specs.contracts.table.Table.{the_row as the_table}
 use Rattle.spv_table.proofs.table.Table.TheLaws as table_laws
+use Rattle.spv_extended.specs.declared.reach.Reach.TheVariants.{Profile}
 use Rattle.spvk.specs.Answer.{Answers, AnswersAt, status_alone}
 use Rattle.spvk.specs.Held.{shown}
 use Rattle.spv_words.specs.Version.{as_1_6}
@@ -50,11 +51,11 @@ use Rattle.spvk.specs.contracts.checking.spvk_raw_check_as_1_6.Key.{name as #sel
 use Rattle.spvk.proofs.checking.spvk_raw_check_as_1_6.Statement.{statement}
 use Rattle.spvk.proofs.checking.spvk_raw_check_as_1_6.Code as code
 
-at_null : (p : Ptr) (G : Table) (bytes : List ℕ) (r : Out.Denot) → p ≡ null_ptr → r ≡ status_alone 2 → AnswersAt p G bytes r
-at_null p G bytes r e alone = subst (λ (q : Ptr). AnswersAt q G bytes r) (sym e) alone
+at_null : (p : Ptr) (G : Table) (bytes : List ℕ) (r : Out.Denot) → p ≡ null_ptr → r ≡ status_alone 2 → AnswersAt p G Profile bytes r
+at_null p G bytes r e alone = subst (λ (q : Ptr). AnswersAt q G Profile bytes r) (sym e) alone
 
-at_block : (p : Ptr) (b o : ℕ) (G : Table) (bytes : List ℕ) (r : Out.Denot) → p ≡ block_ptr b o → Answers G bytes r → AnswersAt p G bytes r
-at_block p b o G bytes r e answers = subst (λ (q : Ptr). AnswersAt q G bytes r) (sym e) answers
+at_block : (p : Ptr) (b o : ℕ) (G : Table) (bytes : List ℕ) (r : Out.Denot) → p ≡ block_ptr b o → Answers G Profile bytes r → AnswersAt p G Profile bytes r
+at_block p b o G bytes r e answers = subst (λ (q : Ptr). AnswersAt q G Profile bytes r) (sym e) answers
 
 pub spvk_raw_check_as_1_6_spec : {M : Type 1} → statement M
 spvk_raw_check_as_1_6_spec 𝓤 𝓛 𝓜 𝓡 wired =
@@ -80,7 +81,7 @@ spvk_raw_check_as_1_6_spec 𝓤 𝓛 𝓜 𝓡 wired =
     await ! tt $ pick ! (λ r. split ! $ move ! (1 ∷ []) $ pick ! (λ _. split ! $ drop ! $ heard ! (r ≡ status_alone 2) (λ told. split ! $ drop ! $ peeks ! Out (Is Out) (shows 𝓛 Out) r (u ∷ []) (λ ok. let good = ((out_laws.the_row_laws.lawful 𝓛).typed r (u ∷ []) ok).0 in
     lands_last ! refl good $ exec ! 𝓣.C 𝓣.Λ Ev (after 2 fn.body) (at_ret Ev Post) $ sets ! (of_opd ! (get ! refl)) refl good $
     -- [the result; what is shown; the slice; nothing; the allocator; the token]
-    move ! (1 ∷ []) $ rewrite ! 0 (λ (p' : Ptr). ‵ (shown p' s)) (sym is) refl $ use0 𝓛 (raw (fact 𝓤 (AnswersAt p G (as_1_6 x.now) r))) (fact_i 𝓤 _ (emp 𝓤) (at_null p G (as_1_6 x.now) r is told)) $ move ! (1 ∷ 0 ∷ []) $ join ! $
+    move ! (1 ∷ []) $ rewrite ! 0 (λ (p' : Ptr). ‵ (shown p' s)) (sym is) refl $ use0 𝓛 (raw (fact 𝓤 (AnswersAt p G Profile (as_1_6 x.now) r))) (fact_i 𝓤 _ (emp 𝓤) (at_null p G (as_1_6 x.now) r is told)) $ move ! (1 ∷ 0 ∷ []) $ join ! $
     nothing ! $ nothing ! $ fjoin ! $ nothing ! $ fjoin ! $ nothing ! $ fjoin ! $
     returns ! (look_at ! 0 refl) $ free_all ! refl $ keep ! (6 ∷ 0 ∷ 2 ∷ 1 ∷ []) $ by ! (leaves 𝓛 ended hs c z u r (tt, (tt, (tt, tt))) (tt, (tt, (tt, tt)))))))))) (λ wrong. absurd wrong)))
     (λ b o is. let t : Bor Table = record { ref_ptr = (b, o); now = G } in let k = triple_of 𝓛 by_table.signature (by_table.spec 𝓛 𝓜.mem 𝓡.returns) in
@@ -94,10 +95,10 @@ spvk_raw_check_as_1_6_spec 𝓤 𝓛 𝓜 𝓡 wired =
     move ! (5 ∷ 6 ∷ []) $ fjoin ! $ move ! (3 ∷ []) $ feq_i ! (List Val) (vptr b o ∷ []) (vptr b o ∷ []) refl $ fjoin ! $ fjoin ! $ move ! (5 ∷ 0 ∷ []) $ fjoin ! $
     move ! (1 ∷ 2 ∷ []) $ join ! $ move ! (3 ∷ 0 ∷ []) $ join ! $ join ! $ nothing ! $ move ! (1 ∷ 0 ∷ []) $ use2 𝓛 (raw (k.pre y)) (id⊢ 𝓤 _) $
     calls_at_last ! (fm 𝓛 𝓜 𝓡) k (by_table_thm.met 𝓤 𝓛 𝓜 𝓡 (code.calls-spvk::checking::answer_as_1_6_by 𝓡.env wired)) y (and_then ! (get ! refl) (and_then ! (get ! refl) (and_then ! (get ! refl) (no_more !)))) (λ u.
-    use1 𝓛 (later (some (λ (r : Out.Denot). (toks₂ ⊛ ‵ (Out.own_val r (u ∷ []))) ⊛ some (λ (ls : Lasts by_table.ended y.0.0 y.0.3). ‵ (lasts by_table.ended y.0.0 y.0.3 ls) ⊛ raw (fact 𝓤 (Answers G (as_1_6 x.now) r)))))) (id⊢ 𝓤 (k.post y u)) $
-    await ! tt $ pick ! (λ r. split ! $ move ! (1 ∷ []) $ pick ! (λ _. split ! $ drop ! $ heard ! (Answers G (as_1_6 x.now) r) (λ told. split ! $ move ! (1 ∷ []) $ peeks ! Out (Is Out) (shows 𝓛 Out) r (u ∷ []) (λ ok. let good = ((out_laws.the_row_laws.lawful 𝓛).typed r (u ∷ []) ok).0 in
+    use1 𝓛 (later (some (λ (r : Out.Denot). (toks₂ ⊛ ‵ (Out.own_val r (u ∷ []))) ⊛ some (λ (ls : Lasts by_table.ended y.0.0 y.0.3). ‵ (lasts by_table.ended y.0.0 y.0.3 ls) ⊛ raw (fact 𝓤 (Answers G Profile (as_1_6 x.now) r)))))) (id⊢ 𝓤 (k.post y u)) $
+    await ! tt $ pick ! (λ r. split ! $ move ! (1 ∷ []) $ pick ! (λ _. split ! $ drop ! $ heard ! (Answers G Profile (as_1_6 x.now) r) (λ told. split ! $ move ! (1 ∷ []) $ peeks ! Out (Is Out) (shows 𝓛 Out) r (u ∷ []) (λ ok. let good = ((out_laws.the_row_laws.lawful 𝓛).typed r (u ∷ []) ok).0 in
     lands_last ! refl good $ exec ! 𝓣.C 𝓣.Λ Ev (after 2 fn.body) (at_ret Ev Post) $ sets ! (of_opd ! (get ! refl)) refl good $
     -- [the result; the tokens; the table]
     move ! (1 ∷ []) $ split ! $ nothing ! $ fpack ! (Testable (block_ptr b o)) (λ _. ftrue) tests $ move ! (4 ∷ 0 ∷ []) $ fjoin ! $ move ! (1 ∷ 0 ∷ []) $ fjoin ! $ rewrite ! 0 (λ (p' : Ptr). ‵ (shown p' s)) (sym is) refl $
-    use0 𝓛 (raw (fact 𝓤 (AnswersAt p G (as_1_6 x.now) r))) (fact_i 𝓤 _ (emp 𝓤) (at_block p b o G (as_1_6 x.now) r is told)) $ move ! (1 ∷ 0 ∷ []) $ join ! $ nothing ! $ nothing ! $ fjoin ! $ nothing ! $ fjoin ! $ nothing ! $ fjoin ! $
+    use0 𝓛 (raw (fact 𝓤 (AnswersAt p G Profile (as_1_6 x.now) r))) (fact_i 𝓤 _ (emp 𝓤) (at_block p b o G (as_1_6 x.now) r is told)) $ move ! (1 ∷ 0 ∷ []) $ join ! $ nothing ! $ nothing ! $ fjoin ! $ nothing ! $ fjoin ! $ nothing ! $ fjoin ! $
     returns ! (look_at ! 0 refl) $ free_all ! refl $ keep ! (2 ∷ 0 ∷ 3 ∷ 1 ∷ []) $ by ! (leaves 𝓛 ended hs c z u r (tt, (tt, (tt, tt))) (tt, (tt, (tt, tt))))))))))))))))

@@ -1,5 +1,0 @@
-use Rattle.spvk.specs.Answer.{unanswered}
-use Rattle.spvk.proofs.checking.answer_as_1_6_by.Goals as goal
-
-pub returns-in_default : goal.returns-in_default
-returns-in_default c = rw c.no_memory.ensures unanswered
