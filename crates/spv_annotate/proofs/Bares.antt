@@ -22,7 +22,7 @@ use Rattle.spv_annotate.specs.Bare.{Outside, asked_lines, bare, bare_lines, bare
 use Rattle.spv_annotate.specs.Document.{IsSpelled, IsSubject, Subject, beginning, begun, document, ending, entries, entry, header_piece, is_of, line_pieces, mark_piece, marks}
 use Rattle.spv_annotate.specs.Module.{inst_at, open_function, section_before, section_of}
 use Rattle.spv_annotate.specs.Notes.{column, comment, gap, notes, place_text}
-use Rattle.spv_annotate.specs.Piece.{Break, Comment, Header, Line, Mark, PlainPiece, text_of}
+use Rattle.spv_annotate.specs.Piece.{PlainPiece, text_of}
 use Rattle.spv_annotate.specs.Values.{AreValues, float_of}
 use Rattle.spv_annotate.proofs.Cleans.{IsClean, before_clean, plain_clean}
 use Rattle.spv_annotate.proofs.Ends.{last_of, plain_last, trimmed_before}

@@ -1,6 +1,5 @@
 -- A text in HTML, written from one escaped byte to the next.
 use Rattle.std.proofs.Common.{◌≡◌, ◌++◌, ◌∙◌, ◌<◌, ◌+◌, ℕ, zero, suc, List, [], ◌∷◌, true, length, take, drop, get_or, refl, sym, ap, arith, append_assoc}
-use Rattle.std.specs.Prelude.{codes, flat_map, if◌then◌else◌, ◌==◌}
 use Rattle.std.proofs.lemmas.Bool.Decides.{nat_tests}
 use Rattle.std.proofs.lemmas.List.Concat.{flat_map-append}
 use Rattle.spv_annotate.specs.Html.{escaped, escaped_byte, is_marked}

@@ -1,6 +1,6 @@
 -- What is read of the page, piece by piece.
-use Rattle.std.proofs.Common.{◌≡◌, ◌++◌, ◌∙◌, ℕ, List, [], ◌∷◌, Option, Some, None, Bool, true, false, nat_eq, refl, sym, ap, append_assoc, append-nil, take, drop}
-use Rattle.std.specs.Prelude.{codes, flat_map, if◌then◌else◌, ◌==◌, decimal, option_and_then}
+use Rattle.std.proofs.Common.{◌≡◌, ◌++◌, ◌∙◌, ℕ, List, [], ◌∷◌, Option, Some, None, Bool, true, false, refl, sym, ap, append_assoc, append-nil, take}
+use Rattle.std.specs.Prelude.{codes, flat_map, ◌==◌, decimal, option_and_then}
 use Rattle.std.specs.List.{prefix_len}
 use Rattle.std.proofs.lemmas.List.{take-append-drop}
 use Rattle.spv_table.specs.Lookups.{is_number}

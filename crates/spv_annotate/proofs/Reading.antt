@@ -1,10 +1,10 @@
 -- What is read of HTML, piece by piece.
 use Rattle.std.proofs.Common.{◌≡◌, ◌++◌, ◌∙◌, ◌<◌, ◌/◌, ◌%◌, ℕ, zero, suc, List, [], ◌∷◌, Bool, true, false, not, ◌&&◌, refl, sym, ap, arith, append_assoc, append-nil}
-use Rattle.std.specs.Prelude.{codes, flat_map, if◌then◌else◌, ◌==◌, decimal}
+use Rattle.std.specs.Prelude.{flat_map, ◌==◌, decimal}
 use Rattle.std.specs.Fmt.{digits, digits_onto, digit_glyph}
 use Rattle.std.specs.List.{list_all}
 use Rattle.std.proofs.lemmas.Bool.Decides.{nat_tests}
-use Rattle.spv_annotate.specs.Html.{escaped, escaped_byte, is_harmless, untagged, read_from, InText, InTag}
+use Rattle.spv_annotate.specs.Html.{escaped, escaped_byte, is_harmless, untagged, read_from, InTag}
 
 -- HTML is read as a text, whatever follows it
 abbrev pub Reads : List ℕ → List ℕ → Type 0

@@ -1,12 +1,12 @@
 -- Parts of a line that hold no id, and comments that stand for themselves.
-use Rattle.std.proofs.Common.{◌≡◌, ◌++◌, ◌∙◌, ◌<◌, ◌≤◌, ◌+◌, ℕ, zero, suc, List, [], ◌∷◌, Option, Some, None, Bool, true, false, ◌&&◌, length, drop, get_or, refl, sym, ap, arith, append-nil}
-use Rattle.std.specs.Prelude.{◌==◌, not, nat_lt, if◌then◌else◌, option_and_then}
+use Rattle.std.proofs.Common.{◌≡◌, ◌++◌, ◌∙◌, ◌<◌, ◌≤◌, ◌+◌, ℕ, zero, suc, List, [], ◌∷◌, Option, Some, None, Bool, true, false, ◌&&◌, length, drop, get_or, refl, ap, arith, append-nil}
+use Rattle.std.specs.Prelude.{◌==◌, option_and_then}
 use Rattle.std.specs.List.{flat_map, list_all, onto_first}
 use Rattle.std.proofs.lemmas.Bool.Decides.{nat_tests}
 use Rattle.spv_lines.specs.Digits.{is_digit, is_lean}
 use Rattle.spv_annotate.specs.declared.linked.Quoting.{Quoting}
 use Rattle.spv_annotate.specs.declared.linked.Quoting.TheVariants.{Outside, Within, Behind, Commented}
-use Rattle.spv_annotate.specs.Html.{escaped, escaped_byte, is_marked}
+use Rattle.spv_annotate.specs.Html.{escaped, escaped_byte}
 use Rattle.spv_annotate.specs.Page.{after_byte, begins_id, cut_from, id_of, linked, part_html}
 use Rattle.spv_annotate.specs.inner.Linked.{base, is_bare_byte, is_steady, until_id}
 

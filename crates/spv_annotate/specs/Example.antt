@@ -1,5 +1,5 @@
 -- A small list of instructions.
-use Rattle.std.specs.Prelude.{ℕ, List, [], ◌∷◌, codes}
+use Rattle.std.specs.Prelude.{List, [], ◌∷◌, codes}
 use Rattle.spv_module.specs.declared.opcode.TheConstants as opcode
 use Rattle.spv_module.specs.Operand.{OfType, Result, Id, Word, Number, Text, PlainInst}
 

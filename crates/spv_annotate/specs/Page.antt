@@ -1,5 +1,5 @@
 -- The page: what stands in it for each piece of the text for reading. (HTML Living Standard, 4 and 13; own.)
-use Rattle.std.specs.Prelude.{◌≡◌, ◌++◌, ◌==◌, ◌&&◌, ℕ, List, [], ◌∷◌, Option, Some, None, Bool, true, false}
+use Rattle.std.specs.Prelude.{◌≡◌, ◌++◌, ◌==◌, ◌&&◌, ℕ, List, [], ◌∷◌, Option, Some, None, Bool, false}
 use Rattle.std.specs.Prelude.{nat_eq, nat_lt, if◌then◌else◌, codes, decimal, length, map, filter, take, drop}
 use Rattle.std.specs.Prelude.{option_and_then, option_map, unwrap_or}
 use Rattle.std.specs.Option.{option_to_list}

@@ -1,6 +1,6 @@
 //! The operands that words are read as. Which rule is told of words that are no instructions is shown by the program.
 
-use spv_grammar::{FromGrammar, Table};
+use spv_builtin::{FromGrammar, Table};
 use spv_inst::decode;
 use spv_samples::{PROFILE, image_of};
 use spv_words::Image;

@@ -1,6 +1,6 @@
 //! Modules that no words spell.
 
-use spv_grammar::{FromGrammar, Table};
+use spv_builtin::{FromGrammar, Table};
 use spv_inst::Operand::{Id, Mask, Number, OfType, Result as Made, Text, Value, Word};
 use spv_inst::{Memory, Module, Operand};
 use spv_printer::{EncodeCode, EncodeError, encode};

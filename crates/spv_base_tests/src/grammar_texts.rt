@@ -1,6 +1,6 @@
 //! Where and how a grammar file is refused.
 
-use spv_grammar::fault_of;
+use spv_builtin::fault_of;
 use std::alloc::Global;
 use std::test::Fail;
 

@@ -1,4 +1,4 @@
-//! The calls of spv_words, spv_grammar, spv_builtin, spv_inst, spv_printer and spv_parser, each made once with ample
+//! The calls of spv_words, spv_builtin, spv_inst, spv_printer and spv_parser, each made once with ample
 //! memory, and with growths refused. What each line of a text is read as and shown as, and what a grammar file is
 //! refused with, is shown by the program.
 #![tactic(auto)]

@@ -1,6 +1,6 @@
 //! What errors are shown as: one of each type.
 
-use spv_grammar::GrammarError;
+use spv_builtin::GrammarError;
 use spv_parser::{AsmCode, AsmError};
 use spv_printer::{EncodeCode, EncodeError};
 use spv_words::WordError;

@@ -5,9 +5,10 @@ ghost use Rattle.spv_builtin.specs.Source.{IsTableOf, breaks};
 
 use crate::error::UnpackError;
 use crate::laws::one_table;
+use crate::load::FromGrammar;
 use crate::packed::unpack;
 use crate::words::WORDS;
-use spv_grammar::{FromGrammar, GrammarError};
+use spv_grammar::GrammarError;
 use spv_table::Table;
 use std::alloc::Global;
 

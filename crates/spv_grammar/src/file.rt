@@ -5,7 +5,7 @@ use spv_table::{Category, Quantifier};
 
 /// An operand of an instruction, or a parameter of an enumerant.
 #[derive(Drop)]
-pub(crate) struct FileOperand<'a> {
+pub struct FileOperand<'a> {
     /// The name of its kind.
     pub kind: LentName<'a>,
     /// How often it comes; none where the text is neither `?` nor `*`.
@@ -14,7 +14,7 @@ pub(crate) struct FileOperand<'a> {
 
 /// An element of `instructions`.
 #[derive(Drop)]
-pub(crate) struct FileInstruction<'a> {
+pub struct FileInstruction<'a> {
     pub name: LentName<'a>,
     /// None where the number is no whole one from 0 to 65,535.
     pub opcode: Option<u16>,
@@ -24,7 +24,7 @@ pub(crate) struct FileInstruction<'a> {
 
 /// An element of a kind's `enumerants`.
 #[derive(Drop)]
-pub(crate) struct FileEnumerant<'a> {
+pub struct FileEnumerant<'a> {
     pub name: LentName<'a>,
     /// None where it is out of the range or form of its kind's category.
     pub value: Option<u32>,
@@ -34,7 +34,7 @@ pub(crate) struct FileEnumerant<'a> {
 
 /// An element of `operand_kinds`.
 #[derive(Drop)]
-pub(crate) struct FileKind<'a> {
+pub struct FileKind<'a> {
     pub name: LentName<'a>,
     /// None where the text names none.
     pub category: Option<Category>,
@@ -46,7 +46,7 @@ pub(crate) struct FileKind<'a> {
 
 /// A grammar file.
 #[derive(Drop)]
-pub(crate) struct File<'a> {
+pub struct File<'a> {
     pub instructions: Lent<'a, FileInstruction<'a>>,
     pub kinds: Lent<'a, FileKind<'a>>,
 }

@@ -10,7 +10,7 @@ use std::marker::Model;
 
 /// A name that stands in the text. Contracts see it as the list of its octets.
 #[derive(Drop)]
-pub(crate) struct LentName<'a> {
+pub struct LentName<'a> {
     text: &'a str,
 }
 
@@ -55,7 +55,7 @@ impl<'a> Named for LentName<'a> {
 
 /// A list that stands in an arena. Contracts see it as the list of its items.
 #[derive(Drop)]
-pub(crate) struct Lent<'a, T> {
+pub struct Lent<'a, T> {
     items: &'a [T],
 }
 

@@ -1,4 +1,4 @@
-//! The grammar table of a grammar file.
+//! What a grammar file holds, the grammar table that it makes, and where it is refused.
 #![tactic(auto)]
 
 mod error;
@@ -10,17 +10,13 @@ mod make;
 mod numbers;
 mod place;
 mod read;
-mod reason;
 mod rules;
 mod search;
 mod shared;
 mod steps;
 
 pub use error::GrammarError;
-pub use load::FromGrammar;
-pub use place::{GrammarFault, fault_of};
-pub use reason::grammar_reason;
-pub use spv_table::{
-    Category, Entry, Enumerant, Item, Kind, Listed, Memory, Name, NameList, Pattern, Quantifier,
-    Table,
-};
+pub use file::File;
+pub use load::table_of_file;
+pub use place::{GrammarFault, fault_in, fault_of_text};
+pub use read::read_file;

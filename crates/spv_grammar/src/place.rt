@@ -3,17 +3,16 @@
 ghost use Rattle.std.specs.Prelude.{◌≡◌, ◌^◌, Some, IfOk, IfSome, option_map, string_bytes};
 ghost use Rattle.json_tree.specs.View.{view};
 ghost use Rattle.spv_grammar.specs.Answer.{tree_breaks};
-ghost use Rattle.spv_grammar.specs.Place.{IsPlaced, Tells};
+ghost use Rattle.spv_grammar.specs.Place.{IsPlaced};
 ghost use Rattle.spv_grammar.specs.declared.error.GrammarError.TheVariants.{J1};
 
 use crate::error::GrammarError;
-use crate::load::{broken, parse};
+use crate::load::broken;
 use crate::numbers::Numbers;
 use crate::read::read_file;
 use crate::search::{Search, Wrong};
 use crate::steps::{Steps, found_shown, path_of, value_at};
 use bumpalo::Bump;
-use json::Scratch;
 use json_tree::Node;
 use serde_json::Value;
 use spv_table::Memory;
@@ -91,8 +90,13 @@ fn fault_of_form(alloc: Global, root: &Node<'_, '_>) -> Result<GrammarFault, Mem
     placed(alloc, root, GrammarError::J2, search.file(root))
 }
 
-/// The fault of a tree.
-fn fault_in(alloc: Global, root: &Node<'_, '_>) -> Result<Option<GrammarFault>, Memory>
+/// What the tree of a grammar file is refused for, by the least of J2 to J7 that it breaks, and where; none where it
+/// breaks nothing.
+///
+/// # Errors
+///
+/// `Memory` where a growth of memory was refused.
+pub fn fault_in(alloc: Global, root: &Node<'_, '_>) -> Result<Option<GrammarFault>, Memory>
     ensures code { IfOk result (λ o. option_map (λ f. f.code) o ≡ tree_breaks (view root.now)) }
     ensures place { IfOk result (λ o. IfSome o (λ f. IsPlaced (view root.now) (string_bytes f.path)
         (string_bytes f.found))) }
@@ -117,7 +121,11 @@ fn fault_in(alloc: Global, root: &Node<'_, '_>) -> Result<Option<GrammarFault>, 
 }
 
 /// The fault of a text that is no JSON: the reader of `serde_json` tells where it stopped.
-fn fault_of_text(alloc: Global, text: &[u8]) -> Result<GrammarFault, Memory>
+///
+/// # Errors
+///
+/// `Memory` where a growth of memory was refused.
+pub fn fault_of_text(alloc: Global, text: &[u8]) -> Result<GrammarFault, Memory>
     ensures { IfOk result (λ f. f.code ≡ J1) }
 {
     let found = match Value::from_slice(alloc, text) {
@@ -137,23 +145,4 @@ fn fault_of_text(alloc: Global, text: &[u8]) -> Result<GrammarFault, Memory>
         found,
         wanted: wanted(GrammarError::J1),
     })
-}
-
-/// What a grammar file's text is refused for, by the least of J1 to J7 that it breaks, and where; none where it breaks
-/// nothing. Of several places that break the code the first that is read is told: instructions and then kinds, each
-/// key in the order in which it is read.
-///
-/// # Errors
-///
-/// `Memory` where a growth of memory was refused.
-pub fn fault_of(alloc: Global, text: &[u8]) -> Result<Option<GrammarFault>, Memory>
-    ensures { IfOk result (Tells text.now) }
-{
-    let mut scratch = Scratch::new(alloc);
-    let tree = match parse(alloc, text, &mut scratch) {
-        Ok(tree) => tree,
-        Err(GrammarError::J1) => return Ok(Some(fault_of_text(alloc, text)?)),
-        Err(_) => return Err(Memory),
-    };
-    fault_in(alloc, &tree.root())
 }

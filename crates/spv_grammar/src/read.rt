@@ -474,7 +474,7 @@ fn each_kind<'a>(
 }
 
 /// What a grammar file holds; J2 where its tree has not the form.
-pub(crate) fn read_file<'a>(arena: &'a Bump, value: &Node<'_, 'a>) -> Result<File<'a>, GrammarError>
+pub fn read_file<'a>(arena: &'a Bump, value: &Node<'_, 'a>) -> Result<File<'a>, GrammarError>
     ensures { Reads result (file_of (view value.now)) }
 {
     let Some(instructions) = items(value, "instructions") else {

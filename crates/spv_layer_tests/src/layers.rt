@@ -1,9 +1,9 @@
 //! The layers one after another.
 
+use spv_builtin::{FromGrammar, Table};
 use spv_flow::branches::check_branches;
 use spv_flow::calls::first_cycle;
 use spv_flow::walks::check_values;
-use spv_grammar::{FromGrammar, Table};
 use spv_ids::number;
 use spv_inst::{Stop, decode};
 use spv_layout::laws::word_counts;

@@ -1,7 +1,8 @@
 //! Each growth of memory refused in turn: out of memory is told. With none refused the calls answer rightly.
 
 use crate::layers::flow_of;
-use spv_grammar::{FromGrammar, Table};
+use spv_builtin::{FromGrammar, Table};
+use spv_extended::Reach;
 use spv_inst::Stop;
 use spv_samples::{CALL_OF_LATER_FUNCTION, LOOP_WITH_PHI, PROFILE, Told, each_refused, image_of};
 use spv_verdict::{Checked, Ending, TraceError, Verdict, check, check_stream, trace};
@@ -18,9 +19,9 @@ fn told_of_flow(alloc: Global, table: &Table, image: &Image, definitions: u32) -
     }
 }
 
-/// How the check of a sound module answers.
-fn told_of_check(alloc: Global, table: &Table, image: &Image) -> Told {
-    match check(alloc, table, image) {
+/// How the check of a sound module answers, which is looked at so far.
+fn told_of_check(alloc: Global, table: &Table, reach: Reach, image: &Image) -> Told {
+    match check(alloc, table, reach, image) {
         Ok(Verdict::Valid(_)) => Told::Right,
         Ok(Verdict::Fault(_)) => Told::Wrong,
         Err(_) => Told::NoMemory,
@@ -34,6 +35,7 @@ fn told_of_stream(alloc: Global, table: &Table, image: &Image) -> Told {
     let answer = check_stream(
         alloc,
         table,
+        Reach::Profile,
         &mut reader,
         &mut FromWrite::new(&mut line[..]),
     );
@@ -48,7 +50,8 @@ fn told_of_stream(alloc: Global, table: &Table, image: &Image) -> Told {
 fn told(call: u32, alloc: Global, table: &Table, image: &Image, definitions: u32) -> Told {
     match call {
         0 => told_of_flow(alloc, table, image, definitions),
-        1 => told_of_check(alloc, table, image),
+        1 => told_of_check(alloc, table, Reach::Profile, image),
+        2 => told_of_check(alloc, table, Reach::Extended, image),
         _ => told_of_stream(alloc, table, image),
     }
 }
@@ -56,7 +59,7 @@ fn told(call: u32, alloc: Global, table: &Table, image: &Image, definitions: u32
 /// Makes each of the calls.
 fn each_call(alloc: Global, table: &Table, words: &str, definitions: u32) -> Result<(), Fail> {
     let image = image_of(alloc, words)?;
-    for call in 0..3 {
+    for call in 0..4 {
         each_refused(alloc, || told(call, alloc, table, &image, definitions))?;
     }
     Ok(())
@@ -80,7 +83,7 @@ fn told_of_trace(alloc: Global, checked: &Checked<'_>) -> Told {
 
 /// Whether a module is checked, and has then its run and what is known of the call in its first function.
 fn is_traced(alloc: Global, table: &Table, image: &Image) -> bool {
-    match check(alloc, table, image) {
+    match check(alloc, table, Reach::Profile, image) {
         Ok(Verdict::Valid(checked)) => {
             is_known(&checked) && each_refused(alloc, || told_of_trace(alloc, &checked)).is_ok()
         }

@@ -1,7 +1,7 @@
 -- Where a line is cut before ids. (For the code alone.)
 use Rattle.std.specs.Prelude.{◌==◌, ◌||◌, ℕ, suc, List, [], ◌∷◌, Bool, not, if◌then◌else◌}
 use Rattle.spv_annotate.specs.declared.linked.Quoting.{Quoting}
-use Rattle.spv_annotate.specs.declared.linked.Quoting.TheVariants.{Outside, Within, Behind, Commented}
+use Rattle.spv_annotate.specs.declared.linked.Quoting.TheVariants.{Outside, Commented}
 use Rattle.spv_annotate.specs.Html.{is_marked}
 use Rattle.spv_annotate.specs.Page.{after_byte, begins_id}
 

@@ -1,5 +1,5 @@
 -- What a page's look is of. (For the code alone.)
-use Rattle.std.specs.Prelude.{ℕ, map, is_some}
+use Rattle.std.specs.Prelude.{map, is_some}
 use Rattle.spv_module.specs.Module.{plain_inst}
 use Rattle.spv_annotate.specs.declared.look.Look.{Look}
 use Rattle.spv_annotate.specs.inner.Edges.{leading}

@@ -1,8 +1,7 @@
 //! What is made of a grammar file.
 
 use serde_json::Value;
-use spv_builtin::{grammar_text, table_of};
-use spv_grammar::{FromGrammar, GrammarError, Table, fault_of};
+use spv_builtin::{FromGrammar, GrammarError, Table, fault_of, grammar_text, table_of};
 use spv_samples::{PROFILE, Told, each_refused};
 use std::alloc::Global;
 use std::test::Fail;

@@ -1,6 +1,6 @@
 //! What is made of a module, its image and its text.
 
-use spv_grammar::{FromGrammar, Table};
+use spv_builtin::{FromGrammar, Table};
 use spv_inst::{Module, Stop, decode};
 use spv_parser::{AsmCode, AsmError, assemble};
 use spv_printer::{EncodeCode, EncodeError, encode, show, show_image, show_inst, show_insts};

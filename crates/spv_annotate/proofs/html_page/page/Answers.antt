@@ -1,4 +1,4 @@
-use Rattle.std.proofs.Common.{◌≡◌, ◌++◌, ◌∙◌, ap, flat_map, is_some, map, string_bytes, sym}
+use Rattle.std.proofs.Common.{◌≡◌, ◌++◌, ◌∙◌, ap, flat_map, is_some, map, string_bytes}
 use Rattle.spv_module.specs.Module.{plain_inst, plain_insts}
 use Rattle.spv_annotate.specs.declared.style.TheConstants.{END, MIDDLE}
 use Rattle.spv_annotate.specs.Document.{document}

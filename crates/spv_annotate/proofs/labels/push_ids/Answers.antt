@@ -1,8 +1,8 @@
-use Rattle.std.proofs.Common.{◌≡◌, ◌∙◌, ap}
+use Rattle.std.proofs.Common.{◌∙◌, ap}
 use Rattle.std.specs.Option.{option_to_list}
 use Rattle.spv_annotate.specs.Page.{ids_at}
 use Rattle.spv_annotate.proofs.Parts.{some_left}
-use Rattle.spv_annotate.proofs.Listing.{no_part_pushed, part_pushed}
+use Rattle.spv_annotate.proofs.Listing.{part_pushed}
 use Rattle.spv_annotate.proofs.labels.push_ids.Goals as goal
 
 pub loop-rest-preserved : goal.loop-rest-preserved

@@ -1,4 +1,4 @@
-use Rattle.std.proofs.Common.{◌≡◌, ◌+◌, ℕ, drop}
+use Rattle.std.proofs.Common.{◌≡◌, ◌+◌, drop}
 use Rattle.std.specs.List.{prefix_len}
 use Rattle.spv_lines.specs.Digits.{is_digit}
 use Rattle.spv_annotate.proofs.linked.digit_count.Given as goal

@@ -1,4 +1,4 @@
-use Rattle.std.proofs.Common.{◌≡◌, ◌+◌, ℕ, drop}
+use Rattle.std.proofs.Common.{◌≡◌, ◌+◌, drop}
 use Rattle.spv_annotate.specs.inner.Linked.{until_id}
 use Rattle.spv_annotate.proofs.linked.size_by_bytes.Given as goal
 

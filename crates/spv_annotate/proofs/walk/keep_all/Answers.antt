@@ -1,4 +1,4 @@
-use Rattle.std.proofs.Common.{◌≡◌, ◌∙◌, ap, is_some, take}
+use Rattle.std.proofs.Common.{◌∙◌, ap, is_some}
 use Rattle.std.specs.Option.{option_to_list}
 use Rattle.spv_annotate.specs.Page.{ids_at}
 use Rattle.spv_annotate.specs.inner.Numbers.{kept}

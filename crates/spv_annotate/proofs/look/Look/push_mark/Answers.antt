@@ -1,4 +1,4 @@
-use Rattle.std.proofs.Common.{◌≡◌, ◌++◌, ◌∙◌, List, ℕ, ap, append_assoc, string_bytes}
+use Rattle.std.proofs.Common.{◌++◌, ◌∙◌, ap, append_assoc, string_bytes}
 use Rattle.std.specs.Prelude.{codes}
 use Rattle.spv_annotate.specs.declared.linked.Quoting.TheVariants.{Commented}
 use Rattle.spv_annotate.specs.Page.{linked}

@@ -3,7 +3,8 @@
 ghost use Rattle.std.specs.Prelude.{◌≡◌, ◌++◌, ◌<◌, IfOk, OnOk, flat_map, string_bytes};
 ghost use Rattle.spv_grammar.specs.Reason.{IsReason, digit_shown, fault_lines, line_of, octet_shown, path_line};
 
-use crate::place::{GrammarFault, fault_of};
+use crate::fault::fault_of;
+use spv_grammar::GrammarFault;
 use spv_table::Memory;
 use std::alloc::{AllocError, Global};
 

@@ -1,7 +1,7 @@
 use Rattle.std.proofs.Common.{◌≡◌, ◌++◌, drop}
 use Rattle.std.specs.Prelude.{flat_map}
 use Rattle.spv_grammar.specs.Reason.{octet_shown}
-use Rattle.spv_grammar.proofs.reason.push_text.Given as goal
+use Rattle.spv_builtin.proofs.reason.push_text.Given as goal
 
 abbrev pub invariant-loop-octet : goal.invariant-loop-octet
 invariant-loop-octet l =
