@@ -45,8 +45,8 @@ PROMISES = (
         "Which table a grammar file gives",
         "`Table::from_slice` of a text, and `Table::from_value` of a tree of serde_json. What JSON is, is serde_json's.",
         (
-            ("spv_grammar", "load.rt", "from_slice", "impl FromGrammar for Table"),
-            ("spv_grammar", "load.rt", "from_value", "impl FromGrammar for Table"),
+            ("spv_builtin", "load.rt", "from_slice", "impl FromGrammar for Table"),
+            ("spv_builtin", "load.rt", "from_value", "impl FromGrammar for Table"),
         ),
     ),
     (
@@ -124,9 +124,9 @@ VALID = ("Rattle.spv_verdict.specs.Valid", "IsValid")
 BY_VALID = """What a valid module is, `IsValid` alone: {count}.
 """
 
-TABLES_HEAD = """Two tables are not said again in definitions: `rows` of spv_layout/specs/Rows and `row_of` of spv_ops/specs/Row name the tables of the code, which stand there a row a line, in words and letters that the macros above them turn into values. These rows are to be read too, as definitions are; they are not among the lines that are counted here:"""
+TABLES_HEAD = """Two tables are not said again in definitions: `rows` of spv_layout/specs/Rows and `row_of` of spv_ops/specs/Row name the tables of the code, which stand there a row a line, in words and letters that the macros above them turn into values. These rows are to be read too, as definitions are; they are not among the lines that are counted here. Nor are the lists of what extended instructions take, which `facts_of` of spv_extended/specs/Facts names: how their numbers are read stands above them, and `tests/extended` compares them with Khronos' files:"""
 
-BY_RULE = """`check` takes the words of an image, which begin with a good header, and answers `IsAnswer` of them: the checked module (`IsChecked`) or its fault (`IsFault`). It answers the former exactly where the bytes of those words are a valid module (`IsValid`): they begin with a good header (`IsModule`: the rules W), the words behind it spell a list of instructions (`IsListing`: I), and the list breaks no other rule (`IsSound`: P to G). `check_stream` writes the line of the verdict on the bytes that it reads (`IsVerdict`). That words have one verdict, and bytes one line, is proved beside them (`one_answer`, `one_verdict` and `one_first` of spv_verdict). Which table a grammar file gives is said apart from this list, in spv_grammar/specs (`Answer`), and in prose in PROFILE.md.
+BY_RULE = """`check` takes the words of an image, which begin with a good header, and answers `IsAnswer` of them: the checked module (`IsChecked`) or its fault (`IsFault`). It answers the former exactly where the bytes of those words are a valid module (`IsValid`): they begin with a good header (`IsModule`: the rules W), the words behind it spell a list of instructions (`IsListing`: I), and the list breaks no other rule (`IsSound`: P to G). With `--extended` the list is looked at with the operands of extended instructions (`looked_at`), and must not break Y9 either. `check_stream` writes the line of the verdict on the bytes that it reads (`IsVerdict`). That words have one verdict, and bytes one line, is proved beside them (`one_answer`, `one_verdict` and `one_first` of spv_verdict). Which table a grammar file gives is said apart from this list, in spv_grammar/specs (`Answer`), and in prose in PROFILE.md.
 
 The rules, and the definitions that say what is kept, or (broken) where a rule is broken:
 
@@ -226,6 +226,7 @@ RULES = (
     ("A1", "values on every walk", [], [(READY, "IsMissing")]),
     ("A2", "values of phis on every walk", [], [(READY, "IsPairMissing")]),
     ("G1", "cycles of calls", [], [("spv_flow/specs/calls/Broken.antt", "Broken")]),
+    ("Y9", "calls of extended instructions", [], [("spv_extended/specs/Miscalled.antt", "IsMiscalled")]),
 )
 
 
@@ -234,6 +235,9 @@ TABLES = (
     ("spv_layout", "rows.rt", "the table of shapes (P1, L1, L2, Y1)", r"\$what! \{\n(.*?)\n *\}"),
     ("spv_ops", "row.rt", "the table of types (Y5)", r"= entries! \{\n(.*?)\n\};"),
 )
+
+# The lists of the code that definitions name: the crate, the file of its src/, and what they are.
+LISTS = ("spv_extended", "facts.rt", "what extended instructions take (with --extended: D1, D3, D4, D5, Y1, A1, Y9)")
 
 # The enums of the code whose order definitions speak of.
 ORDERS = (
@@ -463,13 +467,17 @@ def orders():
 
 
 def tables():
-    """A line for each table of the code that definitions name, with the number of its rows."""
+    """A line for each table of the code that definitions name, with the number of its rows, and one for the lists."""
     for crate, file, about, pattern in TABLES:
         path = CRATES / crate / "src" / file
         found = re.search(pattern, path.read_text(encoding="utf-8"), re.S)
         if not found:
             raise NotFound(f"{crate}/src/{file} has no table")
         yield f"- `TABLE` of {crate}/src/{file}, {about}: {len(found[1].splitlines())} rows"
+    crate, file, about = LISTS
+    text = (CRATES / crate / "src" / file).read_text(encoding="utf-8")
+    found = [f"`{name}` ({count})" for name, count in re.findall(r"pub static (\w+): \[u32; (\d+)\]", text)]
+    yield f"- {', '.join(found)} of {crate}/src/{file}, {about}"
 
 
 def of_valid():

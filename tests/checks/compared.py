@@ -1,6 +1,7 @@
 """What docs/COMPARED.md says of spirv-val and of the program: both are run on each module that it names.
 
-The page's tables of modules have the module's name first, and then what one program says, or both do.
+The page's tables of modules have the module's name first, and then what one program says, or both do. In one of them
+that is what the program says with `--extended`, and without it the module is valid.
 """
 
 import subprocess
@@ -14,16 +15,20 @@ MODULES = TESTS / "compared"
 KERNEL = TESTS / "modules/smallest-kernel.spvasm"
 # How many lines of a text are its header.
 HEADER = 5
-# The head of each table of modules, and the columns of what the program and what spirv-val say.
+EXTENDED = "--extended"
+# The head of each table of modules, and the columns of what the program says, what it says with --extended, and what
+# spirv-val says. With --extended it says the same where there is no column of it.
 HEADS = {
-    "| Module | What is wrong | spirv-val |": (None, 2),
-    "| Module | Rule | spv |": (2, None),
-    "| Module | spv | spirv-val |": (1, 2),
+    "| Module | What is wrong | spirv-val |": (None, None, 2),
+    "| Module | What is wrong | spv --extended | spirv-val |": (None, 2, 3),
+    "| Module | Rule | spv |": (2, None, None),
+    "| Module | spv | spirv-val |": (1, None, 2),
 }
 
 
 def rows():
-    """The rows of the page: a module's name, the program's line, and what spirv-val says (None: it accepts)."""
+    """The rows of the page: a module's name, the program's lines without --extended and with it, and what spirv-val says
+    (None: it accepts)."""
     columns = None
     for line in PAGE.read_text(encoding="utf-8").splitlines():
         if line in HEADS:
@@ -32,8 +37,10 @@ def rows():
             columns = None
         elif columns and not line.startswith("|---"):
             cells = [cell.strip() for cell in line.strip("|").split("|")]
-            ours, theirs = columns
-            yield cells[0], cells[ours].strip("`") if ours else "valid", cells[theirs] if theirs else None
+            ours, extended, theirs = columns
+            line = cells[ours].strip("`") if ours else "valid"
+            more = cells[extended].strip("`") if extended else line
+            yield cells[0], (line, more), cells[theirs] if theirs else None
 
 
 def said_by_peer(module, folder):
@@ -55,11 +62,12 @@ def as_said(name, ours, theirs, program, folder):
     peer = said_by_peer(module, folder)
     if peer != theirs:
         return f"  spirv-val\n  wanted: {theirs}\n  got:    {peer}"
-    wanted = Answer(f"{ours}\n".encode(), b"", 0 if ours == "valid" else 1)
-    for grammar in ([], ["--grammar", GRAMMAR]):
-        wrong = difference(wanted, run(program, ["check", *grammar, module], folder, env=under()))
-        if wrong:
-            return wrong
+    for flags, line in zip(([], [EXTENDED]), ours):
+        wanted = Answer(f"{line}\n".encode(), b"", 0 if line == "valid" else 1)
+        for grammar in ([], ["--grammar", GRAMMAR]):
+            wrong = difference(wanted, run(program, ["check", *grammar, *flags, module], folder, env=under()))
+            if wrong:
+                return wrong
     return None
 
 

@@ -29,31 +29,39 @@ def sentence_of():
     return dict(sentences(PAGE.read_text(encoding="utf-8")))
 
 
-def difference(program, path, grammar):
-    """None if the verdict on a module is that of `check`, and each line that explains it is true, in full too, else what
-    is not."""
-    verdict = output(program, "check", "--grammar", PROFILE, path).split("\n")[:-1]
+def difference(program, path, grammar, is_extended=False):
+    """None if the verdict on a module is that of `check`, and each line that explains it is true, in full too, else
+    what is not; with the operands of extended instructions or without."""
+    asked = ["--extended"] if is_extended else []
+    verdict = output(program, "check", *asked, "--grammar", PROFILE, path).split("\n")[:-1]
     for flags in ([], ["--full"]):
-        printed = output(program, "explain", *flags, "--grammar", PROFILE, path).split("\n")[:-1]
+        printed = output(program, "explain", *asked, *flags, "--grammar", PROFILE, path).split("\n")[:-1]
         if printed[:1] != verdict:
             return f"  {path.name}: {printed[:1]} and not {verdict}"
-        _, _, wrong = judged(grammar, sentence_of(), path.read_bytes(), printed, bool(flags))
+        _, _, wrong = judged(grammar, sentence_of(), path.read_bytes(), printed, bool(flags), is_extended)
         if wrong:
-            return "\n".join(f"  {path.name} {' '.join(flags)}: {it}" for it in wrong)
+            return "\n".join(f"  {path.name} {' '.join(asked + flags)}: {it}" for it in wrong)
     return None
 
 
-def explained(program, folder):
-    """None if all modules of tests/modules and of texts of cases are explained by true lines."""
-    grammar = grammar_in(PROFILE)
-    paths = sorted((TESTS / "modules").glob("*.spv"))
-    for name, content in written().items():
-        paths.append(folder / f"{name}.spv")
-        paths[-1].write_bytes(content)
-    wrong = [it for it in (difference(program, path, grammar) for path in paths) if it]
-    return "\n".join(wrong) or None
+def explained(is_extended):
+    """The check that all modules of tests/modules and of texts of cases are explained by true lines."""
+
+    def check(program, folder):
+        grammar = grammar_in(PROFILE)
+        paths = sorted((TESTS / "modules").glob("*.spv"))
+        for name, content in written().items():
+            paths.append(folder / f"{name}.spv")
+            paths[-1].write_bytes(content)
+        wrong = [it for it in (difference(program, path, grammar, is_extended) for path in paths) if it]
+        return "\n".join(wrong) or None
+
+    return check
 
 
 def checks():
-    """All modules."""
-    return [Check("explain beside the second reading", LAYERS, explained)]
+    """All modules, without and with the operands of extended instructions."""
+    return [
+        Check("explain beside the second reading", LAYERS, explained(False)),
+        Check("explain beside the second reading, extended", LAYERS, explained(True)),
+    ]

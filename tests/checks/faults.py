@@ -5,6 +5,7 @@ The modules are those of tests/shapes/faults.py, and two of hostile.py, and what
 they are made.
 """
 
+from shapes.faults import EXTENDED
 from shapes.faults import FAULTS as SHAPES
 from shapes.hostile import BESIDE, HOSTILE, WAVES
 from shapes.module import ENTRY, FIRST_FREE, INT, KERNEL, Module
@@ -178,6 +179,20 @@ def misplaced(_):
     return ["at: OpCapability Kernel"]
 
 
+def undefined_argument(insts):
+    return [f"operand: 5 %{insts.operands(-3)[-1]}"]
+
+
+def late_argument(insts):
+    line = "OpExtInst " + ids([INT, insts.operands(-3)[2]]) + " 157 " + ids(insts.operands(-3)[4:])
+    of = insts.operands(-3)[1]
+    return [f"operand: 5 %{of}", f"defined: inst {len(insts.places) - 3}, %{of} = {line}", f"walk: {ids([ENTRY])}"]
+
+
+def miscall(_):
+    return ["number: 157", "operands: 3", "least: 2", "most: 2"]
+
+
 def irreducible_fault(insts):
     of = FIRST + 5
     walk = [ENTRY, FIRST + 2, FIRST + 3, *range(FIRST + 7, insts.operands(-4)[0] + 1, 2)]
@@ -227,7 +242,7 @@ def fault(name, rule, wanted):
         {**SHAPES, **HOSTILE}[name](made)
         module = folder / f"{name}.spv"
         made.write(module)
-        words = ("--grammar", PROFILE, module)
+        words = ("--grammar", PROFILE, *["--extended"] * (name in EXTENDED), module)
         plainly, explained = (measured(program, [command, *words], folder) for command in ("check", "explain"))
         wrong = wrong_lines(rule, wanted(Insts(made)), lines_of(plainly), lines_of(explained))
         if wrong is not None or (plainly.status, explained.status) != (1, 1):
@@ -266,6 +281,9 @@ FAULTS = {
     endless_text: "I8",
     unended: "L2",
     misplaced: "L1",
+    undefined_argument: "D3",
+    late_argument: "A1",
+    miscall: "Y9",
     irreducible_fault: "A1",
     waves_fault: "A1",
 }

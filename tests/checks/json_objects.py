@@ -24,9 +24,12 @@ LAYERS = frozenset(ALL_LAYERS)
 SCHEMA = TESTS.parent / "docs/explain.schema.json"
 TOOLS = frozenset({"jsonschema"})
 JSON = "--json"
+EXTENDED = "--extended"
 JUDGES = ("check", "explain")
 # Members that are told in the line of the verdict or of the sentence, or with another one.
 HEAD = ("file", "verdict", "code", "inst", "word", "rule", "section")
+# A module that is refused with the operands of extended instructions alone.
+INSIDE = TESTS / "modules/inside-of-an-extended-instruction.spv"
 # How many files go into one run.
 BATCH = 100
 
@@ -67,6 +70,11 @@ def result(key):
 def text(key):
     """The function that writes a line of a text or a number."""
     return lambda told, _: [f"{key}: {told}"]
+
+
+def count(key):
+    """The function that writes a line of a count, or that there is none."""
+    return lambda told, _: [f"{key}: {'none' if told is None else told}"]
 
 
 def inst(key):
@@ -141,6 +149,10 @@ LINES = {
     "walk": ids("walk"),
     "calls": ids("calls"),
     "cycle": ids("cycle"),
+    "number": text("number"),
+    "operands": text("operands"),
+    "least": count("least"),
+    "most": count("most"),
 }
 
 
@@ -253,12 +265,11 @@ def judged(program, folder, *words, **how):
     return run(program, words, folder, **{"env": under(GRAMMAR), **how})
 
 
-def same_as_lines(program, folder, names):
-    """Raises where the objects of these files do not say what the lines say."""
-    lines, found = judged(program, folder, "explain", "--full", "-H", *names), judged(
-        program, folder, "explain", JSON, *names
-    )
-    brief = judged(program, folder, "check", JSON, *names)
+def same_as_lines(program, folder, names, *flags):
+    """Raises where the objects of these files do not say what the lines say, with these flags."""
+    lines = judged(program, folder, "explain", "--full", "-H", *flags, *names)
+    found = judged(program, folder, "explain", JSON, *flags, *names)
+    brief = judged(program, folder, "check", JSON, *flags, *names)
     if (lines.err, lines.status) != (found.err, found.status) or (brief.err, brief.status) != (lines.err, lines.status):
         raise Wrong(f"exit statuses or errors differ: {lines.status} {found.status} {brief.status}")
     wholes, briefs = objects(found.out), objects(brief.out)
@@ -275,10 +286,12 @@ def same_as_lines(program, folder, names):
 
 
 def modules_as_lines(program, folder):
-    """Of each module of this folder and of the texts of cases the objects say what the lines say."""
+    """Of each module of this folder and of the texts of cases the objects say what the lines say, with the operands of
+    extended instructions too."""
     paths = paths_of(folder)
     for at in range(0, len(paths), BATCH):
         same_as_lines(program, folder, paths[at : at + BATCH])
+        same_as_lines(program, folder, paths[at : at + BATCH], EXTENDED)
     return None
 
 
@@ -323,10 +336,12 @@ def seldom(folder):
 
 
 def each_code(program, folder):
-    """There is an object of every code that `explain` can answer: W2 to W8, and I1 to G1."""
+    """There is an object of every code that `explain` can answer: W2 to W8, I1 to G1, and Y9."""
     paths, found = paths_of(folder), set()
     for at in range(0, len(paths), BATCH):
-        found |= {it.get("code") for it in objects(judged(program, folder, "check", JSON, *paths[at : at + BATCH]).out)}
+        for flags in ([], [EXTENDED]):
+            told = judged(program, folder, "check", JSON, *flags, *paths[at : at + BATCH]).out
+            found |= {it.get("code") for it in objects(told)}
     others = list(seldom(folder))
     told = objects(judged(program, folder, "explain", JSON, *others, env=under()).out)
     lines = parts_of(judged(program, folder, "explain", "--full", "-H", *others, env=under()).out, others)
@@ -462,7 +477,8 @@ def errors(program, folder):
 
 
 def among_options(program, folder):
-    """Names before verdicts are asked for in vain; `--quiet` writes nothing; `--as-1.6` and `--grammar` go with it."""
+    """Names before verdicts are asked for in vain; `--quiet` writes nothing; `--as-1.6`, `--extended` and `--grammar` go
+    with it."""
     placed(folder, a=KERNEL.read_bytes(), b=BROKEN.read_bytes())
     content = KERNEL.read_bytes()
     (folder / "old.spv").write_bytes(content[:4] + struct.pack("<I", 0x00010000) + content[8:])
@@ -478,6 +494,9 @@ def among_options(program, folder):
             return wrong or f"  {command} --as-1.6: {found}"
         if objects(judged(program, folder, command, JSON, "old.spv").out)[0]["code"] != "W5":
             return f"  {command}: of another version"
+        inside = [objects(judged(program, folder, command, JSON, *it, INSIDE).out)[0] for it in ([], [EXTENDED])]
+        if [it.get("code") for it in inside] != [None, "D1"]:
+            return f"  {command}: {inside}"
     alone = judged(program, folder, "explain", "--full", JSON, "b.spv")
     return difference(judged(program, folder, "explain", JSON, "b.spv"), alone)
 

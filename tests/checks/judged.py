@@ -9,8 +9,10 @@ import sys
 from reading.conditions import WORDS
 from reading.decode import Grammar
 from reading.judge import judged
+from shapes.changes import with_extended
 
 from . import typed
+from .cases import written
 from .common import LAYERS, TESTS, Check
 from .ruled import PAGE, sentences
 
@@ -21,9 +23,9 @@ COUNT, SEED = 600, 20_261_126
 SECONDS = 600
 
 
-def answers(program, grammar, paths):
-    """The lines that the program writes of each file, and what it writes on standard error."""
-    given = [str(program), "explain", "--with-filename", "--grammar", str(grammar), *map(str, paths)]
+def answers(program, grammar, paths, *flags):
+    """The lines that the program writes of each file, with these flags, and what it writes on standard error."""
+    given = [str(program), "explain", *flags, "--with-filename", "--grammar", str(grammar), *map(str, paths)]
     ended = subprocess.run(given, stdout=subprocess.PIPE, stderr=subprocess.PIPE, timeout=SECONDS, check=False)
     found, begins = {path: [] for path in paths}, {f"{path}: ": path for path in paths}
     now = []
@@ -84,15 +86,25 @@ def spoiled(lines):
             yield line, lines[:at] + lines[at + 1 :]
 
 
+def calling(folder):
+    """The modules of cases that have an extended instruction, written into a folder."""
+    found = written()
+    paths = {folder / f"{name}.spv": found[name] for name in with_extended(found)}
+    for path, content in paths.items():
+        path.write_bytes(content)
+    return list(paths)
+
+
 def seen(program, folder):
     """None if the judge sees that a line of an answer has another number, is left out or stands twice."""
     grammar = Grammar(json.loads(PROFILE.read_text(encoding="utf-8")))
     sentence_of = dict(sentences(PAGE.read_text(encoding="utf-8")))
-    paths, wrong = sorted((TESTS / "modules").glob("*.spv"))[::8], []
-    for path, lines in answers(program, PROFILE, paths)[0].items():
-        for line, other in spoiled(lines):
-            if not judged(grammar, sentence_of, path.read_bytes(), other)[2]:
-                wrong.append(f"  {path.name}: {line}")
+    wrong = []
+    for flags, paths in (([], sorted((TESTS / "modules").glob("*.spv"))[::8]), (["--extended"], calling(folder))):
+        for path, lines in answers(program, PROFILE, paths, *flags)[0].items():
+            for line, other in spoiled(lines):
+                if not judged(grammar, sentence_of, path.read_bytes(), other, False, bool(flags))[2]:
+                    wrong.append(f"  {path.name}: {line}")
     return "\n".join(wrong) or None
 
 

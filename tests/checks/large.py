@@ -17,6 +17,9 @@ SHAPES = {
     **dict.fromkeys(
         (
             "straight",
+            "maths",
+            "printfs",
+            "many-sets",
             "nops",
             "constants",
             "texts",
@@ -54,10 +57,12 @@ SHAPES = {
     "deep": OUTSIDE,
     "masks": OUTSIDE,
 }
+# Those that are checked with the operands of extended instructions too.
+EXTENDED = ("straight", "functions", "maths", "printfs", "many-sets")
 
 
-def large(shape, wanted):
-    """The check of a module of this shape, and what it must answer."""
+def large(shape, wanted, *flags):
+    """The check of a module of this shape, by `check` with these flags, and what it must answer."""
 
     def check(program, folder):
         generate = [sys.executable, str(TESTS / "generate"), str(folder), shape]
@@ -66,7 +71,7 @@ def large(shape, wanted):
         own = folder / f"{shape}.json"
         grammar = own if own.exists() else TESTS / "profile.json"
         size = module.stat().st_size
-        got = measured(program, ["check", "--grammar", grammar, module], folder)
+        got = measured(program, ["check", *flags, "--grammar", grammar, module], folder)
         module.unlink()
         if got.out != wanted or got.status != (0 if wanted == VALID else 1):
             return f"  {got.out!r}, exit {got.status}, and not {wanted!r}"
@@ -80,4 +85,5 @@ def large(shape, wanted):
 def checks():
     """All shapes, each under the profile or a grammar of its own. They need layout and ids."""
     layers = frozenset({"layout", "ids"})
-    return [Check(f"large: {shape}", layers, large(shape, SHAPES[shape])) for shape in SHAPES]
+    found = [Check(f"large: {shape}", layers, large(shape, wanted)) for shape, wanted in SHAPES.items()]
+    return found + [Check(f"large: {shape}, extended", layers, large(shape, VALID, "--extended")) for shape in EXTENDED]

@@ -14,7 +14,7 @@ from .common import TESTS, Check, Unusable, joined
 
 TOP = TESTS.parent
 SECONDS = 900
-CRATE = "lent: spv_words spv_grammar spv_inst\n"
+CRATE = "lent: spv_words spv_builtin spv_inst\n"
 ERROR = re.compile(r"^(\S+?):(\d+):\d+: error\[(\S+)\]", re.MULTILINE)
 MOVED_WHILE_BORROWED = "borrow-e0505"
 

@@ -154,7 +154,7 @@ def threads_watched(_program, folder):
 def has_call(case):
     """Whether the library has a call for the run of a case."""
     is_there = layers_of(case.one("layer")) <= layers_that_stand()
-    form = r"((check|explain|show) --grammar G|asm --grammar G --out O( --big)?) F"
+    form = r"((check|explain)( --extended)? --grammar G|show --grammar G|asm --grammar G --out O( --big)?) F"
     return is_there and re.fullmatch(form, case.one("run"))
 
 
@@ -178,8 +178,8 @@ def every_explanation(program, folder):
     made = built(folder, "program")
     for case in chosen_cases():
         with tempfile.TemporaryDirectory(dir=folder) as place:
-            words = ["explain", *laid_out(case, Path(place))[1:3], Path(place) / "F"]
-            if case.one("run").startswith("asm") or not words[-1].exists():
+            words = ["explain", *laid_out(case, Path(place))[1:]]
+            if case.one("run").startswith("asm") or not Path(words[-1]).exists():
                 continue
             wrong = difference(*(run(it, words, Path(place)) for it in (program, made)))
         if wrong is not None:
@@ -196,8 +196,8 @@ def every_object(program, folder):
     made = built(folder, "program")
     for case in chosen_cases():
         with tempfile.TemporaryDirectory(dir=folder) as place:
-            words = ["explain", *laid_out(case, Path(place))[1:3], "--json", Path(place) / "F"]
-            if case.one("run").startswith("asm") or not words[-1].exists():
+            words = ["explain", "--json", *laid_out(case, Path(place))[1:]]
+            if case.one("run").startswith("asm") or not Path(words[-1]).exists():
                 continue
             own, told = (run(it, words, Path(place)) for it in (made, program))
         if (own.status, own.err) != (told.status, told.err):
@@ -348,7 +348,7 @@ def header_calls():
     header = HEADER.read_text(encoding="utf-8")
     made = set(re.findall(r"^static inline .*?\b(spvk_\w+)\(", header, re.MULTILINE))
     raw = set(re.findall(r"^(?:\w+ )+\**(spvk_raw_\w+)\(", header, re.MULTILINE))
-    return made - {"spvk_some_bytes", "spvk_told_by"}, raw
+    return made - {"spvk_some_bytes", "spvk_shown_by", "spvk_told_by"}, raw
 
 
 def shown_page(_program, folder):

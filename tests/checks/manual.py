@@ -378,7 +378,7 @@ def examples_run(program, folder):
     (place / "modules/b.spv").write_bytes(b"123")
     got, status = run_block(script, place, environment(program, folder))
     again = place / "again.spv"
-    first = b"modules/b.spv: fault W2\nvalid\nvalid\nA1: "
+    first = b"modules/b.spv: fault W2\nvalid\nvalid\nvalid\nA1: "
     fine = status == 0 and got.startswith(first) and got.endswith(b"end finished\n")
     are_made = again.is_file() and again.read_bytes() == kernel and (place / "spirv.json").is_file()
     if fine and len(blocks) >= 6 and are_made:

@@ -10,16 +10,22 @@ COUNT = 300
 SECONDS = 600
 
 
-def compared(program, _folder):
-    """None if the two say the same, and explain it alike, of every module of tests/modules, of those of the table of types,
-    and of some changed ones."""
-    words = [sys.executable, str(COMPARE), "--program", str(program), "--count", str(COUNT), "--explain"]
-    ended = subprocess.run(
-        words, stdout=subprocess.PIPE, stderr=subprocess.STDOUT, timeout=SECONDS, check=False
-    )
-    return None if ended.returncode == 0 else f"  {ended.stdout.decode(errors='replace')}"
+def compared(*flags):
+    """The check that the two say the same, and explain it alike, of every module of tests/modules, of those of the
+    table of types, and of some changed ones."""
+    words = [sys.executable, str(COMPARE), "--count", str(COUNT), "--explain", *flags]
+
+    def check(program, _folder):
+        given = [*words, "--program", str(program)]
+        ended = subprocess.run(given, stdout=subprocess.PIPE, stderr=subprocess.STDOUT, timeout=SECONDS, check=False)
+        return None if ended.returncode == 0 else f"  {ended.stdout.decode(errors='replace')}"
+
+    return check
 
 
 def checks():
-    """One check of all modules."""
-    return [Check("second reading", frozenset({"first path"}), compared)]
+    """One check of all modules, and one with the operands of extended instructions."""
+    return [
+        Check("second reading", frozenset({"first path"}), compared()),
+        Check("second reading, extended", frozenset({"first path"}), compared("--extended")),
+    ]

@@ -11,7 +11,7 @@ import shutil
 import struct
 import subprocess
 
-from shapes.faults import FAULTS
+from shapes.faults import EXTENDED, FAULTS
 from shapes.module import Module
 
 from .cases import all_cases, laid_out, wanted_answer
@@ -98,7 +98,8 @@ def explained(name, folder):
         FAULTS[name](made)
         module = folder / f"{name}.spv"
         made.write(module)
-    return ["explain", "--grammar", TESTS / "profile.json", module]
+    flags = ["--extended"] if name in EXTENDED else []
+    return ["explain", *flags, "--grammar", TESTS / "profile.json", module]
 
 
 def growths_of_grammar(program, folder):

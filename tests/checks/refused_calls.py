@@ -18,6 +18,7 @@ from .usage import BROKEN, GRAMMAR, KERNEL, TEXT, under
 
 LAYERS = frozenset(ALL_LAYERS)
 THIN = TESTS / "grammars/thin.json"
+INSIDE = TESTS / "modules/inside-of-an-extended-instruction.spv"
 OLD = "old.spv"
 GROWTH, OPEN, READ, WRITE = "growth", "open", "read", "write"
 # What a refused call is told as.
@@ -54,6 +55,8 @@ LINES = [
     line("check", "-", calls=[READ, WRITE], given="kernel.spv"),
     line("check", "--as-1.6", OLD),
     line("check", "-H", "--as-1.6", OLD, names=(OLD,)),
+    line("check", "--extended", "inside.spv"),
+    line("explain", "--json", "--extended", "inside.spv", names=("inside.spv",)),
     line("check", "--no-filename", "kernel.spv", "broken.spv", names=("kernel.spv", "broken.spv")),
     line("check", "kernel.spv", "broken.spv", names=("kernel.spv", "broken.spv")),
     line("check", "--quiet", "broken.spv", calls=[OPEN, READ]),
@@ -79,6 +82,7 @@ LINES = [
     line("graph", "--function", 10, "broken.spv"),
     line("graph", "-", calls=[READ, WRITE], given="kernel.spv"),
     line("trace", "--as-1.6", "--function", 3, "--limit", 9, OLD),
+    line("trace", "--extended", "--function", 3, "--limit", 9, KERNEL),
     line("asm", "--out", MADE, TEXT),
     line("asm", "--out", MADE, "text", calls=[OPEN, READ, WRITE]),
     line("asm", "--out", "./text", "text", calls=[WRITE]),
@@ -105,6 +109,7 @@ def laid_out(folder):
     kernel = KERNEL.read_bytes()
     (folder / "kernel.spv").write_bytes(kernel)
     (folder / "broken.spv").write_bytes(BROKEN.read_bytes())
+    (folder / "inside.spv").write_bytes(INSIDE.read_bytes())
     (folder / OLD).write_bytes(kernel[:4] + struct.pack("<I", 0x00010200) + kernel[8:])
     (folder / "text").write_bytes(TEXT.read_bytes())
     (folder / "faulty").write_bytes(TEXT.read_bytes().replace(b"Physical64", b"Physical65"))

@@ -9,6 +9,9 @@ import re
 from dataclasses import dataclass
 from typing import List
 
+from shapes.changes import with_extended
+
+from . import cases
 from .common import LAYERS as ALL_LAYERS
 from .common import TESTS, Answer, Check, difference, run
 
@@ -17,7 +20,7 @@ SENTENCES = ["Code", "Rule"]
 MEANINGS = ("Meaning", "Broken where")
 LINES = ["Key", "Code", "Text"]
 GRAMMAR = TESTS / "profile.json"
-# Keys that come with no module of tests/modules.
+# Keys that come with none of these modules.
 SELDOM = ("bit", "opcode", "row")
 BELOW = "see below"
 OPERATIONS = "each operation asks for its own: docs/PROFILE.md has the table of operations"
@@ -107,14 +110,25 @@ def is_among(code, cell):
     return False
 
 
+def explained(folder):
+    """The modules of tests/modules, and those of cases that have an extended instruction, which are explained with its
+    operands: each with the flags for that."""
+    yield from (([], path) for path in sorted((TESTS / "modules").glob("*.spv")))
+    contents = cases.written()
+    for name in with_extended(contents):
+        path = folder / f"{name}.spv"
+        path.write_bytes(contents[name])
+        yield ["--extended"], path
+
+
 def keyed(program, folder):
-    """None if the keys of the lines that explain the modules of tests/modules are those of the page, both ways."""
+    """None if the keys of the lines that explain modules are those of the page, both ways."""
     text = PAGE.read_text(encoding="utf-8")
     rows = next(table.rows for table in tables(text) if table.columns == LINES)
     wanted = {key: codes for keys, codes, _ in rows for key in keys.split(", ")}
     found, wrong = set(), []
-    for path in sorted((TESTS / "modules").glob("*.spv")):
-        lines = run(program, ["explain", "--grammar", GRAMMAR, path], folder).out.decode().split("\n")[:-1]
+    for flags, path in explained(folder):
+        lines = run(program, ["explain", *flags, "--grammar", GRAMMAR, path], folder).out.decode().split("\n")[:-1]
         code = lines[0].split(" ")[1] if lines[1:] else ""
         keys = {line.split(": ")[0].rstrip(":") for line in lines[1:]}
         found |= keys

@@ -1,18 +1,23 @@
-"""Small modules of random blocks, phis and calls, whose values may be missing and whose calls may go round."""
+"""Small modules of random blocks, phis, calls and extended instructions, whose values may be missing and whose calls
+may go round."""
 
 import struct
 
+from reading import extended
 from shapes.module import FUNCTION_TYPE, INT, KERNEL, ONE, TRUE, TWO, VOID, Module, opened
 
 MOST_WORDS = 20_000
+SETS = ("OpenCL.std", "OpenCL.DebugInfo.100", "OpenCL.other")
+# Ids and literals that are seldom right.
+ODD = (0, 4, 4_194_303, 4_000_000_000)
 
 
 class Body:
     """A function in the making: its blocks with their targets, and the ids of the values that they define."""
 
-    def __init__(self, module, chance, function, callees, often):
+    def __init__(self, module, chance, function, callees, sets, often):
         self.module, self.chance, self.function, self.callees = module, chance, function, callees
-        self.often = often
+        self.sets, self.often = sets, often
         self.labels = [module.fresh() for _ in range(chance.randrange(1, 12))]
         self.targets = [self.some_targets(at) for at in range(len(self.labels))]
         self.values = [[module.fresh() for _ in range(chance.randrange(3))] for _ in self.labels]
@@ -41,6 +46,27 @@ class Body:
         pairs = [word for parent in parents for word in (self.value(), parent)]
         self.module.put(245, INT, self.module.fresh(), *pairs)
 
+    def behind(self, name, kinds):
+        """A word for each operand of an extended instruction: a value of OpenCL.std, any id of another set, any
+        literal; seldom something else."""
+        for at in range(len(kinds)):
+            if self.chance.random() < 0.01 or not extended.is_id(kinds, at):
+                yield self.chance.choice((*ODD, *self.labels, self.module.next))
+            elif name == extended.OPENCL:
+                yield self.value()
+            else:
+                yield self.chance.choice((INT, self.function, *self.labels))
+
+    def put_extended(self):
+        """An extended instruction, most often one of its set with as many operands as it takes."""
+        own, name = self.chance.choice(self.sets)
+        known = extended.sets().get(name, {})
+        number = self.chance.choice(sorted(known) or ODD)
+        kinds = list(known.get(number, ["IdRef"] * self.chance.randrange(3)))
+        if self.chance.random() < 0.05:
+            number, kinds = self.chance.choice((number, 111)), kinds[1:] or ["IdRef"]
+        self.module.put(extended.EXTENDED, INT, self.module.fresh(), own, number, *self.behind(name, kinds))
+
     def put_end(self, at):
         """A terminator with the block's targets."""
         labels = [self.labels[target] for target in self.targets[at]]
@@ -63,6 +89,8 @@ class Body:
                 self.put_phi(at)
             for value in self.values[at]:
                 self.module.put(128, INT, value, self.value(), self.value())
+            if self.sets and self.chance.random() < 0.5:
+                self.put_extended()
             if self.callees and self.chance.random() < 0.2:
                 self.module.put(57, VOID, self.module.fresh(), self.chance.choice(self.callees))
             self.put_end(at)
@@ -72,12 +100,13 @@ class Body:
 def tangle(chance):
     """The bytes of such a module."""
     module = Module(MOST_WORDS)
-    opened(module)
+    sets = [(module.fresh(), name) for name in chance.choices(SETS, k=chance.randrange(4))]
+    opened(module, sets=sets)
     callees = [module.fresh() for _ in range(chance.randrange(8))]
     functions = [KERNEL, *callees]
     chance.shuffle(functions)
     often = chance.choice((0.0, 0.01, 0.1, 0.3))
     for function in functions:
-        Body(module, chance, function, callees, often).put()
+        Body(module, chance, function, callees, sets, often).put()
     module.words[3] = module.next
     return struct.pack(f"<{len(module.words)}I", *module.words)

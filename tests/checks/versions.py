@@ -24,6 +24,8 @@ VERSION_FAULT = b"fault W5\n"
 COMMANDS = ("check", "explain", "show", "annotate", "graph", "trace")
 EXAMPLES = ("smallest-kernel", "smallest-kernel-big-order", "value-missing-on-one-branch", "call-of-a-later-function")
 REAL = TESTS / "real"
+# How many modules the kernels there are, at both levels.
+KERNELS = 22
 
 
 def order_of(content):
@@ -229,11 +231,12 @@ def compiled(source, level, folder):
 
 
 def real_kernels(program, folder):
-    """The modules of tests/real, as llvm-spirv writes them, with the flag: valid, and as with the version replaced."""
+    """The modules of tests/real, as llvm-spirv writes them, with the flag: valid, with the operands of extended
+    instructions too, and as with the version replaced."""
     made = [compiled(it, level, folder) for it in sorted(REAL.glob("*.cl")) for level in ("O0", "O2")]
     names = [it.name for it in made]
     older = [it for it in made if it.read_bytes()[4:8] != struct.pack("<I", WANTED)]
-    if len(made) != 16 or not older:
+    if len(made) != KERNELS or not older:
         return f"  {len(made)} modules, {len(older)} of them of another version than 1.6"
     place = folder / "replaced"
     place.mkdir()
@@ -241,10 +244,11 @@ def real_kernels(program, folder):
         (place / path.name).write_bytes(of_version(path.read_bytes(), WANTED))
     wanted = Answer(lines(*(f"{name}: valid" for name in names)), b"", 0)
     for grammar in ([], ["--grammar", KHRONOS]):
-        wrong = difference(wanted, run(program, ["check", *grammar, FLAG, *names], folder, env=under()))
-        wrong = wrong or difference(wanted, run(program, ["check", *grammar, *names], place, env=under()))
-        if wrong:
-            return wrong
+        for more in ([], ["--extended"]):
+            wrong = difference(wanted, run(program, ["check", *grammar, *more, FLAG, *names], folder, env=under()))
+            wrong = wrong or difference(wanted, run(program, ["check", *grammar, *more, *names], place, env=under()))
+            if wrong:
+                return wrong
     for name in names:
         got = [run(program, ["show", *it, name], at, env=under()) for it, at in (([FLAG], folder), ([], place))]
         wrong = difference(*got)

@@ -4,6 +4,7 @@ from collections import defaultdict
 from functools import cached_property
 
 from .decode import Broken, instructions, words_of
+from .extended import check_miscalls, opened
 from .flow import bodies, check_flow
 from .order import SHAPE_OF, Places, check_ids, check_layout, check_shapes, uses_by
 from .text import Text, visible
@@ -35,11 +36,12 @@ def open_at(insts, number):
 
 
 class Facts:
-    """A module: its words and instructions as far as they can be read, and what the stages that it passes tell. `broken`
-    is its first fault, None where it is valid."""
+    """A module: its words and instructions as far as they can be read, and what the stages that it passes tell.
+    `broken` is its first fault, None where it is valid. Where the operands of extended instructions are looked at, the
+    instructions are the opened ones, and the texts of them those that words spell."""
 
-    def __init__(self, grammar, content):
-        self.grammar, self.content = grammar, content
+    def __init__(self, grammar, content, is_extended=False):
+        self.grammar, self.content, self.is_extended = grammar, content, is_extended
         self.words, self.insts, self.broken = (), [], None
         try:
             self.read()
@@ -50,6 +52,7 @@ class Facts:
         """Goes through the stages, up to the one that a rule breaks."""
         self.words = words_of(self.content)
         self.insts = self.decoded()
+        self.insts = opened(self.insts) if self.is_extended else self.insts
         check_shapes(self.insts)
         check_layout(self.insts)
         self.places = Places(self.insts)
@@ -58,6 +61,8 @@ class Facts:
         self.types = Types(self.grammar, self.insts, self.first, self.places)
         check_types(self.grammar, self.insts, self.first, self.places)
         check_flow(self.insts, local)
+        if self.is_extended:
+            check_miscalls(self.insts)
 
     def decoded(self):
         """The instructions. Where one is refused those before it are kept."""
@@ -108,6 +113,13 @@ class Facts:
         inst = self.insts[number]
         roles = uses_by(SHAPE_OF[inst.opcode], inst.operands)
         return {at: (it[1], role) for at, (it, role) in enumerate(zip(inst.operands, roles)) if role}
+
+    def named(self, number):
+        """The operands of an instruction that must be in range and defined, uses and mentions: of the number of each
+        the id."""
+        used = {at: of for at, (of, _) in self.uses(number).items()}
+        mentioned = {at: it[1] for at, it in enumerate(self.insts[number].operands) if it[0] == "Mention"}
+        return {**used, **mentioned}
 
     def definition(self, of):
         """The first instruction that has an id as its result."""

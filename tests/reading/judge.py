@@ -7,7 +7,7 @@ short), any of them will do.
 import re
 from collections import deque
 
-from . import conditions
+from . import conditions, extended
 from .facts import FUNCTION, FUNCTION_END, LABEL, Facts, open_at
 from .flow import CALL, TOLD, ToldOfTargets, targets
 from .order import BEGIN, MOST_NAMES, after, kind_of, may_come, may_end, row_text
@@ -39,7 +39,7 @@ FORMS = {
     "Y6": f"{PLACE}(place|parameter);(type;)?wanted;found;",
     "Y7": f"{PLACE}place;wanted;found;",
     "Y8": f"{PLACE}(place|argument);(type;)?wanted;found;",
-    **{codes: f"{PLACE}{form}" for codes, form in TOLD.items()},
+    **{codes: f"{PLACE}{form}" for codes, form in {**TOLD, **extended.TOLD}.items()},
     "A1 A2": f"{PLACE}operand;defined;walk;",
     "G1": f"{PLACE}calls;cycle;",
 }
@@ -67,7 +67,7 @@ def length(start, goal, following):
     return None
 
 
-class Judge(ToldOfTargets):
+class Judge(ToldOfTargets, extended.ToldOfCalls):
     """The lines of one fault, in full or not. A method of the name of a key says whether a line with that key is true."""
 
     def __init__(self, facts, sentences, lines, is_full):
@@ -299,10 +299,10 @@ class Judge(ToldOfTargets):
 
     def fails_D1(self, at):
         sort, of = self.inst.operands[at][:2]
-        return (sort == "Result" or at in self.facts.uses(self.number)) and not 1 <= of < self.facts.bound
+        return (sort == "Result" or at in self.facts.named(self.number)) and not 1 <= of < self.facts.bound
 
     def fails_D3(self, at):
-        return self.facts.uses(self.number)[at][0] not in self.facts.first
+        return self.facts.named(self.number)[at] not in self.facts.first
 
     def fails_D4(self, at):
         facts, of = self.facts, self.facts.uses(self.number)[at][0]
@@ -594,9 +594,10 @@ class Judge(ToldOfTargets):
         return first == self.caller() and self.is_chain(steps, {callee}, first)
 
 
-def judged(grammar, sentences, content, lines, is_full=False):
-    """What is untrue in the lines that `explain` writes of a module, in full or not, and its facts."""
-    facts = Facts(grammar, content)
+def judged(grammar, sentences, content, lines, is_full=False, is_extended=False):
+    """What is untrue in the lines that `explain` writes of a module, in full or not, with the operands of extended
+    instructions or without, and its facts."""
+    facts = Facts(grammar, content, is_extended)
     verdict = facts.broken.line if facts.broken else "valid"
     if lines[:1] != [verdict]:
         return facts, [], [f"{lines[:1]}, and not {verdict}"]

@@ -75,6 +75,9 @@ SHAPES = (
 )
 SORTS = {"T": "Type", "R": "Result", "W": "Word", "N": "Number", "S": "Text"}
 ROLES = dict(zip("tvfselgacm", "type value function string set label global any value value".split()))
+# The sorts of the operands behind the number of an OpExtInst: where they are looked at, those of OpenCL.std are
+# arguments, which are used as values, and those of any other set mentions, which are no uses.
+UNSEEN = ("Id", "Argument", "Mention")
 LINES = (8, 317)
 ENDS = (249, 250, 251, 253, 254, 255)
 SECTIONS = (
@@ -130,9 +133,18 @@ def letter(operand, wanted):
     """Whether an operand is what one word of a shape asks for."""
     if wanted in SORTS:
         return operand[0] == SORTS[wanted]
+    if wanted == "x":
+        return operand[0] in UNSEEN
     if len(wanted) == 1:
         return operand[0] == "Id"
     return operand[0] in ("Value", "Mask") and operand[1] == wanted.rstrip("+")
+
+
+def role_of(wanted, operand):
+    """The role of an operand that one word of a shape asks for, None where it is no use."""
+    if wanted == "x":
+        return "value" if operand[0] == "Argument" else None
+    return "type" if wanted == "T" else ROLES.get(wanted)
 
 
 def uses_by(shape, operands):
@@ -145,7 +157,7 @@ def uses_by(shape, operands):
             now = operands[at : at + len(words)]
             if len(now) < len(words) or not all(map(letter, now, words)):
                 break
-            roles += ["type" if it == "T" else ROLES.get(it) for it in words]
+            roles += map(role_of, words, now)
             at, took = at + len(words), True
         if not took and not is_optional:
             return None
@@ -161,6 +173,12 @@ def uses(inst):
     """The ids that an instruction uses, each with its role."""
     roles = uses_by(SHAPE_OF[inst.opcode], inst.operands)
     return [(it[1], role) for it, role in zip(inst.operands, roles) if role]
+
+
+def mentions(inst):
+    """The ids that an instruction mentions: those of an extended instruction of a set that is not OpenCL.std, where
+    they are looked at."""
+    return [it[1] for it in inst.operands if it[0] == "Mention"]
 
 
 def check_shapes(insts):
@@ -310,13 +328,13 @@ def check_ids(insts, bound):
                 local[result].add(function)
     pointed = {}
     for number, inst in enumerate(insts):
-        named = [it for it, _ in uses(inst)]
+        named, mentioned = [it for it, _ in uses(inst)], mentions(inst)
         own = [inst.result] if inst.result is not None else []
-        if any(not 1 <= it < bound for it in chain(own, named)):
+        if any(not 1 <= it < bound for it in chain(own, named, mentioned)):
             raise Broken("D1", number, inst.word)
         if own and definitions[inst.result][0] < number:
             raise Broken("D2", number, inst.word)
-        if any(not definitions[it] for it in named):
+        if any(not definitions[it] for it in chain(named, mentioned)):
             raise Broken("D3", number, inst.word)
         for at, it in enumerate(named):
             is_ahead = inst.opcode == 39 or inst.opcode == 30 and pointed.get(it, number) < number

@@ -3,6 +3,7 @@
 import json
 
 from .decode import Broken, Grammar, instructions, words_of
+from .extended import check_miscalls, opened
 from .flow import check_flow
 from .order import check_ids, check_layout, check_shapes
 from .types import check_types
@@ -13,11 +14,13 @@ def grammar_in(path):
     return Grammar(json.loads(path.read_text(encoding="utf-8")))
 
 
-def verdict(grammar, content, has_types=True, has_flow=True):
-    """The verdict line on a module, without its line feed, with or without the last stages."""
+def verdict(grammar, content, has_types=True, has_flow=True, is_extended=False):
+    """The verdict line on a module, without its line feed, with or without the last stages, and with the operands of
+    extended instructions or without."""
     try:
         words = words_of(content)
         insts = instructions(grammar, words)
+        insts = opened(insts) if is_extended else insts
         check_shapes(insts)
         check_layout(insts)
         definitions, places, local = check_ids(insts, words[3])
@@ -25,6 +28,8 @@ def verdict(grammar, content, has_types=True, has_flow=True):
             check_types(grammar, insts, definitions, places)
         if has_flow:
             check_flow(insts, local)
+        if is_extended:
+            check_miscalls(insts)
     except Broken as broken:
         return broken.line
     return "valid"

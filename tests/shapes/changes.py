@@ -6,6 +6,7 @@ import struct
 from checks import typed
 from checks.cases import written
 from checks.common import TESTS
+from reading.extended import EXTENDED
 
 LONGEST = 4_000
 
@@ -28,6 +29,13 @@ def others_of(sound):
     """Of some modules those in little order, whose words are whole, and all their instructions."""
     little = {name: it for name, it in sound.items() if it[:4] == b"\3\2\x23\7" and len(it) % 4 == 0}
     return little, [inst for it in little.values() for inst in split(words_in(it))]
+
+
+def with_extended(little):
+    """Of modules in little order the names of those that have an extended instruction."""
+    return sorted(
+        name for name, it in little.items() if any(inst[0] & 0xFFFF == EXTENDED for inst in split(words_in(it)))
+    )
 
 
 def split(words):

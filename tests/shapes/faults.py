@@ -1,4 +1,5 @@
-"""Modules that each break one rule, far from what breaks it."""
+"""Modules that each break one rule, far from what breaks it; the last three only where the operands of extended
+instructions are looked at."""
 
 from .module import (
     BOOL,
@@ -16,6 +17,7 @@ from .module import (
     opened,
     text_words,
 )
+from .sound import put_maths
 
 
 def missing(module):
@@ -332,6 +334,29 @@ def misplaced(module):
     module.put(17, 6)
 
 
+def undefined_argument(module):
+    """D3: very many extended instructions, and one of an id that nothing defines."""
+    std, value = put_maths(module)
+    result, unknown = module.fresh(), module.fresh()
+    module.put(12, INT, result, std, 157, value, unknown)
+    closed(module)
+
+
+def late_argument(module):
+    """A1: very many extended instructions, and one of its own result."""
+    std, value = put_maths(module)
+    result = module.fresh()
+    module.put(12, INT, result, std, 157, value, result)
+    closed(module)
+
+
+def miscall(module):
+    """Y9: very many extended instructions, and one of an operand too many."""
+    std, value = put_maths(module)
+    module.put(12, INT, module.fresh(), std, 157, value, value, ONE)
+    closed(module)
+
+
 FAULTS = {
     fault.__name__.replace("_", "-"): fault
     for fault in (
@@ -358,5 +383,10 @@ FAULTS = {
         endless_text,
         unended,
         misplaced,
+        undefined_argument,
+        late_argument,
+        miscall,
     )
 }
+# Those that break their rule only by `--extended`.
+EXTENDED = ("undefined-argument", "late-argument", "miscall")

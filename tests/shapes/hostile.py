@@ -1,4 +1,4 @@
-"""Modules whose blocks, calls or types are hostile to a checker, sound or with one fault."""
+"""Modules whose blocks, calls, types or extended instructions are hostile to a checker, sound or with one fault."""
 
 import random
 from dataclasses import dataclass
@@ -6,7 +6,21 @@ from itertools import product
 from typing import Optional
 
 from .graphs import immediate_dominators, random_targets
-from .module import ENTRY, FUNCTION_TYPE, INT, KERNEL, ONE, TRUE, TWO, VOID, closed, kernel, opened, text_words
+from .module import (
+    ENTRY,
+    FUNCTION_TYPE,
+    INT,
+    KERNEL,
+    LONGEST,
+    ONE,
+    TRUE,
+    TWO,
+    VOID,
+    closed,
+    kernel,
+    opened,
+    text_words,
+)
 
 SEED = 20_261_126
 # The words of an OpLabel, an OpIAdd and an OpBranch.
@@ -489,6 +503,28 @@ def random_fault(module):
     random_function(module, random.Random(SEED), min(100_000, module.most // RANDOM_BLOCK), has_fault=True)
 
 
+def printfs(module):
+    """Calls of printf of as many values as an instruction holds."""
+    std = module.fresh()
+    opened(module, sets=[(std, "OpenCL.std")])
+    kernel(module)
+    while module.room() > 64:
+        count = min(LONGEST - 5, module.room() - 32)
+        module.put(12, INT, module.fresh(), std, 184, *[ONE] * count)
+    closed(module)
+
+
+def many_sets(module):
+    """Very many sets that are imported, and an extended instruction of each."""
+    most = module.room() // 11
+    own = [(module.fresh(), ("OpenCL.std", "DebugInfo", "x")[at % 3]) for at in range(most)]
+    opened(module, sets=own)
+    kernel(module)
+    for of, name in own:
+        module.put(12, INT, module.fresh(), of, 61 if name == "OpenCL.std" else 23, ONE)
+    closed(module)
+
+
 HOSTILE = {
     shape.__name__.replace("_", "-"): shape
     for shape in (
@@ -508,5 +544,7 @@ HOSTILE = {
         chosen_types,
         random_blocks,
         random_fault,
+        printfs,
+        many_sets,
     )
 }

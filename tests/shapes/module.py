@@ -47,10 +47,18 @@ def text_words(text):
     return [int.from_bytes(octets[at : at + 4], "little") for at in range(0, len(octets), 4)]
 
 
-def opened(module, after_entry=lambda module: None):
-    """Begins a module: all up to the declarations that every shape has."""
+def imported(module, own, name):
+    """Imports a set of extended instructions for an id."""
+    module.put(11, own, *text_words(name))
+
+
+def opened(module, after_entry=lambda module: None, sets=()):
+    """Begins a module: all up to the declarations that every shape has, and imports of sets of extended instructions,
+    each an id and a name."""
     module.put(17, 4)
     module.put(17, 6)
+    for own, name in sets:
+        imported(module, own, name)
     module.put(14, 2, 2)
     module.put(15, 6, KERNEL, *text_words("k"))
     after_entry(module)

@@ -45,6 +45,30 @@ def straight(module):
     closed(module)
 
 
+# Instructions of OpenCL.std by their numbers, with as many operands: u_abs, u_max and u_clamp.
+MATHS = {201: 1, 157: 2, 150: 3}
+
+
+def put_maths(module):
+    """Begins the kernel, and fills its block with extended instructions of OpenCL.std, each of the values before it:
+    the id of the set, and the last value."""
+    std, values = module.fresh(), [ONE, TWO, ONE]
+    opened(module, sets=[(std, "OpenCL.std")])
+    kernel(module)
+    while module.room() > 24:
+        for number, count in MATHS.items():
+            result = module.fresh()
+            module.put(12, INT, result, std, number, *values[:count])
+            values = [result, *values[:2]]
+    return std, values[0]
+
+
+def maths(module):
+    """One block of extended instructions of OpenCL.std, each of the values before it."""
+    put_maths(module)
+    closed(module)
+
+
 def nops(module):
     """One block of the shortest instructions."""
     opened(module)
@@ -668,6 +692,7 @@ def unchained(module):
 SHAPES = {
     "tiny": tiny,
     "straight": straight,
+    "maths": maths,
     "nops": nops,
     "constants": constants,
     "texts": texts,
