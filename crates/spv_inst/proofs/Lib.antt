@@ -31,3 +31,4 @@ pub mod Decoding
 pub mod Fit
 pub mod Octets
 pub mod Couples
+pub mod Told

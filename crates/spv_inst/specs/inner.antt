@@ -4,6 +4,7 @@ pub mod Pairs
 pub mod Pending
 pub mod Batch
 pub mod Flat
+pub mod Front
 pub mod Known
 pub mod Reading
 pub mod Sofar

@@ -15,6 +15,7 @@ ghost use Rattle.spv_inst.specs.inner.Sofar.{Sofar, SofarAt};
 ghost use Rattle.spv_module.specs.Spelling.{Match};
 ghost use Rattle.spv_inst.specs.inner.Step.{IsMisfit, IsDeadFrom};
 
+use crate::front::read_front;
 use crate::items::DueItems;
 use crate::known::{known_after, known_of};
 use crate::pairs::read_pairs;
@@ -22,7 +23,7 @@ use crate::pending::Pending;
 use crate::plain::{Rest, read_bare, read_plain};
 use crate::reader::{Place, Scene, take_operand};
 use crate::repeated::read_run;
-use crate::words::read_words;
+use crate::words::{read_long, read_words};
 use spv_module::{Fault, Operand, Rule, Stop};
 use spv_table::Entry;
 use spv_words::word;
@@ -213,6 +214,10 @@ fn read_operands<'t, 'a>(
     if is_read(place, rest) {
         return Ok(());
     }
+    let rest = read_long(scene, operands, place, begin, rest);
+    if is_read(place, rest) {
+        return Ok(());
+    }
     // What the call takes is put together here, since most instructions do not come to it.
     let scene = *scene;
     let place = Place {
@@ -224,17 +229,9 @@ fn read_operands<'t, 'a>(
     read_further(&scene, pending, operands, place, begin, rest)
 }
 
-/// Reads the instruction whose first word is the module's word `at`, counted from 0, after so many instructions (SPIR-V
-/// Specification 1.6, section 2.3), and adds its operands to a list. The stack of pending operands is begun anew.
-///
-/// A `Fault` tells the number of the instructions before, which is the instruction's own, and a word of the module. It
-/// is told by the word `at` where the first word counts no words (I1) or more than are left of the module (I2), or
-/// where the opcode has no entry in the table (I3); by the first word left where nothing more is due (I5); by the word
-/// after the last where an operand is missing (I4); and else by the word at which an operand is refused
-/// (`take_operand`). `Memory` comes only where a growth of memory was refused. After an error nothing is said of what
-/// is left of the list.
+/// Reads an instruction by the items of its pattern, as `read_instruction` says.
 #[inline(always)]
-pub fn read_instruction<'t, 'a>(
+fn read_by_pattern<'t, 'a>(
     scene: &Scene<'t, '_, 'a>,
     pending: &mut Pending<'t>,
     operands: &mut Vec<Operand<'a>>,
@@ -283,4 +280,53 @@ pub fn read_instruction<'t, 'a>(
         first,
         end: place.end,
     })
+}
+
+/// Reads the instruction whose first word is the module's word `at`, counted from 0, after so many instructions (SPIR-V
+/// Specification 1.6, section 2.3), and adds its operands to a list. The stack of pending operands is begun anew.
+///
+/// A `Fault` tells the number of the instructions before, which is the instruction's own, and a word of the module. It
+/// is told by the word `at` where the first word counts no words (I1) or more than are left of the module (I2), or
+/// where the opcode has no entry in the table (I3); by the first word left where nothing more is due (I5); by the word
+/// after the last where an operand is missing (I4); and else by the word at which an operand is refused
+/// (`take_operand`). `Memory` comes only where a growth of memory was refused. After an error nothing is said of what
+/// is left of the list.
+#[inline(always)]
+pub fn read_instruction<'t, 'a>(
+    scene: &Scene<'t, '_, 'a>,
+    pending: &mut Pending<'t>,
+    operands: &mut Vec<Operand<'a>>,
+    number: u32,
+    at: u32,
+) -> Result<Read, Stop>
+    requires forms { scene.now.forms.now ≡ map form_of scene.now.table.now.kinds }
+    requires whole { IsWhole scene.now.table.now }
+    requires fits { at < length scene.now.image.now }
+    // What is added is what the words from there on spell.
+    ensures read { (before : List PlainInst) → Knows scene.now.definitions.now before
+        → IfOk result
+        (λ r. IsInstruction scene.now.table.now before
+        (record { opcode = r.opcode; operands = plain_operands (drop r.first operands.new.items) })
+        (between scene.now.image.now at r.end)) }
+    ensures kept { IfOk result (λ r. (r.first ≡ length operands.old.items)
+        × (take r.first operands.new.items ≡ operands.old.items)) }
+    ensures few { IfOk result (λ r. length operands.new.items + at ≤ length operands.old.items + r.end) }
+    ensures within { IfOk result (λ r. (at < r.end) × (r.end ≤ length scene.now.image.now)) }
+    // A fault is the death of the instruction there.
+    ensures dead { (before : List PlainInst) → Knows scene.now.definitions.now before
+        → IfErr result (λ e. IsDeadFrom scene.now.table.now before scene.now.image.now number at e) }
+{
+    let head = word(scene.image, at);
+    let count = head / 65536;
+    let opcode = (head % 65536) as u16;
+    if count > 0 && count <= scene.image.len() - at {
+        let front = scene.table.front(opcode);
+        if front.takes(count - 1) {
+            let first = operands.len();
+            let end = at + count;
+            read_front(scene.image, operands, front.head, at + 1, end)?;
+            return Ok(Read { opcode, first, end });
+        }
+    }
+    read_by_pattern(scene, pending, operands, number, at)
 }

@@ -6,6 +6,7 @@ mod decoder;
 mod definitions;
 pub mod due;
 mod enumerant;
+mod front;
 mod instruction;
 mod items;
 mod known;

@@ -6,3 +6,4 @@ pub mod Order
 pub mod Lookup
 pub mod Joined
 pub mod Ordered
+pub mod Fronted

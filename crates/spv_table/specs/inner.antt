@@ -1,5 +1,6 @@
 -- Definitions that serve the code alone.
 pub mod Form
+pub mod Front
 pub mod Joined
 pub mod Name
 pub mod Named

@@ -3,6 +3,7 @@
 
 mod error;
 mod form;
+mod front;
 mod implied;
 pub mod laws;
 mod listed;
@@ -16,6 +17,7 @@ mod table;
 
 pub use error::Memory;
 pub use form::{Form, Leaf, form_in};
+pub use front::{Front, Head};
 pub use listed::{Listed, NameList};
 pub use name::{Name, NameText};
 pub use named::{Named, Names};

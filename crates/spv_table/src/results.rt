@@ -19,7 +19,7 @@ pub(crate) struct Results {
 }
 
 /// Whether a kind is that of a result.
-fn is_result(forms: &[Form], kind: u32) -> bool
+pub(crate) fn is_result(forms: &[Form], kind: u32) -> bool
     ensures { (G : spec.Table) → forms.now ≡ map form_of G.kinds → result ≡ is_result_kind G kind }
 {
     match form_in(forms, kind) {
@@ -32,7 +32,7 @@ fn is_result(forms: &[Form], kind: u32) -> bool
 }
 
 /// Whether an item is always there.
-fn is_always(quantifier: Quantifier) -> bool
+pub(crate) fn is_always(quantifier: Quantifier) -> bool
     ensures { result ≡ is_one quantifier }
 {
     match quantifier {

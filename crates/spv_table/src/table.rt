@@ -1,11 +1,13 @@
 ghost use Rattle.std.specs.Prelude.{◌≡◌, ◌<◌, ◌^◌, ℕ, List, length, slice_get, slice_index_or};
-ghost use Rattle.std.specs.Prelude.{map, option_map, option_and_then, IfOk};
+ghost use Rattle.std.specs.Prelude.{min, take, map, option_map, option_and_then, IfOk};
 ghost use Rattle.spv_table.specs.Table.{entry_of, kind_of, enumerant_of, first_with, IsWhole};
 ghost use Rattle.spv_table.specs.Lookups.{opcode_named, value_named, number_named};
 ghost use Rattle.spv_table.specs.inner.Form.{form_of};
+ghost use Rattle.spv_table.specs.inner.Front.{front_at};
 ghost use Rattle.spv_table.specs.inner.Results.{entry_has_result};
 
 use crate::form::{Form, forms_of};
+use crate::front::{Front, front_in, fronts_of};
 use crate::listed::{Listed, NameList};
 use crate::name::Name;
 use crate::named::{Named, Names};
@@ -91,6 +93,8 @@ pub struct Table {
     forms: Vec<Form>,
     /// Of each entry whether its pattern has a result.
     results: Vec<Results>,
+    /// For each opcode below `FRONTED` the front of its pattern, as far as `places` goes.
+    fronts: Vec<Front>,
 }
 
 impl Model for Table {
@@ -101,6 +105,7 @@ impl Model for Table {
 
     ghost use Rattle.spv_table.specs.Table.{IsWhole, first_with};
     ghost use Rattle.spv_table.specs.inner.Form.{form_of};
+    ghost use Rattle.spv_table.specs.inner.Front.{AreFronts};
     ghost use Rattle.spv_table.specs.inner.Named.{Finds};
     ghost use Rattle.spv_table.specs.inner.Results.{results_of};
 
@@ -113,8 +118,12 @@ impl Model for Table {
         × Finds (λ s. s.kind.name) t.sorts.items t.kind_names
         × (t.forms.items ≡ map form_of t.sorts.items)
         × (t.results.items ≡ map
-        (λ e. results_of (record { kinds = t.sorts.items; entries = t.entries.items }) e.1) t.entries.items) };
+        (λ e. results_of (record { kinds = t.sorts.items; entries = t.entries.items }) e.1) t.entries.items)
+        × AreFronts (record { kinds = t.sorts.items; entries = t.entries.items }) t.fronts.items };
 }
+
+/// Below which opcodes the fronts of patterns are kept: those of the profile.
+const FRONTED: usize = 331;
 
 /// For each opcode the place of its first entry.
 fn opcode_places(alloc: Global, entries: &[(u16, Entry)]) -> Result<Vec<u32>, AllocError>
@@ -129,6 +138,24 @@ fn opcode_places(alloc: Global, entries: &[(u16, Entry)]) -> Result<Vec<u32>, Al
         places[usize::from(opcode)] = i as u32;
     }
     Ok(places)
+}
+
+/// The places of the opcodes whose fronts are kept.
+fn fronted_of(places: &[u32]) -> &[u32]
+    ensures { result.now ≡ take (min (length places.now) 331) places.now }
+{
+    &places[..places.len().min(FRONTED)]
+}
+
+/// The place of an opcode in a list of places, which is 4,294,967,295 past its end.
+#[inline(always)]
+fn place_in(places: &[u32], opcode: u16) -> u32
+    ensures { result ≡ slice_index_or places.now opcode 4294967295 }
+{
+    match places.get(usize::from(opcode)) {
+        Some(place) => *place,
+        None => u32::MAX,
+    }
 }
 
 impl Named for (u16, Entry) {
@@ -158,6 +185,8 @@ impl Table {
         let kind_names = Names::of(alloc, sorts.as_slice())?;
         let forms = forms_of(alloc, sorts.as_slice())?;
         let results = results_of_entries(alloc, forms.as_slice(), entries.as_slice())?;
+        let fronted = fronted_of(places.as_slice());
+        let fronts = fronts_of(alloc, forms.as_slice(), fronted, entries.as_slice())?;
         Ok(Table {
             sorts,
             entries,
@@ -166,6 +195,7 @@ impl Table {
             kind_names,
             forms,
             results,
+            fronts,
         })
     }
 
@@ -227,10 +257,7 @@ impl Table {
     pub fn entry(&self, opcode: u16) -> Option<&Entry>
         ensures { option_map (λ e. e.now) result ≡ entry_of self.now opcode }
     {
-        let place = match self.places.get(usize::from(opcode)) {
-            Some(place) => *place,
-            None => u32::MAX,
-        };
+        let place = place_in(self.places.as_slice(), opcode);
         match self.entries.get(place as usize) {
             Some((_, entry)) => Some(entry),
             None => None,
@@ -250,14 +277,19 @@ impl Table {
     pub fn has_result(&self, opcode: u16, may: bool) -> bool
         ensures { result ≡ entry_has_result may self.now (entry_of self.now opcode) }
     {
-        let place = match self.places.get(usize::from(opcode)) {
-            Some(place) => *place,
-            None => u32::MAX,
-        };
+        let place = place_in(self.places.as_slice(), opcode);
         match self.results.get(place as usize) {
             Some(results) => { if may { results.ever } else { results.always } }
             None => false,
         }
+    }
+
+    /// The front of the pattern of an opcode's entry, for the opcodes of the profile.
+    #[inline(always)]
+    pub fn front(&self, opcode: u16) -> Front
+        ensures { result ≡ front_at self.now opcode }
+    {
+        front_in(self.fronts.as_slice(), opcode)
     }
 
     /// The opcode of the first instruction that bears a name.
