@@ -1,14 +1,18 @@
 -- The first broken rule, where the rules were asked one after another.
-use Rattle.std.proofs.Common.{◌≡◌, ◌<◌, ◌∙◌, inl, ℕ, List, [], Bool, true, false, nat_eq, refl, sym, arith}
+use Rattle.std.proofs.Common.{◌≡◌, ◌<◌, ◌∙◌, inl, ℕ, List, [], ◌∷◌, Some, Bool, true, false, nat_eq, refl, sym, arith}
+use Rattle.std.specs.List.{AllByRecursion}
+use Rattle.std.specs.Prelude.{slice_get}
 use Rattle.std.proofs.lemmas.Bool.{eqb-true}
 use Rattle.spv_table.specs.Table.{Table}
-use Rattle.spv_module.specs.Operand.{PlainInst}
+use Rattle.spv_module.specs.Operand.{Plain, Value, Mask, PlainInst}
 use Rattle.spv_module.specs.declared.fault.Rule.{Rule}
 use Rattle.spv_module.specs.declared.fault.Rule.TheVariants as rule
 use Rattle.spv_module.specs.declared.opcode.TheConstants as opcode
 use Rattle.spv_layout.specs.First.{rank_of}
-use Rattle.spv_capabilities.specs.Capable.{IsCapable, needs_of}
-use Rattle.spv_capabilities.specs.inner.Known.{AreCovered, is_asked_more}
+use Rattle.spv_layout.specs.inner.Unkinded.{IsUnkinded}
+use Rattle.spv_capabilities.specs.Asked.{IsCoveredEntry}
+use Rattle.spv_capabilities.specs.Capable.{IsCapable, IsCoveredOperand, needs_of}
+use Rattle.spv_capabilities.specs.inner.Known.{AreCovered, IsAskedAlone, is_asked_more}
 use Rattle.spv_capabilities.specs.inner.Entry.{IsSoundLinkage}
 use Rattle.spv_capabilities.specs.Keeps.{Keeps, KeepsEntries}
 
@@ -97,3 +101,18 @@ kept_before_covered G is n i e = kept_before_c2 G is n i (λ h. absurd (not_this
 pub kept_before_linkage : (G : Table) (is : List PlainInst) (n : ℕ) (i : PlainInst) → is_asked_more i.opcode ≡ false → AreCovered G is i → (q : Rule) → rank_of q < 25 → Keeps G is q n i
 kept_before_linkage G is n i e a =
     kept_before_e2 G is n i (λ h. absurd (not_this i.opcode opcode.MEMORY_MODEL e refl h)) (capable_then G is i e a) (λ h. absurd (not_this i.opcode opcode.MEMORY_MODEL e refl h)) (λ h. absurd (not_this i.opcode opcode.MEMORY_MODEL e refl h))
+
+-- At an opcode where nothing is asked but the entry, no operand is.
+
+unkinded_covered : (G : Table) (is : List PlainInst) (o : Plain) → IsUnkinded o → IsCoveredOperand G is o
+unkinded_covered G is (Value k v) u = absurd u
+unkinded_covered G is (Mask k m) u = absurd u
+unkinded_covered G is o u = tt
+
+all_unkinded : (G : Table) (is : List PlainInst) (os : List Plain) → AllByRecursion IsUnkinded os → AllByRecursion (IsCoveredOperand G is) os
+all_unkinded G is [] u = tt
+all_unkinded G is (o ∷ os) u = (unkinded_covered G is o u.0, all_unkinded G is os u.1)
+
+pub all_free : (G : Table) (is : List PlainInst) (n : ℕ) (i : PlainInst) → slice_get is n ≡ Some i → IsCoveredEntry G is i.opcode → IsAskedAlone is i.opcode → (r : Rule) → Keeps G is r n i
+all_free G is n i at e a =
+    all_covered G is n i a.more (record { entry = e; operands = all_unkinded G is i.operands (a.kinds n i at refl) }) (λ h. absurd (a.function h))

@@ -13,9 +13,10 @@ use Rattle.spv_capabilities.specs.declared.memo.Answer.{Answer}
 use Rattle.spv_capabilities.specs.declared.memo.Answer.TheVariants.{Unknown}
 use Rattle.spv_capabilities.specs.inner.Known.{IsAnswer, answer_of, pair_cmp}
 
-pub answer_tells : (b : Bool) (P : Type 0) → IsTrue b ↔ P → IsAnswer (answer_of b) P
-answer_tells true P e = e.0 refl
-answer_tells false P e = λ p. let no : false ≡ true = e.1 p in absurd (cc)
+pub answer_tells : (b f : Bool) (P Q : Type 0) → IsTrue b ↔ P → (IsTrue f → Q) → IsAnswer (answer_of b f) P Q
+answer_tells true true P Q e h = (e.0 refl, h refl)
+answer_tells true false P Q e h = e.0 refl
+answer_tells false f P Q e h = λ p. let no : false ≡ true = e.1 p in absurd (cc)
 
 set_same : (l : List Answer) (n : ℕ) (v a : Answer) → n < length l → slice_get (set l n v) n ≡ Some a → v ≡ a
 set_same l n v a h s =
@@ -30,16 +31,16 @@ set_other l n k v a ne s =
     let e : get_or l k Unknown ≡ a = sym (get_or-set_other l n k v Unknown ne) ∙ g in
     slice_get-get_or l k Unknown w' ∙ ap Some e
 
-answer_at : (Q : ℕ → Type 0) (l : List Answer) (n k : ℕ) (v a : Answer) → n < length l → ((o : ℕ) (b : Answer) → slice_get l o ≡ Some b → IsAnswer b (Q o)) → IsAnswer v (Q n)
-    → slice_get (set l n v) k ≡ Some a → (k ≡ n) ⊎ (k ≡ n → ⊥) → IsAnswer a (Q k)
-answer_at Q l n k v a h old new s (inl e) =
+answer_at : (Q R : ℕ → Type 0) (l : List Answer) (n k : ℕ) (v a : Answer) → n < length l → ((o : ℕ) (b : Answer) → slice_get l o ≡ Some b → IsAnswer b (Q o) (R o)) → IsAnswer v (Q n) (R n)
+    → slice_get (set l n v) k ≡ Some a → (k ≡ n) ⊎ (k ≡ n → ⊥) → IsAnswer a (Q k) (R k)
+answer_at Q R l n k v a h old new s (inl e) =
     let t : v ≡ a = set_same l n v a h (rw e at s) in
     rw (e, ← t) new
-answer_at Q l n k v a h old new s (inr e) = old k a (set_other l n k v a e s)
+answer_at Q R l n k v a h old new s (inr e) = old k a (set_other l n k v a e s)
 
-pub answers_set : (Q : ℕ → Type 0) (l : List Answer) (n : ℕ) (v : Answer) → n < length l → ((o : ℕ) (a : Answer) → slice_get l o ≡ Some a → IsAnswer a (Q o)) → IsAnswer v (Q n)
-    → (o : ℕ) (a : Answer) → slice_get (set l n v) o ≡ Some a → IsAnswer a (Q o)
-answers_set Q l n v h old new o a s = answer_at Q l n o v a h old new s (cases_eq o n)
+pub answers_set : (Q R : ℕ → Type 0) (l : List Answer) (n : ℕ) (v : Answer) → n < length l → ((o : ℕ) (a : Answer) → slice_get l o ≡ Some a → IsAnswer a (Q o) (R o)) → IsAnswer v (Q n) (R n)
+    → (o : ℕ) (a : Answer) → slice_get (set l n v) o ≡ Some a → IsAnswer a (Q o) (R o)
+answers_set Q R l n v h old new o a s = answer_at Q R l n o v a h old new s (cases_eq o n)
 
 -- numbers that are not equal do not compare so, and nor do pairs
 apart : (x y : ℕ) → x ≢ y → is_eq (nat_cmp x y) ≡ false
@@ -90,8 +91,8 @@ read zero o a h = absurd (let no : None ≡ Some a = h in cc)
 read (suc n) zero a h = cc
 read (suc n) (suc o) a h = read n o a h
 
-pub unknown_all : (Q : ℕ → Type 0) (l : List Answer) (n : ℕ) → l ≡ replicate n Unknown → (o : ℕ) (a : Answer) → slice_get l o ≡ Some a → IsAnswer a (Q o)
-unknown_all Q l n e o a h = let s : Unknown ≡ a = read n o a (rw e at h) in rw (← s) tt
+pub unknown_all : (Q R : ℕ → Type 0) (l : List Answer) (n : ℕ) → l ≡ replicate n Unknown → (o : ℕ) (a : Answer) → slice_get l o ≡ Some a → IsAnswer a (Q o) (R o)
+unknown_all Q R l n e o a h = let s : Unknown ≡ a = read n o a (rw e at h) in rw (← s) tt
 
 pub no_pairs : (Q : ℕ → ℕ → Type 0) (m : BTreeMap (ℕ × ℕ) Bool) → IsEmpty m → (x y : ℕ) (c : Bool) → get pair_cmp m (x, y) ≡ Some c → IsTrue c ↔ Q x y
 no_pairs Q m e x y c h = let n : get pair_cmp m (x, y) ≡ None = rw e refl in absurd (let no : None ≡ Some c = sym n ∙ h in cc)

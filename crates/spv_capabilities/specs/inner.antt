@@ -4,3 +4,4 @@ pub mod Entry
 pub mod Known
 pub mod Survey
 pub mod Subject
+pub mod Unkinded

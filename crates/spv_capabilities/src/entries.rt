@@ -11,12 +11,11 @@ ghost use Rattle.spv_capabilities.specs.inner.Capable.{IsKernel};
 ghost use Rattle.spv_capabilities.specs.Memory.{IsModel};
 ghost use Rattle.spv_capabilities.specs.Asked.{HasEntry};
 ghost use Rattle.spv_capabilities.specs.Keeps.{IsFirstAt};
-ghost use Rattle.spv_capabilities.specs.inner.Known as known;
 ghost use Rattle.spv_capabilities.specs.inner.Known.{IsKnown};
 
 use crate::capable::is_kernel;
 use crate::entry::{has_entry, is_model, keeps_entries, keeps_linkage};
-use crate::memo::Memo;
+use crate::memo::{Memo, is_asked_more};
 use crate::surveyed::Survey;
 use spv_ids::Ids;
 use spv_layout::Plan;
@@ -124,27 +123,10 @@ fn first_of_several(
     Ok(None)
 }
 
-/// Whether a rule other than C2 speaks of an opcode other than that of OpFunction, or C2 asks for a width or a count
-/// there.
-#[inline(always)]
-fn is_asked_more(number: u16) -> bool
-    ensures { result ≡ known.is_asked_more number }
-{
-    match number {
-        opcode::MEMORY_MODEL
-        | opcode::ENTRY_POINT
-        | opcode::EXECUTION_MODE
-        | opcode::TYPE_INT
-        | opcode::TYPE_FLOAT
-        | opcode::TYPE_VECTOR => true,
-        _ => false,
-    }
-}
-
 /// The first of the five rules that is broken at an instruction of a number. At most instructions only C2 may be, by
 /// its entry and its operands, and at an OpFunction E2.
 #[inline(always)]
-fn first_of(
+fn first_asked(
     survey: &Survey<'_, '_>,
     memo: &mut Memo,
     number: u32,
@@ -165,6 +147,26 @@ fn first_of(
         return Ok(Some(Rule::E2));
     }
     Ok(None)
+}
+
+/// The first of the five rules that is broken at an instruction of a number. Of most opcodes it is known that none is
+/// broken at any of their instructions.
+#[inline(always)]
+fn first_of(
+    survey: &Survey<'_, '_>,
+    memo: &mut Memo,
+    number: u32,
+    inst: &Inst<'_>,
+) -> Result<Option<Rule>, Memory>
+    requires inst { slice_get survey.now.insts number ≡ Some (plain_inst inst.now) }
+    requires known { IsKnown survey.now memo.old }
+    ensures first { IfOk result (λ o. IsFirstAt survey.now.table survey.now.insts number (plain_inst inst.now) o) }
+    ensures known { IsKnown survey.now memo.new }
+{
+    if memo.is_free(inst.opcode) {
+        return Ok(None);
+    }
+    first_asked(survey, memo, number, inst)
 }
 
 impl<'m, 'a> Entries<'m, 'a> {

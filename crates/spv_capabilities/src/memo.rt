@@ -7,7 +7,8 @@ ghost use Rattle.spv_module.specs.Module.{plain_inst, plain_operand, plain_opera
 ghost use Rattle.spv_capabilities.specs.inner.Subject.{Subject};
 ghost use Rattle.spv_capabilities.specs.Capable.{IsCoveredValue, IsCoveredMask, IsCoveredOperand, IsCapable};
 ghost use Rattle.spv_capabilities.specs.Asked.{IsCoveredEntry, IsOtherKind};
-ghost use Rattle.spv_capabilities.specs.inner.Known.{IsKnown, AreCovered, answer_of};
+ghost use Rattle.spv_capabilities.specs.inner.Known as known;
+ghost use Rattle.spv_capabilities.specs.inner.Known.{IsKnown, IsAskedAlone, AreCovered, answer_of};
 
 use crate::capable::{
     asks_nothing, has_needed, is_capability_kind, is_covered_entry, is_covered_value,
@@ -27,6 +28,9 @@ pub enum Answer {
     Unknown,
     Yes,
     No,
+    /// Yes, and nothing else is asked of an instruction of the opcode: it has no value and no mask, and no other rule
+    /// speaks of it.
+    Free,
 }
 
 /// What was asked about a module.
@@ -64,11 +68,44 @@ fn is_odd(bits: u32) -> bool
     bits % 2 == 1
 }
 
-/// The answer that is kept.
-fn kept_answer(covered: bool) -> Answer
-    ensures { result ≡ answer_of covered }
+/// Whether a rule other than C2 speaks of an opcode other than that of OpFunction, or C2 asks for a width or a count
+/// there.
+#[inline(always)]
+pub fn is_asked_more(number: u16) -> bool
+    ensures { result ≡ known.is_asked_more number }
 {
-    if covered { Answer::Yes } else { Answer::No }
+    match number {
+        opcode::MEMORY_MODEL
+        | opcode::ENTRY_POINT
+        | opcode::EXECUTION_MODE
+        | opcode::TYPE_INT
+        | opcode::TYPE_FLOAT
+        | opcode::TYPE_VECTOR => true,
+        _ => false,
+    }
+}
+
+/// Whether nothing is asked of an instruction of an opcode but that its entry is covered.
+fn is_asked_alone(survey: &Survey<'_, '_>, number: u16) -> bool
+    ensures { IsTrue result → IsAskedAlone survey.now.insts number }
+{
+    if is_asked_more(number) || number == opcode::FUNCTION {
+        return false;
+    }
+    survey.is_unkinded(number)
+}
+
+/// The answer that is kept of an opcode, and whether nothing else is asked there.
+fn kept_answer(covered: bool, alone: bool) -> Answer
+    ensures { result ≡ answer_of covered alone }
+{
+    if !covered {
+        Answer::No
+    } else if alone {
+        Answer::Free
+    } else {
+        Answer::Yes
+    }
 }
 
 impl Memo {
@@ -94,7 +131,7 @@ impl Memo {
         let covered = is_covered_entry(survey, opcode);
         let place = usize::from(opcode);
         if place < self.entries.len() {
-            self.entries[place] = kept_answer(covered);
+            self.entries[place] = kept_answer(covered, is_asked_alone(survey, opcode));
         }
         covered
     }
@@ -107,9 +144,23 @@ impl Memo {
         ensures known { IsKnown survey.now self.new }
     {
         match self.entries.get(usize::from(opcode)) {
+            Some(Answer::Free) => true,
             Some(Answer::Yes) => true,
             Some(Answer::No) => false,
             _ => self.ask_entry(survey, opcode),
+        }
+    }
+
+    /// Whether it is known that no instruction of an opcode breaks a rule: its entry is covered, and nothing else is
+    /// asked there.
+    #[inline(always)]
+    pub fn is_free(&self, number: u16) -> bool
+        ensures { (s : Subject) → IsKnown s self.now → IsTrue result
+            → IsCoveredEntry s.table s.insts number × IsAskedAlone s.insts number }
+    {
+        match self.entries.get(usize::from(number)) {
+            Some(Answer::Free) => true,
+            _ => false,
         }
     }
 

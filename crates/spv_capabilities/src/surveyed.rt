@@ -9,6 +9,8 @@ ghost use Rattle.spv_module.specs.Module.{plain_inst};
 ghost use Rattle.spv_module.specs.declared.opcode.TheConstants as opcode;
 ghost use Rattle.spv_layout.specs.Place.{IsDefinition};
 ghost use Rattle.spv_layout.specs.Plan.{IsPlan, IsPlaceOf};
+ghost use Rattle.spv_layout.specs.Rows.{row_of};
+ghost use Rattle.spv_layout.specs.inner.Unkinded.{is_unkinded_row};
 ghost use Rattle.spv_ids.specs.Order.{HasOpcode};
 ghost use Rattle.spv_ids.specs.Outcome.{IsDefinitionOf, definition_in};
 ghost use Rattle.spv_capabilities.specs.Capable.{Has};
@@ -16,10 +18,11 @@ ghost use Rattle.spv_capabilities.specs.Entry.{IsNamed};
 ghost use Rattle.spv_capabilities.specs.Asked.{IsImported};
 ghost use Rattle.spv_capabilities.specs.inner.Entry.{IsCalled, IsEntered};
 ghost use Rattle.spv_capabilities.specs.inner.Survey.{AreMarked};
+ghost use Rattle.spv_capabilities.specs.inner.Unkinded.{HasNoKinds};
 
 use crate::gather::{Gathered, gather};
 use spv_ids::Ids;
-use spv_layout::{Place, Plan};
+use spv_layout::{Place, Plan, is_unkinded};
 use spv_module::Inst;
 use spv_table::{Memory, Table};
 use std::alloc::Global;
@@ -137,6 +140,15 @@ impl<'m, 'a> Survey<'m, 'a> {
             unreachable!();
         };
         is_defined(place, function)
+    }
+
+    /// Whether no instruction of an opcode has a value or a mask.
+    pub fn is_unkinded(&self, number: u16) -> bool
+        ensures told { result ≡ is_unkinded_row (row_of number) }
+        ensures operands { IsTrue result → HasNoKinds self.now.insts number }
+    {
+        let _insts = self.insts;
+        is_unkinded(number)
     }
 
     /// Whether an instruction defines a function that is called.

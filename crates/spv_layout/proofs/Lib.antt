@@ -21,3 +21,4 @@ pub mod Keeping
 pub mod Singles
 pub mod Rooms
 pub mod Tables
+pub mod Kindless

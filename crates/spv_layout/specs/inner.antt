@@ -9,3 +9,4 @@ pub mod Row
 pub mod Shape
 pub mod Layout
 pub mod Outcome
+pub mod Unkinded

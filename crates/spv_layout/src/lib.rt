@@ -13,6 +13,7 @@ mod roles;
 mod rows;
 mod span;
 mod state;
+mod unkinded;
 
 pub use class::Class;
 pub use form::{Ending, Form, Kinded, Named, Role, Row};
@@ -21,3 +22,4 @@ pub use plan::{Plan, lay_out};
 pub use roles::{id_at, id_of, role};
 pub use rows::row;
 pub use state::{State, next, stops};
+pub use unkinded::is_unkinded;

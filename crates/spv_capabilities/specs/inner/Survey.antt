@@ -3,12 +3,14 @@ use Rattle.std.specs.Prelude.{◌≡◌, ◌<◌, ◌↔◌, ℕ, List, Option, 
 use Rattle.std.specs.Prelude.{length, map, slice_get, take}
 use Rattle.std.specs.BTreeSet.{contains}
 use Rattle.std.specs.Ordering.{nat_cmp}
+use Rattle.spv_table.specs.Table.{Table}
 use Rattle.spv_table.specs.Lookups.{number_named}
 use Rattle.spv_module.specs.Operand.{PlainInst}
 use Rattle.spv_module.specs.Module.{plain_inst}
 use Rattle.spv_module.specs.declared.opcode.TheConstants as opcode
 use Rattle.spv_layout.specs.declared.place.Place.{Place}
 use Rattle.spv_layout.specs.Plan.{IsPlaceOf}
+use Rattle.spv_layout.specs.Shape.{FitsShape}
 use Rattle.spv_ids.specs.Definition.{IsDefinedAt}
 use Rattle.spv_ids.specs.Order.{HasOpcode}
 use Rattle.spv_ids.specs.Outcome.{IsDefinitionOf, definition_in}
@@ -48,9 +50,10 @@ pub record AreGathered (linkage : Option ℕ) (is : List PlainInst) (to : ℕ) (
   pub entered : AreMarked entered_by is to g.entered.items
   pub imported : AreMarked (imported_by linkage) is to g.imported.items
 
--- The survey has the places of its instructions, the definitions of their ids, the capabilities that the module has,
--- and what is gathered.
+-- The instructions of the survey fit their shapes; and it has their places, the definitions of their ids, the
+-- capabilities that the module has, and what is gathered.
 pub record IsSurvey (s : Inside) : Type 0 where
+  pub fits : (n : ℕ) (i : PlainInst) → slice_get (map plain_inst s.insts.now) n ≡ Some i → (G : Table) × FitsShape G i
   pub count : length s.plan.now ≡ length (map plain_inst s.insts.now)
   pub place : (n : ℕ) (p : Place) → slice_get s.plan.now n ≡ Some p → IsPlaceOf (map plain_inst s.insts.now) n p
   pub ids : (x : ℕ) → IsDefinitionOf (map plain_inst s.insts.now) x (definition_in s.ids.now x)

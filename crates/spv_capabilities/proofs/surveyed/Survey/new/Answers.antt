@@ -15,6 +15,7 @@ invariant_of-result c =
     let a = subst (λ (l : Option ℕ). AreGathered l is (length is) g) c.kind_named.ensures c.in_ok-gathered.ensures in
     let e : c.as_slice.result.now ≡ filter_map declared_by is = c.as_slice.ensures.value ∙ a.declared ∙ ap (filter_map declared_by) (take-length is) in
     record {
+      fits = λ n i at. (c.requires.plan.0, c.requires.plan.1.fits n i at);
       count = c.requires.plan.1.count;
       place = c.requires.plan.1.place;
       ids = c.requires.ids;
