@@ -13,4 +13,4 @@ pub use branches::check_branches;
 pub use code::{Code, is_labelled};
 pub use edges::Edges;
 pub use gather::{Overview, edges_for, survey};
-pub use labels::{label, new_label};
+pub use labels::{label, label_in, next_label};

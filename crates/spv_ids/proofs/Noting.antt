@@ -1,9 +1,10 @@
--- What is kept of ids past the list.
-use Rattle.std.proofs.Common.{◌≡◌, ◌+◌, ℕ, zero, suc, nat_eq, nat_lt, if◌then◌else◌, Bool, true, false, List, [], ◌∷◌, length, get_or, refl, ap, Option, Some, None, arith}
+-- What is kept of ids, in the list and past it.
+use Rattle.std.proofs.Common.{◌≡◌, ◌<◌, ◌+◌, ℕ, zero, suc, nat_eq, nat_lt, if◌then◌else◌, Bool, true, false, List, [], ◌∷◌, length, get_or, refl, ap, Option, Some, None, arith}
 use Rattle.std.specs.Prelude.{replicate, slice_index}
 use Rattle.std.proofs.lemmas.Bool.Decides.{nat_tests}
 use Rattle.spv_ids.specs.inner.Scattered.{Pairs, at_place, Writes, AreUnset}
-use Rattle.spv_ids.specs.inner.Notes.{number_in, number_or}
+use Rattle.spv_ids.specs.declared.notes.Notes.{Notes}
+use Rattle.spv_ids.specs.inner.Notes.{number_in, number_or, kept}
 
 number_more : (n : ℕ) → number_in (n + 1) ≡ Some n
 number_more n = let e : n + 1 ≡ suc n = omega arith in rw e refl
@@ -40,3 +41,11 @@ written_far old new id n x other w = grind (arith, nat_tests, w.here, w.others x
 pub kept_far : (l : Pairs) (id n x : ℕ) (before after : Option ℕ) → at_place l id ≡ None → after ≡ (if nat_eq id x then Some n else before)
     → number_or (at_place l x) after ≡ (if nat_eq id x then Some n else number_or (at_place l x) before)
 kept_far l id n x before after h e = grind (arith, nat_tests)
+
+-- an id of the list
+pub kept_near : (notes : Notes) (front : List ℕ) (x n : ℕ) → front ≡ notes.near.items → x < length front → number_in (slice_index front x) ≡ Some n → kept notes x ≡ Some n
+kept_near notes front x n e l h =
+    let k : x < length notes.near.items = rw e at l in
+    let g : number_in (slice_index notes.near.items x) ≡ Some n = rw e at h in
+    let t : nat_lt x (length notes.near.items) ≡ true = grind (arith, nat_tests) in
+    rw t g

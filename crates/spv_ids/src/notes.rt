@@ -41,7 +41,7 @@ fn number_at(place: u32) -> Option<u32>
 
 /// What a place of the list says, or `NONE`.
 #[inline(always)]
-fn mark_at(place: u32) -> u32
+pub fn mark_at(place: u32) -> u32
     ensures { result < 4294967295 → number_in place ≡ Some result }
 {
     match place {

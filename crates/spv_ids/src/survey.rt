@@ -24,7 +24,7 @@ ghost use Rattle.spv_ids.specs.inner.Faulty.{IsBadUse, HasBadUse, IsFaulty, IsLe
 ghost use Rattle.spv_ids.specs.inner.Survey.{ArePlaces, IsSurvey, IsSite, insts_of};
 
 use crate::definitions::{floor_of, home, is_out_of_range, section_of};
-use crate::notes::{NONE, Notes};
+use crate::notes::{NONE, Notes, mark_at};
 use crate::uses::{behind, named_id, result_of, seen, seen_id};
 use spv_layout::Plan;
 use spv_module::{Inst, Operand, Rule, opcode};
@@ -425,10 +425,10 @@ impl<'m, 'a> Survey<'m, 'a> {
         ensures { (x : ℕ) → (definition < 4294967295 → kept self.now.firsts.now x ≡ Some definition)
             → IsTrue result → (q : Rule) → ¬ (IsBadUse self.now.bound (insts_of self.now) inst x q) }
     {
-        if definition >= self.end {
+        if definition != inst + 1 {
             return false;
         }
-        if floor == NONE {
+        if definition >= self.end || floor == NONE {
             return false;
         }
         let there = &self.insts[inst as usize];
@@ -436,10 +436,7 @@ impl<'m, 'a> Survey<'m, 'a> {
             return false;
         }
         let next = &self.insts[definition as usize];
-        if next.opcode <= opcode::FUNCTION_END {
-            return false;
-        }
-        definition == inst + 1
+        opcode::FUNCTION_END < next.opcode
     }
 
     /// Whether each use among operands is sound at once, by an instruction of the function `floor`. One that is not may
@@ -464,6 +461,78 @@ impl<'m, 'a> Survey<'m, 'a> {
         true
     }
 
+    /// The same, out of the way of what is told by one look.
+    #[inline(never)]
+    fn are_sound_further(
+        &self,
+        inst: u32,
+        floor: u32,
+        front: &[u32],
+        operands: &[Operand<'_>],
+    ) -> bool
+        requires survey { IsSurvey self.now }
+        requires front { front.now ≡ self.now.firsts.now.near.items }
+        requires below { inst < self.now.end }
+        requires floor { floor < 4294967295 → IsOfFunction (insts_of self.now) inst floor }
+        requires operands { AreSeen (insts_of self.now) inst (plain_operands operands.now) }
+        ensures { IsTrue result → IsLeast (HasBadUse self.now.bound (insts_of self.now) inst (length operands.now))
+            None }
+    {
+        self.are_sound(inst, floor, front, operands)
+    }
+
+    /// Whether each use among operands is plainly sound, by an instruction of the function `floor`.
+    #[inline(always)]
+    fn are_plain(&self, inst: u32, floor: u32, front: &[u32], operands: &[Operand<'_>]) -> bool
+        requires survey { IsSurvey self.now }
+        requires front { front.now ≡ self.now.firsts.now.near.items }
+        requires below { inst < self.now.end }
+        requires floor { floor < 4294967295 → IsOfFunction (insts_of self.now) inst floor }
+        requires operands { AreSeen (insts_of self.now) inst (plain_operands operands.now) }
+        ensures { IsTrue result → IsLeast (HasBadUse self.now.bound (insts_of self.now) inst (length operands.now))
+            None }
+    {
+        for operand in operands {
+            if let Some(id) = seen_id(*operand) {
+                if !self.is_use_plain(inst, floor, front, id) {
+                    return false;
+                }
+            }
+        }
+        true
+    }
+
+    /// Whether each use of an ordinary instruction is sound at once. Inside a function one look at the list tells it of
+    /// most, but for labels and functions; before the functions come names and decorations, of which it tells little.
+    #[inline(always)]
+    fn are_ordinary_sound(
+        &self,
+        inst: u32,
+        floor: u32,
+        front: &[u32],
+        operands: &[Operand<'_>],
+    ) -> bool
+        requires survey { IsSurvey self.now }
+        requires front { front.now ≡ self.now.firsts.now.near.items }
+        requires below { inst < self.now.end }
+        requires floor { floor < 4294967295 → IsOfFunction (insts_of self.now) inst floor }
+        requires operands { AreSeen (insts_of self.now) inst (plain_operands operands.now) }
+        ensures { IsTrue result → IsLeast (HasBadUse self.now.bound (insts_of self.now) inst (length operands.now))
+            None }
+    {
+        if floor == NONE {
+            return self.are_sound(inst, NONE, front, operands);
+        }
+        let code = self.insts[inst as usize].opcode;
+        if code <= opcode::FUNCTION_CALL || opcode::PHI <= code {
+            return self.are_sound(inst, floor, front, operands);
+        }
+        if self.are_plain(inst, floor, front, operands) {
+            return true;
+        }
+        self.are_sound_further(inst, floor, front, operands)
+    }
+
     /// Whether a use of an id is sound at once, by an instruction of the function `floor`.
     #[inline(always)]
     pub fn is_use_sound(&self, inst: u32, floor: u32, front: &[u32], id: u32) -> bool
@@ -481,6 +550,22 @@ impl<'m, 'a> Survey<'m, 'a> {
             return true;
         }
         self.is_sound(inst, floor, definition)
+    }
+
+    /// Whether one look at the list tells that a use of an id is sound.
+    #[inline(always)]
+    fn is_use_plain(&self, inst: u32, floor: u32, front: &[u32], id: u32) -> bool
+        requires survey { IsSurvey self.now }
+        requires front { front.now ≡ self.now.firsts.now.near.items }
+        requires below { inst < self.now.end }
+        requires floor { floor < 4294967295 → IsOfFunction (insts_of self.now) inst floor }
+        ensures { IsTrue result → IsLeast (IsBadUse self.now.bound (insts_of self.now) inst id) None }
+    {
+        let place = id as usize;
+        if place >= front.len() {
+            return false;
+        }
+        self.is_plain(inst, floor, mark_at(front[place]))
     }
 
     /// The first rule that a use among operands breaks.
@@ -581,7 +666,7 @@ impl<'m, 'a> Survey<'m, 'a> {
             return None;
         }
         if is_ordinary(there.opcode) {
-            if self.are_sound(inst, floor, front, seen(there)) {
+            if self.are_ordinary_sound(inst, floor, front, seen(there)) {
                 return Some(floor);
             }
             return None;

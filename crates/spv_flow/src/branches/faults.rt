@@ -13,7 +13,7 @@ ghost use Rattle.spv_flow.specs.branches.Target as target;
 
 use crate::branches::code::Code;
 use crate::branches::edges::Edges;
-use crate::branches::labels::{label, new_label};
+use crate::branches::labels::{label, label_in, next_label};
 use spv_layout::id_at;
 use spv_module::opcode::{BRANCH, BRANCH_CONDITIONAL};
 
@@ -97,6 +97,7 @@ pub fn has_labels(code: &Code<'_, '_>, at: u32) -> bool
 }
 
 /// Looks at the labels of a branch, operand by operand.
+#[inline(never)]
 fn targets_by_operand(code: &Code<'_, '_>, entries: &[bool], at: u32) -> Targets
     requires at { at < length code.now.insts.now }
     requires op { IsOp (insts_of code.now) at is_labelled }
@@ -105,15 +106,22 @@ fn targets_by_operand(code: &Code<'_, '_>, entries: &[bool], at: u32) -> Targets
     ensures { (G : Table) → IsCode G code.now → AreTargets G (insts_of code.now) at result }
 {
     let inst = &code.insts[at as usize];
+    let opcode = inst.opcode;
+    let operands = inst.operands.as_slice();
     let mut enters = false;
-    for n in 0..inst.operands.as_slice().len() {
-        if let Some(id) = new_label(inst, n) {
-            let Some(target) = code.label_of(id) else {
-                return Targets::Lacking;
-            };
-            if entries[target as usize] {
-                enters = true;
-            }
+    let mut n = 0;
+    while n < operands.len() {
+        match label_in(opcode, operands, n) {
+            Some(id) => {
+                let Some(target) = code.label_of(id) else {
+                    return Targets::Lacking;
+                };
+                if entries[target as usize] {
+                    enters = true;
+                }
+                n = next_label(opcode, operands, n, id);
+            },
+            None => n += 1,
         }
     }
     if enters {

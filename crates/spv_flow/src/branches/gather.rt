@@ -12,7 +12,7 @@ ghost use Rattle.spv_layout.specs.Place.{IsOfBlock};
 
 use crate::branches::code::{Code, is_branch};
 use crate::branches::edges::Edges;
-use crate::branches::labels::new_label;
+use crate::branches::labels::{label_in, next_label};
 use spv_module::Inst;
 use spv_module::opcode::{FUNCTION, LABEL, PHI};
 use std::alloc::{AllocError, Global};
@@ -44,11 +44,18 @@ fn add_targets(
         → AddsTargets G (insts_of code.now) edges.old edges.new at) }
 {
     let inst = &code.insts[at as usize];
-    for n in 0..inst.operands.as_slice().len() {
-        if let Some(id) = new_label(inst, n) {
-            if let Some(target) = code.label_of(id) {
-                edges.add(block, target)?;
-            }
+    let opcode = inst.opcode;
+    let operands = inst.operands.as_slice();
+    let mut n = 0;
+    while n < operands.len() {
+        match label_in(opcode, operands, n) {
+            Some(id) => {
+                if let Some(target) = code.label_of(id) {
+                    edges.add(block, target)?;
+                }
+                n = next_label(opcode, operands, n, id);
+            },
+            None => n += 1,
         }
     }
     Ok(())

@@ -1,16 +1,19 @@
 //! The labels among the operands of an instruction.
 
-ghost use Rattle.std.specs.Prelude.{◌≡◌, ℕ, IsTrue, MatchOption};
+ghost use Rattle.std.specs.Prelude.{◌≡◌, ◌<◌, ℕ, Some, IsTrue, MatchOption, length, map, slice_get, option_and_then};
+ghost use Rattle.spv_module.specs.declared.opcode.TheConstants as code;
 ghost use Rattle.spv_table.specs.Table.{Table};
-ghost use Rattle.spv_module.specs.Module.{plain_inst};
+ghost use Rattle.spv_module.specs.Operand.{PlainInst};
+ghost use Rattle.spv_module.specs.Module.{plain_inst, plain_operand, plain_operands};
 ghost use Rattle.spv_layout.specs.Shape.{FitsShape, IsUse};
+ghost use Rattle.spv_layout.specs.Shape as shape;
 ghost use Rattle.spv_layout.specs.declared.form.Role.TheVariants as role;
-ghost use Rattle.spv_flow.specs.branches.inner.Labels.{is_labelled, IsLabelBefore};
+ghost use Rattle.spv_flow.specs.branches.inner.Labels.{is_labelled, IsMadeOf, AreSameCases};
 ghost use Rattle.spv_flow.specs.branches.inner.Labels as labels;
 
-use spv_layout::id_at;
-use spv_module::Inst;
+use spv_layout::id_of;
 use spv_module::opcode::{BRANCH_CONDITIONAL, LOOP_MERGE, PHI, SWITCH};
+use spv_module::{Inst, Operand};
 
 /// Whether operand `n` is a label, of an opcode of which some operand is one.
 #[inline(always)]
@@ -30,6 +33,32 @@ fn is_label_at(opcode: u16, n: usize) -> bool
     }
 }
 
+/// The id that operand `n` of a list is, if it is one.
+#[inline(always)]
+fn id_in(operands: &[Operand<'_>], n: usize) -> Option<u32>
+    ensures { result ≡ option_and_then shape.id_of (slice_get (map plain_operand operands.now) n) }
+{
+    if n < operands.len() {
+        id_of(operands[n])
+    } else {
+        None
+    }
+}
+
+/// The id that operand `n` uses as a label, if it does, of the operands of an OpPhi, a merge or a terminator with labels.
+#[inline(always)]
+pub fn label_in(opcode: u16, operands: &[Operand<'_>], n: usize) -> Option<u32>
+    requires { IsTrue (is_labelled opcode) }
+    ensures { (G : Table) (i : PlainInst) → IsMadeOf i opcode (plain_operands operands.now) → FitsShape G i
+        → MatchOption result ((x : ℕ) → ¬ (IsUse G i n x role.Label)) (λ x. IsUse G i n x role.Label) }
+{
+    if is_label_at(opcode, n) {
+        id_in(operands, n)
+    } else {
+        None
+    }
+}
+
 /// The id that operand `n` of an OpPhi, a merge or a terminator with labels uses as a label, if it does.
 #[inline(always)]
 pub fn label(inst: &Inst<'_>, n: usize) -> Option<u32>
@@ -38,41 +67,56 @@ pub fn label(inst: &Inst<'_>, n: usize) -> Option<u32>
         → MatchOption result ((x : ℕ) → ¬ (IsUse G (plain_inst inst.now) n x role.Label))
         (λ x. IsUse G (plain_inst inst.now) n x role.Label) }
 {
-    if is_label_at(inst.opcode, n) {
-        id_at(inst, n)
-    } else {
-        None
+    label_in(inst.opcode, inst.operands.as_slice(), n)
+}
+
+/// Whether operand `n` of a list is that id.
+#[inline(always)]
+fn is_id_at(operands: &[Operand<'_>], n: usize, id: u32) -> bool
+    ensures { IsTrue result → option_and_then shape.id_of (slice_get (map plain_operand operands.now) n) ≡ Some id }
+{
+    match id_in(operands, n) {
+        Some(found) => found == id,
+        None => false,
     }
 }
 
-/// Whether operand `n` of such an instruction uses an id as a label.
+/// The first operand after operand `n`, which is a label, that is no literal and not the same label: of the cases of an
+/// OpSwitch.
 #[inline(always)]
-fn uses_label(inst: &Inst<'_>, n: usize, id: u32) -> bool
-    requires { IsTrue (is_labelled (plain_inst inst.now).opcode) }
-    ensures { (G : Table) → FitsShape G (plain_inst inst.now) → IsTrue result
-        → IsUse G (plain_inst inst.now) n id role.Label }
+fn next_case(operands: &[Operand<'_>], n: usize, id: u32) -> usize
+    requires label { IsTrue (labels.is_label_at code.SWITCH n) }
+    requires below { n < length operands.now }
+    ensures further { n < result }
+    ensures same { AreSameCases (plain_operands operands.now) n result id }
 {
-    let Some(found) = label(inst, n) else {
-        return false;
-    };
-    found == id
+    let mut next = n + 2;
+    while next < operands.len() {
+        if !is_id_at(operands, next, id) {
+            return next;
+        }
+        next += 2;
+    }
+    next
 }
 
-/// The id that operand `n` of such an instruction uses as a label, if it does and the operand two before does not use
-/// the same: the cases of an OpSwitch often lead to one block.
+/// From which operand after operand `n`, whose label is `id`, on there may be another label: the cases of an OpSwitch
+/// often lead to one block.
 #[inline(always)]
-pub fn new_label(inst: &Inst<'_>, n: usize) -> Option<u32>
-    requires { IsTrue (is_labelled (plain_inst inst.now).opcode) }
-    ensures { (G : Table) → FitsShape G (plain_inst inst.now)
-        → MatchOption result ((x : ℕ) → IsUse G (plain_inst inst.now) n x role.Label
-        → IsLabelBefore G (plain_inst inst.now) n x)
-        (λ x. IsUse G (plain_inst inst.now) n x role.Label) }
+pub fn next_label(opcode: u16, operands: &[Operand<'_>], n: usize, id: u32) -> usize
+    requires labelled { IsTrue (is_labelled opcode) }
+    requires below { n < length operands.now }
+    requires label { (G : Table) (i : PlainInst) → IsMadeOf i opcode (plain_operands operands.now) → FitsShape G i
+        → IsUse G i n id role.Label }
+    ensures further { n < result }
+    ensures same { (G : Table) (i : PlainInst) (k x : ℕ) → IsMadeOf i opcode (plain_operands operands.now)
+        → FitsShape G i → n < k → k < result → IsUse G i k x role.Label → IsUse G i n x role.Label }
 {
-    let Some(id) = label(inst, n) else {
-        return None;
-    };
-    if 2 <= n && uses_label(inst, n - 2, id) {
-        return None;
+    if opcode != SWITCH {
+        return n + 1;
     }
-    Some(id)
+    if !is_label_at(opcode, n) {
+        return n + 1;
+    }
+    next_case(operands, n, id)
 }

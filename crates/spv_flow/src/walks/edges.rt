@@ -1,18 +1,20 @@
 //! The graph of a function's blocks.
 
-ghost use Rattle.std.specs.Prelude.{◌≡◌, ◌<◌, ◌≤◌, ◌+◌, ◌-◌, ℕ, List, length, slice_index};
+ghost use Rattle.std.specs.Prelude.{◌≡◌, ◌<◌, ◌≤◌, ◌+◌, ◌-◌, ℕ, List, Some, length, slice_index, slice_get};
 ghost use Rattle.std.specs.Prelude.{OnOk, MatchOption};
 ghost use Rattle.spv_table.specs.Table.{Table};
 ghost use Rattle.spv_module.specs.Operand.{PlainInst};
+ghost use Rattle.spv_layout.specs.Shape.{IsUse};
+ghost use Rattle.spv_layout.specs.declared.form.Role.TheVariants.{Label};
 ghost use Rattle.spv_layout.specs.Place.{IsOfFunction, AreFew};
 ghost use Rattle.spv_flow.specs.branches.Target as target;
 ghost use Rattle.spv_flow.specs.branches.Target.{IsOp};
 ghost use Rattle.spv_flow.specs.walks.inner.Code.{insts_of, IsCode};
 ghost use Rattle.spv_flow.specs.walks.inner.Adds.{AddsBy};
-ghost use Rattle.spv_flow.specs.walks.inner.Leading.{AreBlocks, IsLabelAt, IsLabelBefore, HasLabel, LeadsTo};
+ghost use Rattle.spv_flow.specs.walks.inner.Leading.{AreBlocks, IsLabelAt, HasLabel, LeadsTo};
 ghost use Rattle.spv_flow.specs.walks.inner.Leading.{AreInGraph};
 
-use crate::branches::new_label;
+use crate::branches::{label_in, next_label};
 use crate::walks::code::{Code, is_branch, is_terminator};
 use crate::walks::operands::label;
 use spv_graphs::{Block, Graph};
@@ -61,19 +63,15 @@ pub fn target(code: &Code<'_, '_>, blocks: &Blocks<'_>, at: u32, n: usize) -> Op
     blocks.at_label(place)
 }
 
-/// The block whose label operand `n` of a branch is, if it is one of the function, and the operand two before is not
-/// the same label.
+/// The block whose label an id is, if it is one of the function.
 #[inline(always)]
-fn new_target(code: &Code<'_, '_>, blocks: &Blocks<'_>, at: u32, n: usize) -> Option<u32>
+fn block_at(code: &Code<'_, '_>, blocks: &Blocks<'_>, id: u32) -> Option<u32>
     requires blocks { AreBlocks (insts_of code.now) blocks.now }
-    requires at { at < length code.now.insts.now }
-    requires op { IsOp (insts_of code.now) at target.is_branch }
-    ensures { (G : Table) → IsCode G code.now
-        → MatchOption result ((c : ℕ) → IsLabelAt G (insts_of code.now) blocks.now.starts.now at n c
-        → IsLabelBefore G (insts_of code.now) blocks.now.starts.now at n c)
+    ensures { (G : Table) (at n : ℕ) (i : PlainInst) → IsCode G code.now → slice_get (insts_of code.now) at ≡ Some i
+        → IsUse G i n id Label
+        → MatchOption result ((c : ℕ) → ¬ (IsLabelAt G (insts_of code.now) blocks.now.starts.now at n c))
         (λ c. IsLabelAt G (insts_of code.now) blocks.now.starts.now at n c) }
 {
-    let id = new_label(&code.insts[at as usize], n)?;
     let place = code.label_of(id)?;
     blocks.at_label(place)
 }
@@ -91,9 +89,19 @@ fn add_labels(
     ensures { OnOk result (AddsBy code.now (λ G c. HasLabel G (insts_of code.now) blocks.now.starts.now at c)
         targets.old.items targets.new.items) }
 {
-    for n in 0..code.insts[at as usize].operands.as_slice().len() {
-        if let Some(block) = new_target(code, blocks, at, n) {
-            targets.push(block)?;
+    let inst = &code.insts[at as usize];
+    let opcode = inst.opcode;
+    let operands = inst.operands.as_slice();
+    let mut n = 0;
+    while n < operands.len() {
+        match label_in(opcode, operands, n) {
+            Some(id) => {
+                if let Some(block) = block_at(code, blocks, id) {
+                    targets.push(block)?;
+                }
+                n = next_label(opcode, operands, n, id);
+            },
+            None => n += 1,
         }
     }
     Ok(())

@@ -1,7 +1,8 @@
 //! What is asked of the graph of a function's blocks.
 
 ghost use Rattle.std.specs.Prelude.{◌≡◌, ◌<◌, ◌≤◌, ◌+◌, ℕ, Some, nat_le, ◌&&◌, length};
-ghost use Rattle.std.specs.Prelude.{slice_get, option_and_then, OnOk, IfSome, MatchOption, MatchBool};
+ghost use Rattle.std.specs.Prelude.{slice_get, slice_index, option_and_then};
+ghost use Rattle.std.specs.Prelude.{OnOk, IsTrue, IfSome, MatchOption, MatchBool};
 ghost use Rattle.spv_layout.specs.Place.{AreFew};
 ghost use Rattle.spv_table.specs.Table.{Table};
 ghost use Rattle.spv_module.specs.declared.opcode.TheConstants as opcode;
@@ -12,17 +13,18 @@ ghost use Rattle.spv_flow.specs.branches.Ready.{IsLocalValue};
 ghost use Rattle.spv_flow.specs.branches.Target.{IsOp};
 ghost use Rattle.spv_flow.specs.walks.inner.Code.{insts_of, IsCode};
 ghost use Rattle.spv_flow.specs.walks.inner.Divided.{IsIn};
+ghost use Rattle.spv_ids.specs.inner.Outcome.{IsFront};
 ghost use Rattle.spv_ids.specs.inner.Uses as ids;
 ghost use Rattle.spv_flow.specs.walks.inner.Adds.{AddsBy};
 ghost use Rattle.spv_flow.specs.walks.inner.Leading.{AreBlocks};
 ghost use Rattle.spv_flow.specs.walks.inner.Due.{IsFoundAt, IsPairedAt, IsUseQuery, IsPairQuery, HasUseQuery, HasPairQuery};
-ghost use Rattle.spv_flow.specs.walks.inner.Due.{IsQueryAt, IsQueryIn, IsQuery};
+ghost use Rattle.spv_flow.specs.walks.inner.Due.{IsSettled, IsQueryAt, IsQueryIn, IsQuery};
 
 use crate::walks::code::{Code, has_type, is_label_or_branch};
 use crate::walks::edges::{Blocks, target};
 use crate::walks::operands::{use_id, use_id_in, used, value};
 use spv_graphs::Query;
-use spv_module::opcode::{BRANCH, LABEL, PHI};
+use spv_module::opcode::{BRANCH, FUNCTION, LABEL, PHI};
 use std::alloc::AllocError;
 
 /// Where the id is defined that operand `n` of an instruction uses, if it uses one that is defined. Of an operand that
@@ -124,6 +126,9 @@ pub fn pair_query(code: &Code<'_, '_>, blocks: &Blocks<'_>, at: u32, n: usize) -
 {
     let block = target(code, blocks, at, n + 1)?;
     let place = defined_at(code, at, n)?;
+    if code.is_global(place) {
+        return None;
+    }
     let from = blocks.starts[block as usize];
     let to = blocks.starts[block as usize + 1];
     if from <= place && place < to {
@@ -137,15 +142,76 @@ pub fn pair_query(code: &Code<'_, '_>, blocks: &Blocks<'_>, at: u32, n: usize) -
     })
 }
 
-/// Adds what is asked for the uses of an instruction.
+/// Whether it is told at once that the use of an id at an instruction asks nothing, by the list of definitions, `front`:
+/// the id is defined from the instruction `start` on, where the block begins, and before; or before the first function,
+/// or by an OpFunction.
+#[inline(always)]
+fn is_settled(code: &Code<'_, '_>, front: &[u32], start: u32, at: u32, id: u32) -> bool
+    requires front { IsFront code.now.ids.now front.now }
+    requires at { at < length code.now.insts.now }
+    ensures { (G : Table) → IsCode G code.now → IsTrue result → IsSettled (insts_of code.now) id start at }
+{
+    let place = id as usize;
+    if place >= front.len() {
+        return false;
+    }
+    let more = front[place];
+    if more == 0 {
+        return false;
+    }
+    if at < more {
+        return false;
+    }
+    let definition = more - 1;
+    if start <= definition {
+        return true;
+    }
+    if code.is_global(definition) {
+        return true;
+    }
+    code.insts[definition as usize].opcode == FUNCTION
+}
+
+/// Adds what is asked for the use of an id as operand `n` of an instruction.
+#[inline(never)]
+fn add_use(
+    code: &Code<'_, '_>,
+    blocks: &Blocks<'_>,
+    block: u32,
+    at: u32,
+    n: usize,
+    id: u32,
+    queries: &mut Vec<Query>,
+) -> Result<(), AllocError>
+    requires blocks { AreBlocks (insts_of code.now) blocks.now }
+    requires block { block + 1 < length blocks.now.starts.now }
+    requires at { at < length code.now.insts.now }
+    requires id { (i : PlainInst) × (slice_get (insts_of code.now) at ≡ Some i)
+        × (Some id ≡ option_and_then ids.seen_id (slice_get i.operands n)) }
+    ensures { OnOk result (AddsBy code.now (λ G a. IsUseQuery G (insts_of code.now) blocks.now.starts.now block at n a)
+        queries.old.items queries.new.items) }
+{
+    if let Some(query) = use_query(code, blocks, block, at, n, id) {
+        queries.push(query)?;
+    }
+    Ok(())
+}
+
+/// Adds what is asked for the uses of an instruction. `front` is the list of definitions, and `start` the instruction
+/// where the block begins.
+#[inline(always)]
 fn add_uses(
     code: &Code<'_, '_>,
     blocks: &Blocks<'_>,
+    front: &[u32],
+    start: u32,
     block: u32,
     at: u32,
     queries: &mut Vec<Query>,
 ) -> Result<(), AllocError>
     requires blocks { AreBlocks (insts_of code.now) blocks.now }
+    requires front { IsFront code.now.ids.now front.now }
+    requires start { start ≡ slice_index blocks.now.starts.now block }
     requires block { block + 1 < length blocks.now.starts.now }
     requires at { at < length code.now.insts.now }
     ensures { OnOk result (AddsBy code.now (λ G a. HasUseQuery G (insts_of code.now) blocks.now.starts.now block at a)
@@ -154,8 +220,8 @@ fn add_uses(
     let operands = code.insts[at as usize].operands.as_slice();
     for n in 0..operands.len() {
         if let Some(id) = use_id_in(operands, n) {
-            if let Some(query) = use_query(code, blocks, block, at, n, id) {
-                queries.push(query)?;
+            if !is_settled(code, front, start, at, id) {
+                add_use(code, blocks, block, at, n, id, queries)?;
             }
         }
     }
@@ -168,11 +234,15 @@ fn add_uses(
 fn add_first_use(
     code: &Code<'_, '_>,
     blocks: &Blocks<'_>,
+    front: &[u32],
+    start: u32,
     block: u32,
     at: u32,
     queries: &mut Vec<Query>,
 ) -> Result<(), AllocError>
     requires blocks { AreBlocks (insts_of code.now) blocks.now }
+    requires front { IsFront code.now.ids.now front.now }
+    requires start { start ≡ slice_index blocks.now.starts.now block }
     requires block { block + 1 < length blocks.now.starts.now }
     requires at { at < length code.now.insts.now }
     requires op { IsOp (insts_of code.now) at (λ n. nat_le opcode.LABEL n && nat_le n opcode.SWITCH) }
@@ -184,8 +254,8 @@ fn add_first_use(
         return Ok(());
     }
     if let Some(id) = use_id(inst, 0) {
-        if let Some(query) = use_query(code, blocks, block, at, 0, id) {
-            queries.push(query)?;
+        if !is_settled(code, front, start, at, id) {
+            add_use(code, blocks, block, at, 0, id, queries)?;
         }
     }
     Ok(())
@@ -212,16 +282,22 @@ fn add_pairs(
     Ok(())
 }
 
-/// Adds what is asked for an instruction of a block.
+/// Adds what is asked for an instruction of a block. `front` is the list of definitions, and `start` the instruction
+/// where the block begins.
+#[inline(always)]
 fn add_queries(
     code: &Code<'_, '_>,
     blocks: &Blocks<'_>,
+    front: &[u32],
+    start: u32,
     block: u32,
     at: u32,
     queries: &mut Vec<Query>,
 ) -> Result<(), AllocError>
     requires code { (G : Table) × IsCode G code.now }
     requires blocks { AreBlocks (insts_of code.now) blocks.now }
+    requires front { IsFront code.now.ids.now front.now }
+    requires start { start ≡ slice_index blocks.now.starts.now block }
     requires block { block + 1 < length blocks.now.starts.now }
     requires at { at < length code.now.insts.now }
     ensures { OnOk result (AddsBy code.now (λ G a. IsQueryAt G (insts_of code.now) blocks.now.starts.now block at a)
@@ -229,33 +305,35 @@ fn add_queries(
 {
     let opcode = code.insts[at as usize].opcode;
     if is_label_or_branch(opcode) {
-        return add_first_use(code, blocks, block, at, queries);
+        return add_first_use(code, blocks, front, start, block, at, queries);
     }
     if opcode != PHI {
-        return add_uses(code, blocks, block, at, queries);
+        return add_uses(code, blocks, front, start, block, at, queries);
     }
-    let start = blocks.starts[block as usize];
     if code.insts[start as usize].opcode == LABEL {
         return add_pairs(code, blocks, at, queries);
     }
     Ok(())
 }
 
-/// Adds what is asked for the instructions of a block.
+/// Adds what is asked for the instructions of a block. `front` is the list of definitions.
 fn add_block(
     code: &Code<'_, '_>,
     blocks: &Blocks<'_>,
+    front: &[u32],
     block: u32,
     queries: &mut Vec<Query>,
 ) -> Result<(), AllocError>
     requires code { (G : Table) × IsCode G code.now }
     requires blocks { AreBlocks (insts_of code.now) blocks.now }
+    requires front { IsFront code.now.ids.now front.now }
     requires block { block + 1 < length blocks.now.starts.now }
     ensures { OnOk result (AddsBy code.now (λ G a. IsQueryIn G (insts_of code.now) blocks.now.starts.now block a)
         queries.old.items queries.new.items) }
 {
-    for at in blocks.starts[block as usize]..blocks.starts[block as usize + 1] {
-        add_queries(code, blocks, block, at, queries)?;
+    let start = blocks.starts[block as usize];
+    for at in start..blocks.starts[block as usize + 1] {
+        add_queries(code, blocks, front, start, block, at, queries)?;
     }
     Ok(())
 }
@@ -273,8 +351,9 @@ pub fn add_all(
     ensures { OnOk result (AddsBy code.now (λ G a. IsQuery G (insts_of code.now) blocks.now.starts.now a)
         queries.old.items queries.new.items) }
 {
+    let front = code.ids.front();
     for block in 0..blocks.starts.len() - 1 {
-        add_block(code, blocks, block as u32, queries)?;
+        add_block(code, blocks, front, block as u32, queries)?;
     }
     Ok(())
 }

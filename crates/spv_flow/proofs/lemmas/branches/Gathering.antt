@@ -14,7 +14,6 @@ use Rattle.spv_flow.specs.declared.branches.edges.Edges.{Edges}
 use Rattle.spv_flow.specs.branches.inner.Code.{insts_of, IsCode}
 use Rattle.spv_flow.specs.branches.inner.Edges.{IsEdges, HasEdge, AddsEdge}
 use Rattle.spv_flow.specs.branches.inner.Graph.{AddsTargets, AreGathered}
-use Rattle.spv_flow.specs.branches.inner.Labels.{IsLabelBefore}
 use Rattle.spv_flow.specs.branches.Target.{is_branch, IsOp, IsLabelOf, LeadsToBlock}
 use Rattle.spv_flow.proofs.lemmas.branches.Labelled.{use_in, use_at, use_within, one_id, one_label}
 
@@ -26,10 +25,10 @@ pub record IsAdding (c : Code) (old now : Edges) (at block n : ℕ) : Type 0 whe
   pub only : (G : Table) → IsCode G c → IsOp (insts_of c) at is_branch → IsOfBlock (insts_of c) at block → (p b : ℕ) → HasEdge now p b → HasEdge old p b ⊎ LeadsToBlock G (insts_of c) at p b
   pub added : (G : Table) → IsCode G c → (k x b : ℕ) → k < n → IsUsedAt G (insts_of c) at k x Label → IsLabelOf (insts_of c) x b → HasEdge now block b
 
--- an operand that is no label, or one that an earlier operand is
-pub adding_again : (c : Code) (old now : Edges) (at block n : ℕ) (i : PlainInst) → slice_get (insts_of c) at ≡ Some i → ((G : Table) → FitsShape G i → (x : ℕ) → IsUse G i n x Label → IsLabelBefore G i n x)
+-- an operand that is no label
+pub adding_other : (c : Code) (old now : Edges) (at block n : ℕ) (i : PlainInst) → slice_get (insts_of c) at ≡ Some i → ((G : Table) → FitsShape G i → (x : ℕ) → ¬ (IsUse G i n x Label))
     → IsAdding c old now at block n → IsAdding c old now at block (n + 1)
-adding_again c old now at block n i there again before = record {
+adding_other c old now at block n i there none before = record {
   edges = before.edges;
   count = before.count;
   kept = before.kept;
@@ -39,8 +38,23 @@ adding_again c old now at block n i there again before = record {
     | inr more ↦ (
         let e : k ≡ n = omega (arith, lt, more) in
         let u : IsUse G i n x Label = subst (λ (j : ℕ). IsUse G i j x Label) e (use_in G (insts_of c) at k x Label i there used) in
-        let h = again G (is.plan.fits at i there) x u in
-        before.added G is h.0 x b h.1 (use_at G (insts_of c) at h.0 x Label i there h.2) label)
+        absurd (none G (is.plan.fits at i there) x u))
+  ];
+}
+
+-- operands that are no label, or the same as operand n
+pub adding_past : (c : Code) (old now : Edges) (at block n m : ℕ) (i : PlainInst) → slice_get (insts_of c) at ≡ Some i → ((G : Table) (k x : ℕ) → FitsShape G i → n < k → k < m → IsUse G i k x Label → IsUse G i n x Label)
+    → IsAdding c old now at block (n + 1) → IsAdding c old now at block m
+adding_past c old now at block n m i there past before = record {
+  edges = before.edges;
+  count = before.count;
+  kept = before.kept;
+  only = before.only;
+  added = λ G is k x b lt used label. elim (cases_lt k (n + 1)) [
+    | inl less ↦ before.added G is k x b less used label
+    | inr more ↦ (
+        let u = past G k x (is.plan.fits at i there) (omega (arith, more)) lt (use_in G (insts_of c) at k x Label i there used) in
+        before.added G is n x b (omega arith) (use_at G (insts_of c) at n x Label i there u) label)
   ];
 }
 

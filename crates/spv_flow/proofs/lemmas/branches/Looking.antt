@@ -25,19 +25,29 @@ looking_start G c at = record {
   free = λ e k x m lt. absurd (omega (arith, lt));
 }
 
--- an operand that is no label, or one that an earlier operand is
-pub looking_again : (G : Table) (c : Code) (at : ℕ) (enters : Bool) (n : ℕ) → ((x : ℕ) → IsUsedAt G (insts_of c) at n x Label → (k : ℕ) × (k < n) × IsUsedAt G (insts_of c) at k x Label)
-    → IsLooking G c at enters n → IsLooking G c at enters (n + 1)
-looking_again G c at enters n again before =
-    let below : (k x : ℕ) → k < n + 1 → IsUsedAt G (insts_of c) at k x Label → (j : ℕ) × (j < n) × IsUsedAt G (insts_of c) at j x Label = λ k x lt u. elim (cases_lt k n) [
-      | inl less ↦ (k, less, u)
-      | inr more ↦ (let e : k ≡ n = omega (arith, lt, more) in again x (subst (λ (j : ℕ). IsUsedAt G (insts_of c) at j x Label) e u))
-    ] in
-    record {
-      labels = λ k x lt u. (let b = below k x lt u in before.labels b.0 x b.1 b.2);
-      entry = before.entry;
-      free = λ e k x m lt u. (let b = below k x lt u in before.free e b.0 x m b.1 b.2);
-    }
+-- operands that are no label, or one that an operand before operand n is
+looking_to : (G : Table) (c : Code) (at : ℕ) (enters : Bool) (n m : ℕ) → ((k x : ℕ) → k < m → IsUsedAt G (insts_of c) at k x Label → (j : ℕ) × (j < n) × IsUsedAt G (insts_of c) at j x Label)
+    → IsLooking G c at enters n → IsLooking G c at enters m
+looking_to G c at enters n m below before = record {
+  labels = λ k x lt u. (let b = below k x lt u in before.labels b.0 x b.1 b.2);
+  entry = before.entry;
+  free = λ e k x m lt u. (let b = below k x lt u in before.free e b.0 x m b.1 b.2);
+}
+
+-- an operand that is no label
+pub looking_other : (G : Table) (c : Code) (at : ℕ) (enters : Bool) (n : ℕ) → ((x : ℕ) → ¬ (IsUsedAt G (insts_of c) at n x Label)) → IsLooking G c at enters n → IsLooking G c at enters (n + 1)
+looking_other G c at enters n none before = looking_to G c at enters n (n + 1) (λ k x lt u. elim (cases_lt k n) [
+  | inl less ↦ (k, less, u)
+  | inr more ↦ (let e : k ≡ n = omega (arith, lt, more) in absurd (none x (subst (λ (j : ℕ). IsUsedAt G (insts_of c) at j x Label) e u)))
+]) before
+
+-- operands that are no label, or the same as operand n
+pub looking_past : (G : Table) (c : Code) (at : ℕ) (enters : Bool) (n m : ℕ) → ((k x : ℕ) → n < k → k < m → IsUsedAt G (insts_of c) at k x Label → IsUsedAt G (insts_of c) at n x Label)
+    → IsLooking G c at enters (n + 1) → IsLooking G c at enters m
+looking_past G c at enters n m past before = looking_to G c at enters (n + 1) m (λ k x lt u. elim (cases_lt k (n + 1)) [
+  | inl less ↦ (k, less, u)
+  | inr more ↦ (n, omega arith, past k x (omega (arith, more)) lt u)
+]) before
 
 -- the label at an operand
 labels_more : (G : Table) (c : Code) (at : ℕ) (enters : Bool) (n y t : ℕ) → IsUsedAt G (insts_of c) at n y Label → IsLabelOf (insts_of c) y t → IsLooking G c at enters n

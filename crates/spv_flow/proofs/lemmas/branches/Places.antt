@@ -1,7 +1,7 @@
 -- Which operands are labels, by the rows of the table of shapes.
-use Rattle.std.proofs.Common.{◌≡◌, ◌≢◌, ◌∙◌, ◌≤◌, ◌<◌, ◌+◌, ◌-◌, ◌%◌, ℕ, zero, suc, [], ◌∷◌, Bool, true, false, Option, Some, None, length, nat_eq, nat_lt, nat_le, ◌&&◌, inl, inr, refl, sym, ap, subst, arith}
+use Rattle.std.proofs.Common.{◌≡◌, ◌≢◌, ◌∙◌, ◌≤◌, ◌<◌, ◌+◌, ◌-◌, ◌%◌, ℕ, zero, suc, List, [], ◌∷◌, Bool, true, false, Option, Some, None, length, nat_eq, nat_lt, nat_le, ◌&&◌, inl, inr, refl, sym, ap, subst, arith}
 use Rattle.std.specs.Prelude.{slice_get, option_and_then, MatchOption, MatchBool}
-use Rattle.std.proofs.Math.Nat.{mod-lt, mod-eq_of_lt, add-mod_left}
+use Rattle.std.proofs.Math.Nat.{mod-lt, mod-eq_of_lt, add-mod_left, div-add-mod}
 use Rattle.std.proofs.lemmas.Bool.{cases_Bool, cases_eq, cases_lt, eqb-true, eqb-false}
 use Rattle.std.proofs.lemmas.Bool.Decides.{nat_tests}
 use Rattle.spv_module.specs.declared.opcode.TheConstants as opcode
@@ -22,7 +22,7 @@ use Rattle.spv_layout.specs.Shape.{FitsShape, IsUse, IsRole, role_of, id_of}
 use Rattle.spv_layout.specs.inner.Test.{form_in, form_at}
 use Rattle.spv_layout.proofs.Shapes.{use_same}
 use Rattle.spv_layout.proofs.Uses.{role_by}
-use Rattle.spv_flow.specs.branches.inner.Labels.{is_labelled, is_label_at}
+use Rattle.spv_flow.specs.branches.inner.Labels.{is_labelled, is_label_at, AreSameCases}
 use Rattle.spv_flow.specs.branches.Target.{is_merge, is_branch}
 use Rattle.spv_flow.proofs.lemmas.branches.Labelled.{label_some}
 
@@ -331,6 +331,49 @@ label_told G i n p h t e fits = at_operand (slice_get i.operands n) refl
 
 pub no_label_told : (G : Table) (i : PlainInst) (n x : ℕ) → is_labelled i.opcode ≡ true → is_label_at i.opcode n ≡ false → FitsShape G i → ¬ (IsUse G i n x Label)
 no_label_told G i n x h t fits u = placed_false G i n x (is_label_at i.opcode n) t (by_opcode G i n i.opcode u.operand (labelled_cases i.opcode h) refl fits u.operand_at) u
+
+-- Of an OpSwitch the operands between two labels are no labels.
+
+pub case_after : (n : ℕ) → is_label_at opcode.SWITCH n ≡ true → is_label_at opcode.SWITCH (n + 2) ≡ true
+case_after n h =
+    let r = odd_rest (n + 2) (omega arith) in
+    let e : n + 2 - 2 ≡ n = omega arith in
+    let s : n % 2 ≡ (n + 2) % 2 = ap (λ m. m % 2) (sym e) ∙ r in
+    rw (← s) h
+
+pub no_case_after : (n : ℕ) → is_label_at opcode.SWITCH n ≡ true → ¬ (is_label_at opcode.SWITCH (n + 1) ≡ true)
+no_case_after n h g =
+    let a = eqb-true (n % 2) 1 h in
+    let b = eqb-true ((n + 1) % 2) 1 g in
+    let d = div-add-mod n 2 in
+    let e = div-add-mod (n + 1) 2 in
+    absurd (omega (arith, a, b, d, e))
+
+pub same_start : (os : List Plain) (n y : ℕ) → is_label_at opcode.SWITCH n ≡ true → AreSameCases os n (n + 2) y
+same_start os n y h k low high t =
+    let e : k ≡ n + 1 = omega (arith, low, high) in
+    absurd (no_case_after n h (subst (λ (m : ℕ). is_label_at opcode.SWITCH m ≡ true) e t))
+
+pub same_more : (os : List Plain) (n next y : ℕ) → is_label_at opcode.SWITCH next ≡ true → option_and_then id_of (slice_get os next) ≡ Some y → AreSameCases os n next y → AreSameCases os n (next + 2) y
+same_more os n next y h e same k low high t = elim (cases_lt k next) [
+  | inl less ↦ same k low less t
+  | inr more ↦ elim (cases_lt k (next + 1)) [
+    | inl here ↦ (let s : k ≡ next = omega (arith, more, here) in rw s e)
+    | inr past ↦ same_start os next y h k (omega (arith, past)) high t
+  ]
+]
+
+pub same_case : (G : Table) (i : PlainInst) (n to y k x : ℕ) → i.opcode ≡ opcode.SWITCH → IsUse G i n y Label → AreSameCases i.operands n to y
+    → FitsShape G i → n < k → k < to → IsUse G i k x Label → IsUse G i n x Label
+same_case G i n to y k x s w same fits low high u = by_test (is_label_at opcode.SWITCH k) refl
+  where
+    by_test : (b : Bool) → is_label_at opcode.SWITCH k ≡ b → IsUse G i n x Label
+    by_test true t =
+        let a = same k low high t in
+        let o : option_and_then id_of (slice_get i.operands k) ≡ Some x = ap (option_and_then id_of) u.operand_at ∙ u.id in
+        let d : y ≡ x = cc in
+        subst (λ (z : ℕ). IsUse G i n z Label) d w
+    by_test false t = absurd (no_label_told G i k x (rw s refl) (rw s t) fits u)
 
 pub branch_labelled : (x : ℕ) → is_branch x ≡ true → is_labelled x ≡ true
 branch_labelled x h = grind (arith, nat_tests)

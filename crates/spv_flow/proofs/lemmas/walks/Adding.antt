@@ -1,5 +1,5 @@
 -- What is added to a list, step by step.
-use Rattle.std.proofs.Common.{◌≡◌, ◌<◌, ◌+◌, ◌++◌, ◌∙◌, inl, inr, ℕ, zero, suc, List, [], ◌∷◌, refl, ap, subst, arith}
+use Rattle.std.proofs.Common.{◌≡◌, ◌≤◌, ◌<◌, ◌+◌, ◌++◌, ◌∙◌, inl, inr, ℕ, zero, suc, List, [], ◌∷◌, refl, ap, subst, arith}
 use Rattle.std.specs.Prelude.{Contains}
 use Rattle.std.proofs.lemmas.Bool.{cases_lt}
 use Rattle.std.proofs.lemmas.List.Elements.{Contains-append_left, Contains-append_right, Contains-append_cases}
@@ -75,16 +75,13 @@ module _ {A : Type 0} where
     ];
   }
 
-  -- a step that adds nothing new
-  pub adds_again : (c : Code) (P : Table → ℕ → A → Type 0) (n : ℕ) (xs ys : List A) → AddsBy c (UpTo n P) xs ys → ((G : Table) → IsCode G c → (a : A) → P G n a → UpTo n P G a) → AddsBy c (UpTo (n + 1) P) xs ys
-  adds_again c P n xs ys h again = adds_as c (UpTo n P) (UpTo (n + 1) P) xs ys h
-      (λ G is a k. let lt = k.1 in (k.0, omega (arith, lt), k.2))
+  -- steps that add nothing new
+  pub adds_past : (c : Code) (P : Table → ℕ → A → Type 0) (n m : ℕ) (xs ys : List A) → n ≤ m → AddsBy c (UpTo n P) xs ys → ((G : Table) → IsCode G c → (j : ℕ) (a : A) → n ≤ j → j < m → P G j a → UpTo n P G a) → AddsBy c (UpTo m P) xs ys
+  adds_past c P n m xs ys le h past = adds_as c (UpTo n P) (UpTo m P) xs ys h
+      (λ G is a k. let lt = k.1 in (k.0, omega (arith, lt, le), k.2))
       (λ G is a k. elim (cases_lt k.0 n) [
         | inl less ↦ (k.0, less, k.2)
-        | inr more ↦ (
-            let lt = k.1 in
-            let e : k.0 ≡ n = omega (arith, lt, more) in
-            again G is a (subst (λ (j : ℕ). P G j a) e k.2))
+        | inr more ↦ past G is k.0 a more k.1 k.2
       ])
 
   pub adds_end : (c : Code) (P : Table → ℕ → A → Type 0) (n : ℕ) (xs ys : List A) → AddsBy c (UpTo n P) xs ys → ((G : Table) → IsCode G c → (j : ℕ) (a : A) → P G j a → j < n) → AddsBy c (λ G a. (j : ℕ) × P G j a) xs ys

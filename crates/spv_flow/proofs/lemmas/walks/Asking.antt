@@ -1,6 +1,6 @@
 -- The blocks whose labels an instruction has, and what is asked for it, operand by operand.
 use Rattle.std.proofs.Common.{◌≡◌, ◌≤◌, ◌<◌, ◌+◌, ◌∙◌, inl, inr, ℕ, List, Option, Some, None, length, refl, sym, ap, subst, arith}
-use Rattle.std.specs.Prelude.{slice_get, slice_index, MatchOption}
+use Rattle.std.specs.Prelude.{slice_get, slice_index, option_and_then, MatchOption}
 use Rattle.std.proofs.lemmas.Bool.{cases_order}
 use Rattle.spv_table.specs.Table.{Table}
 use Rattle.spv_module.specs.Operand.{PlainInst}
@@ -9,6 +9,7 @@ use Rattle.spv_layout.specs.declared.form.Role.TheVariants.{Value, Label}
 use Rattle.spv_layout.specs.Shape.{IsUse}
 use Rattle.spv_layout.specs.Place.{IsOfFunction}
 use Rattle.spv_ids.specs.Definition.{IsDefinedAt}
+use Rattle.spv_ids.specs.inner.Uses.{seen_id}
 use Rattle.spv_graphs.specs.declared.queries.Query.{Query}
 use Rattle.spv_flow.specs.branches.Target.{IsLabelOf}
 use Rattle.spv_flow.specs.branches.Ready.{IsLocalValue}
@@ -17,9 +18,10 @@ use Rattle.spv_flow.specs.declared.walks.code.Code.{Code}
 use Rattle.spv_flow.specs.declared.walks.edges.Blocks.{Blocks}
 use Rattle.spv_flow.specs.walks.inner.Code.{insts_of, IsCode}
 use Rattle.spv_flow.specs.walks.inner.Divided.{IsIn, IsDivided}
-use Rattle.spv_flow.specs.walks.inner.Leading.{AreBlocks, IsLabelAt, IsLabelBefore}
-use Rattle.spv_flow.specs.walks.inner.Due.{IsFoundAt, IsPairedAt, IsUseQuery, IsPairQuery}
+use Rattle.spv_flow.specs.walks.inner.Leading.{AreBlocks, IsLabelAt}
+use Rattle.spv_flow.specs.walks.inner.Due.{IsFoundAt, IsPairedAt, IsSettled, IsUseQuery, IsPairQuery}
 use Rattle.spv_flow.proofs.lemmas.walks.Coded.{one_place}
+use Rattle.spv_flow.proofs.lemmas.walks.Used.{one_used}
 use Rattle.spv_flow.proofs.lemmas.walks.Walking.{first_in}
 
 -- labels
@@ -47,18 +49,6 @@ target_by G c b at n x place i is are there used label (Some k) h = record {
   inside = h.0;
   label = subst (λ (j : ℕ). IsLabelOf (insts_of c) x j) (sym h.1) label;
 }
-
--- a label that an earlier operand is
-pub label_before : (G : Table) (c : Code) (starts : List ℕ) (at n : ℕ) (i : PlainInst) → slice_get (insts_of c) at ≡ Some i → ((x : ℕ) → IsUse G i n x Label → (k : ℕ) × (k < n) × IsUse G i k x Label)
-    → (b : ℕ) → IsLabelAt G (insts_of c) starts at n b → IsLabelBefore G (insts_of c) starts at n b
-label_before G c starts at n i there before b l =
-    let h = before l.id (use_in G (insts_of c) at n l.id Label i there l.used) in
-    (h.0, h.1, record { id = l.id; used = use_at G (insts_of c) at h.0 l.id Label i there h.2; inside = l.inside; label = l.label })
-
-pub target_or_before : (G : Table) (is : List PlainInst) (starts : List ℕ) (at n : ℕ) (o : Option ℕ) → MatchOption o ((k : ℕ) → ¬ (IsLabelAt G is starts at n k)) (λ k. IsLabelAt G is starts at n k)
-    → MatchOption o ((k : ℕ) → IsLabelAt G is starts at n k → IsLabelBefore G is starts at n k) (λ k. IsLabelAt G is starts at n k)
-target_or_before G is starts at n None h = λ k l. absurd (h k l)
-target_or_before G is starts at n (Some b) h = h
 
 -- uses
 
@@ -92,6 +82,20 @@ use_asked G c starts b at n x d i there found used local apart =
       defined = defined;
       apart = apart;
     }
+
+-- nor is it where the id is settled
+pub no_asked : (G : Table) (c : Code) (starts : List ℕ) (b at n x : ℕ) (i : PlainInst) → IsCode G c → slice_get (insts_of c) at ≡ Some i → Some x ≡ option_and_then seen_id (slice_get i.operands n)
+    → IsSettled (insts_of c) x (slice_index starts b) at → (a : Query) → ¬ (IsUseQuery G (insts_of c) starts b at n a)
+no_asked G c starts b at n x i is there e settled a u =
+    let s : u.id ≡ x = one_used G (insts_of c) at n x u.id u.role i there e u.used in
+    elim settled [
+      | inl out ↦ out (subst (λ (y : ℕ). IsLocalValue (insts_of c) y) s u.local)
+      | inr here ↦ (
+          let v : a.value ≡ here.0 = one_place G c x a.value here.0 is (subst (λ (y : ℕ). IsDefinedAt (insts_of c) y a.value) s u.defined) here.3 in
+          let from = here.1 in
+          let to = here.2 in
+          u.apart (omega (arith, from, v), omega (arith, to, v)))
+    ]
 
 same_query : (s a : Query) → s.block ≡ a.block → s.value ≡ a.value → s.step ≡ a.step → s ≡ a
 same_query s a k v l =

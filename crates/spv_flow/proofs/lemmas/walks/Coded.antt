@@ -1,6 +1,6 @@
 -- Definitions, labels and functions of the instructions that are looked at.
-use Rattle.std.proofs.Common.{◌≡◌, ◌≤◌, ◌<◌, ◌∙◌, ℕ, List, Bool, true, false, Option, Some, None, length, refl, sym, subst, eq-eqb, nat_lt, arith}
-use Rattle.std.specs.Prelude.{slice_get, is_some, MatchBool}
+use Rattle.std.proofs.Common.{◌≡◌, ◌≤◌, ◌<◌, ◌-◌, ◌∙◌, ℕ, zero, suc, List, Bool, true, false, Option, Some, None, length, refl, sym, subst, eq-eqb, nat_lt, arith}
+use Rattle.std.specs.Prelude.{slice_get, slice_index, is_some, MatchBool}
 use Rattle.std.proofs.lemmas.Bool.Decides.{nat_tests}
 use Rattle.std.proofs.lemmas.Bool.{eqb-true}
 use Rattle.std.proofs.lemmas.Option.{slice_get_within}
@@ -13,6 +13,8 @@ use Rattle.spv_layout.specs.Place.{IsOfFunction}
 use Rattle.spv_layout.proofs.Places.{function_same}
 use Rattle.spv_ids.specs.Definition.{IsDefinedAt}
 use Rattle.spv_ids.specs.Outcome.{IsDefinitionOf, definition_in}
+use Rattle.spv_ids.specs.inner.Notes.{number_in}
+use Rattle.spv_ids.specs.inner.Outcome.{IsFront}
 use Rattle.spv_flow.specs.branches.Target.{is_label, IsOp, IsLabelOf}
 use Rattle.spv_flow.specs.branches.Ready.{IsLocalValue}
 use Rattle.spv_flow.proofs.lemmas.branches.Labelled.{op_tells, op_holds}
@@ -29,6 +31,16 @@ past_defined G c x m n is e past d =
     let g = slice_get_within (insts_of c) m o.there.inst o.there.there in
     let l = length-map c.insts.now plain_inst in
     absurd (omega (arith, g, l, past))
+
+-- a definition that the list tells
+number_of : (n : ℕ) → 0 < n → number_in n ≡ Some (n - 1)
+number_of zero h = absurd (omega (arith, h))
+number_of (suc n) h = let e : suc n - 1 ≡ n = omega arith in rw e refl
+
+pub listed : (G : Table) (c : Code) (front : List ℕ) (x : ℕ) → IsCode G c → IsFront c.ids.now front → x < length front → 0 < slice_index front x → IsDefinedAt (insts_of c) x (slice_index front x - 1)
+listed G c front x is tells within some =
+    let e : definition_in c.ids.now x ≡ Some (slice_index front x - 1) = tells x within ∙ number_of (slice_index front x) some in
+    (subst (λ (o : Option ℕ). IsDefinitionOf (insts_of c) x o) e (is.ids.each x)).there
 
 either : (o : Option ℕ) (P : Option ℕ → Type 0) (Q : Type 0) → (P None → Q) → ((m : ℕ) → P (Some m) → Q) → P o → Q
 either None P Q f g h = f h

@@ -14,7 +14,7 @@ use Rattle.spv_layout.specs.declared.form.Form.TheVariants as form
 use Rattle.spv_module.specs.declared.opcode.TheConstants as opcode
 use Rattle.spv_layout.specs.Shape.{is_of, AreOf, FitsShape, IsUse, IsRole, role_of, id_of}
 use Rattle.spv_layout.proofs.Shapes.{use_same}
-use Rattle.spv_ids.specs.Definition.{IsDefinedAt}
+use Rattle.spv_ids.specs.Definition.{IsDefinedAt, IsUsedAt}
 use Rattle.spv_ids.specs.inner.Uses.{behind, seen_id}
 use Rattle.spv_ids.proofs.Used.{behind_other, id_used, mention_told}
 use Rattle.spv_flow.proofs.lemmas.branches.Labelled.{use_in}
@@ -129,6 +129,10 @@ found_by G is m n x i there e (Some d) h = λ y r u.
     let k = use_other G i n y r (use_in G is m n y r i there u) in
     let s : x ≡ y = cc in
     subst (λ (z : ℕ). IsDefinedAt is z d) s h
+
+-- and that id is the one that is used
+pub one_used : (G : Table) (is : List PlainInst) (m n x y : ℕ) (r : Role) (i : PlainInst) → slice_get is m ≡ Some i → Some x ≡ option_and_then seen_id (slice_get i.operands n) → IsUsedAt G is m n y r → y ≡ x
+one_used G is m n x y r i there e u = let k = use_other G i n y r (use_in G is m n y r i there u) in cc
 
 -- the id of an operand of a slice
 pub id_in : (os xs : List Operand) (n : ℕ) → xs ≡ os → option_and_then seen_id (slice_get (map plain_operand xs) n) ≡ option_and_then seen_id (slice_get (map plain_operand os) n)

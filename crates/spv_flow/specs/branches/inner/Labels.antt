@@ -1,11 +1,10 @@
 -- Which operands are labels, by the opcode and the operand's number. The table of shapes says the same. (For the code
 -- alone.)
-use Rattle.std.specs.Prelude.{◌%◌, ◌<◌, ℕ, Bool, nat_eq, nat_le, ◌&&◌, ◌||◌, if◌then◌else◌}
-use Rattle.spv_table.specs.Table.{Table}
-use Rattle.spv_module.specs.Operand.{PlainInst}
+use Rattle.std.specs.Prelude.{◌≡◌, ◌%◌, ◌<◌, ℕ, List, Some, Bool, true, nat_eq, nat_le, ◌&&◌, ◌||◌, if◌then◌else◌}
+use Rattle.std.specs.Prelude.{slice_get, option_and_then}
+use Rattle.spv_module.specs.Operand.{Plain, PlainInst}
 use Rattle.spv_module.specs.declared.opcode.TheConstants as opcode
-use Rattle.spv_layout.specs.Shape.{IsUse}
-use Rattle.spv_layout.specs.declared.form.Role.TheVariants.{Label}
+use Rattle.spv_layout.specs.Shape.{id_of}
 use Rattle.spv_flow.specs.branches.Target.{is_phi, is_merge, is_branch}
 
 -- whether an opcode is that of an OpPhi, a merge or a terminator with labels
@@ -26,6 +25,13 @@ is_label_at code n =
     else if nat_eq code opcode.LOOP_MERGE then nat_le n 1
     else nat_eq n 0
 
--- an operand before operand n uses the id as a label
-abbrev pub IsLabelBefore : Table → PlainInst → ℕ → ℕ → Type 0
-IsLabelBefore G i n x = (k : ℕ) × (k < n) × IsUse G i k x Label
+-- the instruction has that opcode and these operands
+pub record IsMadeOf (i : PlainInst) (code : ℕ) (os : List Plain) : Type 0 where
+  pub of : i.opcode ≡ code
+  pub has : i.operands ≡ os
+
+-- Each operand after operand n and before another is no label of an OpSwitch, or the same id.
+abbrev pub AreSameCases : List Plain → ℕ → ℕ → ℕ → Type 0
+AreSameCases operands n to x =
+    (k : ℕ) → n < k → k < to → is_label_at opcode.SWITCH k ≡ true
+    → option_and_then id_of (slice_get operands k) ≡ Some x

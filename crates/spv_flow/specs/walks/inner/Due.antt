@@ -21,6 +21,10 @@ abbrev pub IsPairedAt : Table → List PlainInst → ℕ → ℕ → Option ℕ 
 IsPairedAt G is m n None = (x : ℕ) → IsUsedAt G is m n x Value → ¬ (IsLocalValue is x)
 IsPairedAt G is m n (Some d) = (x : ℕ) × IsUsedAt G is m n x Value × IsLocalValue is x × IsDefinedAt is x d
 
+-- The id is no local value, or an instruction from n on and before m defines it.
+abbrev pub IsSettled : List PlainInst → ℕ → ℕ → ℕ → Type 0
+IsSettled is x n m = ¬ (IsLocalValue is x) ⊎ ((d : ℕ) × (n ≤ d) × (d < m) × IsDefinedAt is x d)
+
 -- Operand n of instruction m of block b uses a value, of which the definition does not stand before m in the block.
 pub record IsUseQuery (G : Table) (is : List PlainInst) (starts : List ℕ) (b m n : ℕ) (a : Query) : Type 0 where
   pub block : a.block ≡ b

@@ -26,10 +26,7 @@ pub record IsLabelAt (G : Table) (is : List PlainInst) (starts : List ℕ) (m n 
   pub inside : c + 1 < length starts
   pub label : IsLabelOf is id (slice_index starts c)
 
--- Some operand before operand n is.
-abbrev pub IsLabelBefore : Table → List PlainInst → List ℕ → ℕ → ℕ → ℕ → Type 0
-IsLabelBefore G is starts m n c = (k : ℕ) × (k < n) × IsLabelAt G is starts m k c
-
+-- Some operand is.
 abbrev pub HasLabel : Table → List PlainInst → List ℕ → ℕ → ℕ → Type 0
 HasLabel G is starts m c = (n : ℕ) × IsLabelAt G is starts m n c
 

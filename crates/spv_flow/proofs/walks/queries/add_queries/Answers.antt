@@ -1,5 +1,4 @@
-use Rattle.std.proofs.Common.{◌∙◌, inl, inr, nat_le, ◌&&◌, get_or, sym, eq-eqb, arith}
-use Rattle.std.specs.Prelude.{slice_index}
+use Rattle.std.proofs.Common.{◌<◌, ◌∙◌, inl, inr, ℕ, length, nat_le, ◌&&◌, get_or, sym, subst, eq-eqb, arith}
 use Rattle.std.proofs.lemmas.Bool.{eqb-true}
 use Rattle.std.proofs.lemmas.Result.{on_ok_weaker}
 use Rattle.spv_module.specs.declared.opcode.TheConstants as opcode
@@ -54,13 +53,14 @@ pub returns-then-code-start-eq-LABEL : goal.returns-then-code-start-eq-LABEL
 returns-then-code-start-eq-LABEL c =
     let code = c.args.code.now in
     let starts = c.args.blocks.now.starts.now in
-    let s = slice_index starts c.args.block in
+    let s = c.args.start in
     let i = plain_inst (get_or code.insts.now c.args.at c.index-code-at.result) in
     let there = inst_get code.insts.now c.args.at c.index-code-at.result c.requires.at in
     let phi = op_holds (insts_of code) c.args.at i is_phi there (eq-eqb i.opcode opcode.PHI c.if-opcode-ne-PHI.false) in
     let j = plain_inst (get_or code.insts.now s c.index-code-start.result) in
-    let here = inst_get code.insts.now s c.index-code-start.result (start_within code c.args.blocks.now c.requires.blocks c.args.block c.requires.block) in
-    let label = op_holds (insts_of code) s j is_label here (eq-eqb j.opcode opcode.LABEL c.if-code-start-eq-LABEL.true) in
+    let within : s < length code.insts.now = rw c.requires.start (start_within code c.args.blocks.now c.requires.blocks c.args.block c.requires.block) in
+    let here = inst_get code.insts.now s c.index-code-start.result within in
+    let label = subst (λ (n : ℕ). IsOp (insts_of code) n is_label) c.requires.start (op_holds (insts_of code) s j is_label here (eq-eqb j.opcode opcode.LABEL c.if-code-start-eq-LABEL.true)) in
     on_ok_weaker c.add_pairs.result
     (λ h. adds_as code (λ (G : Table) (a : Query). HasPairQuery G (insts_of code) starts c.args.at a) (λ (G : Table) (a : Query). IsQueryAt G (insts_of code) starts c.args.block c.args.at a) c.args.queries.now.items c.add_pairs.new.queries.items h
     (λ G is a p. inr (phi, label, p))
@@ -71,13 +71,14 @@ pub returns : goal.returns
 returns c =
     let code = c.args.code.now in
     let starts = c.args.blocks.now.starts.now in
-    let s = slice_index starts c.args.block in
+    let s = c.args.start in
     let i = plain_inst (get_or code.insts.now c.args.at c.index-code-at.result) in
     let there = inst_get code.insts.now c.args.at c.index-code-at.result c.requires.at in
     let phi = op_holds (insts_of code) c.args.at i is_phi there (eq-eqb i.opcode opcode.PHI c.if-opcode-ne-PHI.false) in
     let j = plain_inst (get_or code.insts.now s c.index-code-start.result) in
-    let here = inst_get code.insts.now s c.index-code-start.result (start_within code c.args.blocks.now c.requires.blocks c.args.block c.requires.block) in
+    let within : s < length code.insts.now = rw c.requires.start (start_within code c.args.blocks.now c.requires.blocks c.args.block c.requires.block) in
+    let here = inst_get code.insts.now s c.index-code-start.result within in
     adds_none code (λ (G : Table) (a : Query). IsQueryAt G (insts_of code) starts c.args.block c.args.at a) c.args.queries.now.items (λ G is a k. elim k [
       | inl u ↦ u.0 phi
-      | inr p ↦ c.if-code-start-eq-LABEL.false (eqb-true j.opcode opcode.LABEL (op_tells (insts_of code) s j is_label here p.1))
+      | inr p ↦ c.if-code-start-eq-LABEL.false (eqb-true j.opcode opcode.LABEL (op_tells (insts_of code) s j is_label here (subst (λ (n : ℕ). IsOp (insts_of code) n is_label) (sym c.requires.start) p.1)))
     ])

@@ -1,4 +1,4 @@
-use Rattle.std.proofs.Common.{◌≡◌, ◌≤◌, ◌+◌, ◌++◌, ◌∙◌, ℕ, List, [], ◌∷◌, Vec, Global, Some, length, get_or, sym, ap, subst, arith}
+use Rattle.std.proofs.Common.{◌≡◌, ◌≤◌, ◌+◌, ◌∙◌, ℕ, Vec, Global, Some, length, get_or, sym, ap, subst, arith}
 use Rattle.std.specs.Prelude.{slice_get}
 use Rattle.std.proofs.lemmas.List.{length-map}
 use Rattle.spv_table.specs.Table.{Table}
@@ -10,14 +10,14 @@ use Rattle.spv_flow.proofs.lemmas.branches.Labelled.{inst_get, use_in, use_withi
 use Rattle.spv_flow.specs.walks.inner.Code.{insts_of}
 use Rattle.spv_flow.specs.walks.inner.Due.{IsUseQuery}
 use Rattle.spv_flow.specs.walks.inner.Adds.{AddsBy}
-use Rattle.spv_flow.proofs.lemmas.walks.Adding.{UpTo, adds_none, adds_one, adds_step, adds_end}
-use Rattle.spv_flow.proofs.lemmas.walks.Asking.{no_use, one_use}
+use Rattle.spv_flow.proofs.lemmas.walks.Adding.{UpTo, adds_none, adds_step, adds_end}
+use Rattle.spv_flow.proofs.lemmas.walks.Asking.{no_use, no_asked}
 use Rattle.spv_flow.proofs.lemmas.walks.Used.{none_found, id_in}
 use Rattle.spv_flow.proofs.walks.queries.add_uses.Goals as goal
-use Rattle.spv_flow.proofs.walks.queries.add_uses.Goals.{in-Some+in-Some-use_query+in_ok-push, in-Some+in_default-use_query, in_default}
+use Rattle.spv_flow.proofs.walks.queries.add_uses.Goals.{in-Some+then-not-is_settled+in_ok-add_use, in-Some+else-not-is_settled, in_default}
 
-pub use_query-requires-clause-id : goal.use_query-requires-clause-id
-use_query-requires-clause-id c =
+pub add_use-requires-clause-id : goal.add_use-requires-clause-id
+add_use-requires-clause-id c =
     let code = c.args.code.now in
     let inst : Inst = get_or code.insts.now c.args.at c.index-code-at.result in
     let there = inst_get code.insts.now c.args.at c.index-code-at.result c.requires.at in
@@ -36,14 +36,12 @@ loop-n-preserved c =
     let e = id_in inst.operands c.as_slice-operands.result.now n c.as_slice-operands.ensures.value in
     let P : Table → ℕ → Query → Type 0 = λ G j a. IsUseQuery G (insts_of code) starts c.args.block c.args.at j a in
     elim c.match-use_id_in.branch [
-      | in-Some+in-Some-use_query+in_ok-push w ↦ (
-          let query = w.in-Some-use_query.query in
-          let one = adds_one code (λ G a. P G n a) now query (λ G is. w.in-Some-use_query.ensures G is) (λ G is a p. one_use G code starts c.args.block c.args.at c.loop-n.n query a is (w.in-Some-use_query.ensures G is) p) in
-          let all = adds_step code P n old now (now ++ query ∷ []) c.loop-n.invariant one in
-          let pushed = subst (λ (xs : List Query). AddsBy code (UpTo (n + 1) P) old xs) (sym w.in_ok-push.ensures.items) all in
-          subst (λ (v : Vec Query Global). AddsBy code (UpTo (n + 1) P) old v.items) (sym w.queries-is) pushed)
-      | in-Some+in_default-use_query w ↦ (
-          let none = adds_none code (λ G a. P G n a) now (λ G is. w.in_default-use_query.ensures G is) in
+      | in-Some+then-not-is_settled+in_ok-add_use w ↦ (
+          let all = adds_step code P n old now w.add_use.new.queries.items c.loop-n.invariant w.in_ok-add_use.ensures in
+          subst (λ (v : Vec Query Global). AddsBy code (UpTo (n + 1) P) old v.items) (sym w.queries-is) all)
+      | in-Some+else-not-is_settled w ↦ (
+          let used = sym w.in-Some.is ∙ c.use_id_in.ensures ∙ e in
+          let none = adds_none code (λ G a. P G n a) now (λ G is. no_asked G code starts c.args.block c.args.at n w.in-Some.id (plain_inst inst) is there used (rw (← c.requires.start) (w.is_settled.ensures G is w.if-not-is_settled.false))) in
           let all = adds_step code P n old now now c.loop-n.invariant none in
           subst (λ (v : Vec Query Global). AddsBy code (UpTo (n + 1) P) old v.items) (sym w.queries-is) all)
       | in_default w ↦ (

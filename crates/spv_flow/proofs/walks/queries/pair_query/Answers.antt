@@ -1,5 +1,5 @@
 use Rattle.std.proofs.Common.{inl, inr, arith}
-use Rattle.spv_flow.proofs.lemmas.walks.Asking.{none_paired, no_pair_value, no_pair_label, no_pair_need, pair_asked}
+use Rattle.spv_flow.proofs.lemmas.walks.Asking.{none_paired, not_paired, no_pair_value, no_pair_label, no_pair_need, pair_asked}
 use Rattle.spv_flow.proofs.walks.queries.pair_query.Goals as goal
 
 pub returns-in_err-block : goal.returns-in_err-block
@@ -11,6 +11,11 @@ pub returns-in_err-place : goal.returns-in_err-place
 returns-in_err-place c = λ G is.
     let code = c.args.code.now in
     rw c.from_residual-in_err-place.ensures (no_pair_value G code c.args.blocks.now.starts.now c.args.at c.args.n (none_paired G code c.args.at c.args.n (c.in_err-place.ensures.used G is)))
+
+pub returns-then-is_global : goal.returns-then-is_global
+returns-then-is_global c = λ G is.
+    let code = c.args.code.now in
+    no_pair_value G code c.args.blocks.now.starts.now c.args.at c.args.n (not_paired G code c.args.at c.args.n c.in_ok-place.place (c.in_ok-place.ensures.used G is) (λ y at. c.is_global.ensures G y is at c.if-is_global.true))
 
 pub bounds-blocks-block : goal.bounds-blocks-block
 bounds-blocks-block c =

@@ -1,7 +1,8 @@
-use Rattle.std.proofs.Common.{◌<◌, ◌+◌, get_or, arith}
+use Rattle.std.proofs.Common.{◌<◌, get_or, arith}
 use Rattle.std.proofs.lemmas.List.{length-map}
 use Rattle.spv_module.specs.Module.{plain_inst}
-use Rattle.spv_ids.proofs.Bools.{eq_tells}
+use Rattle.spv_module.specs.declared.opcode.TheConstants as opcode
+use Rattle.spv_ids.proofs.Bools.{lt_tells}
 use Rattle.spv_ids.proofs.Passing.{inst_of, sound_next}
 use Rattle.spv_ids.proofs.survey.Survey.is_next.Goals as goal
 
@@ -23,4 +24,4 @@ returns c = λ x e t q b.
     let j = plain_inst (get_or s.insts.now d c.index-self-definition.result) in
     let t1 = inst_of s n c.index-self-inst.result v c.requires.below in
     let t2 = inst_of s d c.index-self-definition.result v y in
-    sound_next s n x d c.args.floor i j v (eq_tells d (n + 1) t) t1 t2 c.if-there-le-FUNCTION_END.false c.if-next-le-FUNCTION_END.false o (e l) q b
+    sound_next s n x d c.args.floor i j v c.if-definition-inst.false t1 t2 c.if-there-le-FUNCTION_END.false (lt_tells opcode.FUNCTION_END j.opcode t) o (e l) q b
