@@ -102,6 +102,7 @@ impl<'m, 'a> Definitions<'m, 'a> {
     /// out. Rules that ask much of ids read it there.
     ///
     /// An `AllocError` comes only where a growth of memory was refused.
+    #[inline(never)]
     pub fn meanings(&self, alloc: Global) -> Result<Vec<Meaning>, AllocError>
         requires { AreFew self.now }
         ensures { IfOk result (λ ms. AreMeant self.now ms.items) }

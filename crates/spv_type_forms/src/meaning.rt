@@ -183,6 +183,20 @@ fn meaning_typed(number: u16, t: u32) -> Meaning
     }
 }
 
+/// What an instruction whose result is an id says of it, where it declares a type. By a call, so that the loop over all
+/// instructions, of which few do, keeps its registers.
+#[inline(never)]
+fn declared_note(inst: &Inst, id: u32) -> Option<Note>
+    ensures id { IfSome result (λ n. n.id ≡ id) }
+    ensures said { IfSome result (λ n. IsSaid (plain_inst inst.now) n.meaning) }
+{
+    let form = form_in(inst)?;
+    Some(Note {
+        id,
+        meaning: meaning_of(form),
+    })
+}
+
 /// What an instruction says of its result, where its type comes first, or where it declares a type.
 #[inline(always)]
 pub fn note_in(inst: &Inst) -> Option<Note>
@@ -194,13 +208,7 @@ pub fn note_in(inst: &Inst) -> Option<Note>
             id: *x,
             meaning: meaning_typed(inst.opcode, *t),
         }),
-        [Operand::Result(x), ..] => {
-            let form = form_in(inst)?;
-            Some(Note {
-                id: *x,
-                meaning: meaning_of(form),
-            })
-        }
+        [Operand::Result(x), ..] => declared_note(inst, *x),
         _ => None,
     }
 }

@@ -1,6 +1,6 @@
 //! Which roles an instruction asks its ids to play, by its opcode.
 
-ghost use Rattle.std.specs.Prelude.{◌≡◌};
+ghost use Rattle.std.specs.Prelude.{◌≡◌, false};
 ghost use Rattle.spv_type_rules.specs.roles.inner.Asked as spec;
 
 use spv_layout::Role;
@@ -84,24 +84,32 @@ fn late(number: u16) -> Option<Asked>
     }
 }
 
-/// The roles that an opcode's row of the table of shapes asks for, which a proof compares with the table: one `match`
-/// in place of a walk over the row's forms, since each instruction of a module asks. None for OpSource and OpPhi, whose
-/// ids are not told so.
+/// Whether an opcode asks for values, and for anything after the mask of a memory access: conversions, arithmetic,
+/// comparisons, bits, barriers and atomics, memory, and composites. Of the opcodes among these that have no row nothing
+/// is said.
 #[inline(always)]
-pub fn asked_of(number: u16) -> Option<Asked>
-    ensures { result ≡ spec.asked_of number }
+pub fn asks_values(number: u16) -> bool
+    ensures { result ≡ spec.asks_values number }
 {
     match number {
-        // Conversions, arithmetic, comparisons, bits, barriers and atomics, memory, and composites: values, and
-        // anything after the mask of a memory access. Of the opcodes among these that have no row nothing is said.
         opcode::CONVERT_F_TO_U..=opcode::ATOMIC_XOR
         | opcode::LOAD..=opcode::IN_BOUNDS_PTR_ACCESS_CHAIN
-        | opcode::VECTOR_EXTRACT_DYNAMIC..=opcode::COPY_OBJECT => ask(
-            Role::Value,
-            Role::Value,
-            Role::Any,
-        ),
-        0..=opcode::VARIABLE => early(number),
-        _ => late(number),
+        | opcode::VECTOR_EXTRACT_DYNAMIC..=opcode::COPY_OBJECT => true,
+        _ => false,
+    }
+}
+
+/// The roles that an opcode's row of the table of shapes asks for, which a proof compares with the table: one `match`
+/// in place of a walk over the row's forms, since each instruction of a module asks. None for OpSource and OpPhi, whose
+/// ids are not told so. At opcodes that ask for values `asks_values` tells it.
+#[inline(always)]
+pub fn asked_besides(number: u16) -> Option<Asked>
+    requires { spec.asks_values number ≡ false }
+    ensures { result ≡ spec.asked_of number }
+{
+    if number <= opcode::VARIABLE {
+        early(number)
+    } else {
+        late(number)
     }
 }

@@ -8,13 +8,14 @@ ghost use Rattle.spv_layout.specs.Place.{IsShort};
 ghost use Rattle.spv_layout.specs.Stage.{of_roles};
 ghost use Rattle.spv_layout.specs.Plan.{IsPlan};
 ghost use Rattle.spv_layout.specs.Shape.{FitsShape};
+ghost use Rattle.spv_layout.specs.declared.form.Role.TheVariants as due;
 ghost use Rattle.spv_type_rules.specs.roles.inner.Asked.{ArePlayed, IsOneMiscast};
 ghost use Rattle.spv_type_rules.specs.roles.Broken.{Broken};
 ghost use Rattle.spv_type_rules.specs.roles.inner.Known as known;
 ghost use Rattle.spv_type_rules.specs.roles.inner.Known.{IsInRole, IsMiscast, AreInRoleBefore, HasMiscast};
 ghost use Rattle.spv_type_rules.specs.roles.Outcome.{AreInRole, IsRefusal};
 
-use crate::roles::asked::{Asked, asked_of};
+use crate::roles::asked::{Asked, asked_besides, asks_values};
 use crate::roles::role::{are_type_and, are_values, defines_type, is_type_id, plays};
 use spv_layout::{Role, role};
 use spv_module::{Fault, Inst, Module, Operand, Rule};
@@ -51,6 +52,7 @@ fn is_in_role(definitions: &Definitions<'_, '_>, inst: &Inst<'_>, k: usize) -> b
 }
 
 /// Whether all uses of an instruction are in their roles, operand by operand.
+#[inline(never)]
 fn each_in_role(definitions: &Definitions<'_, '_>, inst: &Inst<'_>) -> bool
     ensures { (G : Table) → FitsShape G (plain_inst inst.now)
         → MatchBool result (AreInRoleBefore G definitions.now (plain_inst inst.now) (length inst.now.operands))
@@ -65,6 +67,7 @@ fn each_in_role(definitions: &Definitions<'_, '_>, inst: &Inst<'_>) -> bool
 }
 
 /// Whether types are types, arguments values, and ids play the roles that are asked for, operand by operand.
+#[inline(never)]
 fn each_played(definitions: &Definitions<'_, '_>, asked: Asked, operands: &[Operand<'_>]) -> bool
     ensures { MatchBool result (ArePlayed definitions.now asked.first asked.others asked.masked
         (plain_operands operands.now))
@@ -157,36 +160,47 @@ fn are_few_played(definitions: &Definitions<'_, '_>, asked: Asked, operands: &[O
     }
 }
 
-/// Whether types are types, and ids play the roles that are asked for. Operands as they mostly stand are looked at
-/// first: a result of two values, and two values before a memory access of one literal.
+/// The roles that most instructions ask for: values, and anything after a mask.
+const VALUES: Asked = Asked {
+    first: Role::Value,
+    others: Role::Value,
+    masked: Role::Any,
+};
+
+/// Whether types are types, and ids are values up to a mask. Operands as they mostly stand are looked at first: a
+/// result of two values, of one alone or before a memory access of one literal, and two values before such an access.
 #[inline(always)]
-fn are_played(definitions: &Definitions<'_, '_>, asked: Asked, operands: &[Operand<'_>]) -> bool
-    ensures { MatchBool result (ArePlayed definitions.now asked.first asked.others asked.masked
-        (plain_operands operands.now))
-        (IsOneMiscast definitions.now asked.first asked.others asked.masked (plain_operands operands.now)) }
+fn are_values_played(definitions: &Definitions<'_, '_>, operands: &[Operand<'_>]) -> bool
+    ensures { MatchBool result (ArePlayed definitions.now due.Value due.Value due.Any (plain_operands operands.now))
+        (IsOneMiscast definitions.now due.Value due.Value due.Any (plain_operands operands.now)) }
 {
-    match (asked.first, asked.others, operands) {
-        (
+    match operands {
+        [
+            Operand::OfType(t),
+            Operand::Result(_),
+            Operand::Id(a),
+            Operand::Id(b),
+        ] => defines_type(definitions, *t) && are_values(definitions, *a, *b),
+        [Operand::OfType(t), Operand::Result(_), Operand::Id(a)] => are_type_and(
+            definitions,
+            *t,
             Role::Value,
-            Role::Value,
-            [
-                Operand::OfType(t),
-                Operand::Result(_),
-                Operand::Id(a),
-                Operand::Id(b),
-            ],
-        ) => defines_type(definitions, *t) && are_values(definitions, *a, *b),
-        (
-            Role::Value,
-            Role::Value,
-            [
-                Operand::Id(a),
-                Operand::Id(b),
-                Operand::Mask { .. },
-                Operand::Word(_),
-            ],
-        ) => are_values(definitions, *a, *b),
-        _ => are_few_played(definitions, asked, operands),
+            *a,
+        ),
+        [
+            Operand::OfType(t),
+            Operand::Result(_),
+            Operand::Id(a),
+            Operand::Mask { .. },
+            Operand::Word(_),
+        ] => are_type_and(definitions, *t, Role::Value, *a),
+        [
+            Operand::Id(a),
+            Operand::Id(b),
+            Operand::Mask { .. },
+            Operand::Word(_),
+        ] => are_values(definitions, *a, *b),
+        _ => each_played(definitions, VALUES, operands),
     }
 }
 
@@ -209,11 +223,14 @@ fn are_in_role(definitions: &Definitions<'_, '_>, inst: &Inst<'_>) -> bool
         (HasMiscast G definitions.now (plain_inst inst.now)) }
 {
     let operands = inst.operands.as_slice();
+    if asks_values(inst.opcode) {
+        return are_values_played(definitions, operands);
+    }
     if uses_nothing(operands) {
         return true;
     }
-    match asked_of(inst.opcode) {
-        Some(asked) => are_played(definitions, asked, operands),
+    match asked_besides(inst.opcode) {
+        Some(asked) => are_few_played(definitions, asked, operands),
         None => each_in_role(definitions, inst),
     }
 }
@@ -227,6 +244,7 @@ fn are_in_role(definitions: &Definitions<'_, '_>, inst: &Inst<'_>) -> bool
 ///
 /// A `Fault` tells Y1 at the first instruction with a use that is not in its role, and that instruction's first word
 /// (words and instructions from 0).
+#[inline(never)]
 pub fn roles_check(module: &Module<'_>, definitions: &Definitions<'_, '_>) -> Result<(), Fault>
     // The condition of `lay_out`.
     requires words { IsShort (plain_insts «module».now) }

@@ -1,14 +1,15 @@
 -- Y5 at an instruction, beside the other rules of types.
-use Rattle.std.proofs.Common.{◌≡◌, ◌∙◌, sym, subst, ◌↔◌, if◌then◌else◌, ◌<◌, ◌||◌, inl, inr, ℕ, List, Option, Some, None, Bool, true, false, refl, ap, arith}
+use Rattle.std.proofs.Common.{◌≡◌, ◌∙◌, sym, subst, ◌↔◌, if◌then◌else◌, ◌<◌, ◌≤◌, ◌+◌, ◌&&◌, ◌||◌, inl, inr, ℕ, List, Option, Some, None, Bool, true, false, not, nat_eq, nat_le, refl, ap, arith}
 use Rattle.std.specs.Prelude.{IsTrue, slice_get}
-use Rattle.std.proofs.lemmas.Bool.{cases_lt}
+use Rattle.std.proofs.lemmas.Bool.{cases_lt, ne_eqb, lt-leb, le-leb}
 use Rattle.spv_table.specs.Table.{Table}
 use Rattle.spv_module.specs.Operand.{PlainInst}
+use Rattle.spv_module.specs.declared.opcode.TheConstants as opcode
 use Rattle.spv_module.specs.declared.fault.Rule.{Rule}
 use Rattle.spv_module.specs.declared.fault.Rule.TheVariants as rule
 use Rattle.spv_layout.specs.First.{rank_of}
 use Rattle.spv_layout.specs.Shape.{FitsShape}
-use Rattle.spv_type_forms.proofs.Opcodes.{all_from, one_from}
+use Rattle.spv_type_forms.proofs.Opcodes.{both, all_from, one_from}
 use Rattle.spv_ops.specs.declared.row.Row.{Row}
 use Rattle.spv_ops.specs.declared.row.Row.TheVariants as row
 use Rattle.spv_ops.specs.Row.{row_of}
@@ -16,12 +17,18 @@ use Rattle.spv_ops.specs.Typed.{IsTyped, IsTypedAt}
 use Rattle.spv_ops.specs.inner.Typed.{IsTypedIn}
 use Rattle.spv_ops.proofs.Judged.{told}
 use Rattle.spv_ops.proofs.Rows.{count, late_row}
+use Rattle.spv_type_rules.specs.declared.repeat.Seen.{Seen}
 use Rattle.spv_type_rules.specs.inner.Concern.{is_operation}
+use Rattle.spv_type_rules.specs.inner.Counted.{AreCounted}
+use Rattle.spv_type_rules.specs.inner.Repeat.{is_declared_once}
+use Rattle.spv_type_rules.specs.inner.Seen.{AreSeen}
 use Rattle.spv_type_rules.specs.Keeps.{Keeps, KeepsFunctions, KeepsReturns}
 use Rattle.spv_type_rules.specs.inner.Keeps.{CallsAreSound}
 use Rattle.spv_type_rules.specs.inner.Rules.{Unasked, IsFirstHere}
 use Rattle.spv_type_rules.proofs.Concerns.{operation_kept}
+use Rattle.spv_type_rules.proofs.Counting.{counted_next}
 use Rattle.spv_type_rules.proofs.Firsts.{all_kept}
+use Rattle.spv_type_rules.proofs.Repeating.{not_once}
 use Rattle.spv_verdict.specs.inner.Pass.{IsFirstTypeHere}
 
 -- An opcode that is not that of an operation has no row.
@@ -115,3 +122,64 @@ operation_told G is n i false e h = record {
   broken = λ t. let no : false ≡ true = h.1 t in cc;
   least = λ q l. with_typed G is n i q (λ y. absurd (later q y l)) (operation_kept is n i e q);
 }
+
+-- An operation declares no type, and is neither an OpFunction nor an OpFunctionParameter.
+
+record IsOther (n : ℕ) : Type 0 where
+  pub once : is_declared_once n ≡ false
+  pub function : nat_eq n opcode.FUNCTION ≡ false
+  pub parameter : nat_eq n opcode.FUNCTION_PARAMETER ≡ false
+
+abbrev is_other : ℕ → Bool
+is_other n = not (is_declared_once n) && (not (nat_eq n opcode.FUNCTION) && not (nat_eq n opcode.FUNCTION_PARAMETER))
+
+abbrev is_told : ℕ → Bool
+is_told n = not (is_operation n) || is_other n
+
+-- the number past the last opcode of an operation
+abbrev limit : ℕ
+limit = opcode.LIFETIME_STOP + 1
+
+all_told : all_from is_told 0 limit ≡ true
+all_told = refl
+
+not_yes : (b : Bool) → not b ≡ true → b ≡ false
+not_yes true h = cc
+not_yes false h = refl
+
+no_longer : (b : Bool) → b ≡ true → not b ≡ false
+no_longer true h = refl
+no_longer false h = cc
+
+early_other : (n : ℕ) → n < limit → is_operation n ≡ true → IsOther n
+early_other n h e =
+    let t = left_of (not (is_operation n)) (is_other n) (one_from is_told limit 0 n all_told (omega arith) h) (no_longer (is_operation n) e) in
+    let p = both (not (is_declared_once n)) (not (nat_eq n opcode.FUNCTION) && not (nat_eq n opcode.FUNCTION_PARAMETER)) t in
+    let q = both (not (nat_eq n opcode.FUNCTION)) (not (nat_eq n opcode.FUNCTION_PARAMETER)) p.1 in
+    record { once = not_yes (is_declared_once n) p.0; function = not_yes (nat_eq n opcode.FUNCTION) q.0; parameter = not_yes (nat_eq n opcode.FUNCTION_PARAMETER) q.1 }
+
+differs : (n m : ℕ) → m < n → nat_eq n m ≡ false
+differs n m h = ne_eqb n m (λ e. absurd (omega arith))
+
+late_once : (n : ℕ) → limit ≤ n → is_declared_once n ≡ false
+late_once n h =
+    let e : nat_le n opcode.TYPE_VECTOR ≡ false = lt-leb n opcode.TYPE_VECTOR (omega arith) in
+    let f : nat_le opcode.TYPE_VOID n ≡ true = le-leb opcode.TYPE_VOID n (omega arith) in
+    rw (e, f, differs n opcode.TYPE_OPAQUE (omega arith), differs n opcode.TYPE_FUNCTION (omega arith)) refl
+
+other : (n : ℕ) → is_operation n ≡ true → IsOther n
+other n e = elim (cases_lt n limit) [
+  | inl h ↦ early_other n h e
+  | inr h ↦ record { once = late_once n h; function = differs n opcode.FUNCTION (omega arith); parameter = differs n opcode.FUNCTION_PARAMETER (omega arith) }
+]
+
+-- What is known of the instructions before an operation is known of it too.
+
+pub operation_seen : (is : List PlainInst) (n : ℕ) (i : PlainInst) (s : Seen) → slice_get is n ≡ Some i → is_operation i.opcode ≡ true → AreSeen is n s → AreSeen is (n + 1) s
+operation_seen is n i s at e a = not_once is n i s.slots.items s.others.keys at (other i.opcode e).once a
+
+pub operation_counted : (is : List PlainInst) (n c : ℕ) (i : PlainInst) → slice_get is n ≡ Some i → is_operation i.opcode ≡ true → AreCounted is n c → AreCounted is (n + 1) c
+operation_counted is n c i at e a =
+    let o = other i.opcode e in
+    let s : (if nat_eq i.opcode opcode.FUNCTION then 0 else (if nat_eq i.opcode opcode.FUNCTION_PARAMETER then c + 1 else c)) ≡ c = rw (o.function, o.parameter) refl in
+    subst (λ k. AreCounted is (n + 1) k) s (counted_next is n c i at a)

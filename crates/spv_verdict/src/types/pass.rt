@@ -1,15 +1,12 @@
 //! The instructions of a module, one after another.
 
-ghost use Rattle.std.specs.Prelude.{◌≡◌, ◌↔◌, ℕ, IfOk, IsTrue, MatchOption, Some, length, map, slice_get};
-ghost use Rattle.spv_table.specs.Table.{Table};
+ghost use Rattle.std.specs.Prelude.{◌≡◌, IfOk, MatchOption, length, map};
 ghost use Rattle.spv_module.specs.Module.{plain_inst};
 ghost use Rattle.spv_layout.specs.Place.{AreFew};
 ghost use Rattle.spv_layout.specs.Plan.{IsPlan};
 ghost use Rattle.spv_capabilities.specs.inner.Subject as subject;
-ghost use Rattle.spv_type_rules.specs.Repeat.{Repeats};
-ghost use Rattle.spv_type_rules.specs.inner.Counted.{AreCounted};
 ghost use Rattle.spv_type_rules.specs.inner.Rules.{AreRules, rules_insts};
-ghost use Rattle.spv_verdict.specs.inner.Pass.{AreKept, IsFirstFault, IsFirstTypeHere};
+ghost use Rattle.spv_verdict.specs.inner.Pass.{AreKept, IsFirstFault};
 
 use spv_capabilities::Entries;
 use spv_module::{Inst, Rule};
@@ -25,34 +22,10 @@ pub struct Found {
     pub inst: u32,
 }
 
-/// The first of the rules Y2 to Y8 that is broken at the instruction of a number, by what is known of those before it.
-#[inline(always)]
-fn first_of_types<'a>(
-    rules: &Rules<'_, 'a>,
-    number: u32,
-    inst: &Inst<'a>,
-    known: Known,
-) -> Option<Rule>
-    requires rules { AreRules rules.now }
-    requires inst { slice_get (rules_insts rules.now) number ≡ Some (plain_inst inst.now) }
-    requires repeats { IsTrue known.repeats ↔ Repeats (rules_insts rules.now) number (plain_inst inst.now) }
-    requires parameters { AreCounted (rules_insts rules.now) number known.parameters }
-    ensures { (G : Table) → IsPlan G (rules_insts rules.now) rules.now.plan.now
-        → IsFirstTypeHere G (rules_insts rules.now) number (plain_inst inst.now) result }
-{
-    if !is_operation(inst.opcode) {
-        return rules.first_at(number, inst, known);
-    }
-    if inst_holds(rules.definitions(), number, inst) {
-        None
-    } else {
-        Some(Rule::Y5)
-    }
-}
-
 /// The first rule that is broken after Y1, by instruction and then by rule.
 ///
 /// `Memory` comes only where a growth of memory was refused.
+#[inline(never)]
 pub fn first_fault<'a>(
     alloc: Global,
     insts: &[Inst<'a>],
@@ -74,14 +47,24 @@ pub fn first_fault<'a>(
         if let Some(rule) = entries.first_in(n, inst)? {
             return Ok(Some(Found { rule, inst: n }));
         }
-        let known = Known {
-            repeats: seen.repeats(alloc, inst)?,
-            parameters,
-        };
-        if let Some(rule) = first_of_types(rules, n, inst, known) {
-            return Ok(Some(Found { rule, inst: n }));
+        // Of the rules Y2 to Y8 only Y5 speaks of an operation.
+        if is_operation(inst.opcode) {
+            if !inst_holds(rules.definitions(), n, inst) {
+                return Ok(Some(Found {
+                    rule: Rule::Y5,
+                    inst: n,
+                }));
+            }
+        } else {
+            let known = Known {
+                repeats: seen.repeats(alloc, inst)?,
+                parameters,
+            };
+            if let Some(rule) = rules.first_at(n, inst, known) {
+                return Ok(Some(Found { rule, inst: n }));
+            }
+            parameters = next_count(inst, parameters);
         }
-        parameters = next_count(inst, parameters);
     }
     Ok(None)
 }

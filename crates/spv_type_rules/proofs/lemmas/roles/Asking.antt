@@ -14,7 +14,7 @@ use Rattle.spv_layout.specs.Rows.{rows}
 use Rattle.spv_layout.specs.Shape.{is_of, AreOf, Ends, HasForms, FitsShape, role_of, id_of}
 use Rattle.spv_type_forms.proofs.Opcodes.{both, and_yes, all_pass, one_passes}
 use Rattle.spv_type_rules.specs.declared.roles.asked.Asked.{Asked}
-use Rattle.spv_type_rules.specs.roles.inner.Asked.{asked_of, IsPlayed, due_after, next_after, ArePlayed, IsOneMiscast}
+use Rattle.spv_type_rules.specs.roles.inner.Asked.{asks_values, asked_of, IsPlayed, due_after, next_after, ArePlayed, IsOneMiscast}
 use Rattle.spv_type_rules.specs.roles.Role.{Plays}
 use Rattle.spv_type_rules.specs.roles.inner.Known.{AreInRoleBefore, HasMiscast}
 
@@ -438,6 +438,10 @@ forms_ask G i fs a k has =
     let h = told i.opcode a has.row.fixed has.row.ending k (one_passes asks_in rows i.opcode has.row all_fit known) in
     let e : fs ≡ has.row.fixed ++ has.rest = has.forms in
     rw e (row_asks a.first a.others a.masked has.row.fixed has.row.ending has.rest h has.ending)
+
+-- what opcodes ask for that ask for values
+pub asked_values : (n : ℕ) → asks_values n ≡ true → asked_of n ≡ Some (record { first = role.Value; others = role.Value; masked = role.Any })
+asked_values n e = rw e refl
 
 -- The code's answer is that of the shape.
 pub judged : (G : Table) (is : List PlainInst) (i : PlainInst) (a : Asked) (to : ℕ) (b : Bool) → asked_of i.opcode ≡ Some a → FitsShape G i

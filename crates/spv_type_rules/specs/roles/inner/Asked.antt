@@ -40,12 +40,16 @@ late n =
     else (if nat_eq n opcode.PHI then None
     else ask role.Any role.Any role.Any))
 
-abbrev pub asked_of : ℕ → Option Asked
-asked_of n =
-    if is_between opcode.CONVERT_F_TO_U opcode.ATOMIC_XOR n
+-- those that ask for values
+abbrev pub asks_values : ℕ → Bool
+asks_values n =
+    is_between opcode.CONVERT_F_TO_U opcode.ATOMIC_XOR n
     || is_between opcode.LOAD opcode.IN_BOUNDS_PTR_ACCESS_CHAIN n
     || is_between opcode.VECTOR_EXTRACT_DYNAMIC opcode.COPY_OBJECT n
-    then ask role.Value role.Value role.Any
+
+abbrev pub asked_of : ℕ → Option Asked
+asked_of n =
+    if asks_values n then ask role.Value role.Value role.Any
     else (if nat_le n opcode.VARIABLE then early n
     else late n)
 

@@ -1,0 +1,19 @@
+use Rattle.std.proofs.Common.{rules, ◌≡◌, true, get_or}
+use Rattle.spv_module.specs.declared.operand.Operand.TheVariants as code
+use Rattle.spv_module.specs.Operand.{OfType, Id}
+use Rattle.spv_module.specs.Module.{plain_operand}
+use Rattle.spv_layout.specs.declared.form.Role.TheVariants as role
+use Rattle.spv_type_rules.proofs.lemmas.roles.Accessed.{is_result, is_mask, is_word, accessed_played}
+use Rattle.spv_type_rules.proofs.roles.check.are_values_played.Goals as goal
+
+pub returns-in-OfType-3 : goal.returns-in-OfType-3
+returns-in-OfType-3 c =
+    let os = c.args.operands.now in
+    let d = code.OfType 0 in
+    let p0 : plain_operand (get_or c.args.operands.now 0 (code.OfType 0)) ≡ OfType c.in-OfType-3.t = search rules in
+    let p1 : is_result (plain_operand (get_or c.args.operands.now 1 (code.OfType 0))) ≡ true = search rules in
+    let p2 : plain_operand (get_or c.args.operands.now 2 (code.OfType 0)) ≡ Id c.in-OfType-3.a = search rules in
+    let p3 : is_mask (plain_operand (get_or c.args.operands.now 3 (code.OfType 0))) ≡ true = search rules in
+    let p4 : is_word (plain_operand (get_or c.args.operands.now 4 (code.OfType 0))) ≡ true = search rules in
+    accessed_played c.args.definitions.now role.Value role.Value role.Any c.are_type_and-in-OfType-3.result os d c.in-OfType-3.t c.in-OfType-3.a c.in-OfType-3.len_at_least c.in-OfType-3.len_below
+    p0 p1 p2 p3 p4 c.are_type_and-in-OfType-3.ensures
