@@ -28,3 +28,7 @@ pub mod Buffers
 pub mod EdgeCounts
 pub mod ShortIds
 pub mod Links
+pub mod Drafts
+pub mod Fronts
+pub mod Lines
+pub mod Noteless

@@ -53,7 +53,7 @@ pub record Later (q : Quoting) (line : List ℕ) : Type 0 where
   pub cut : cut_from q line ≡ take (until_id q line) line ∷ parts
   pub same : (f : List ℕ → List ℕ) → f [] ≡ [] → flat_map f parts ≡ flat_map f (cut_from (base q) (drop (until_id q line) line))
 
-later : (q : Quoting) (line : List ℕ) → Later q line
+pub later : (q : Quoting) (line : List ℕ) → Later q line
 later q [] = record { parts = []; cut = refl; same = λ f e. sym (ap (λ z. z ++ []) e) }
 later q (b ∷ line) = by (begins_id q b) refl (later (after_byte q b) line)
   where

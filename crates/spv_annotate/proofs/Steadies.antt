@@ -10,13 +10,13 @@ use Rattle.spv_annotate.specs.Html.{escaped, escaped_byte}
 use Rattle.spv_annotate.specs.Page.{after_byte, begins_id, cut_from, id_of, linked, part_html}
 use Rattle.spv_annotate.specs.inner.Linked.{base, is_bare_byte, is_steady, until_id}
 
-steady_begins : (q : Quoting) (b : ℕ) → is_steady b ≡ true → begins_id q b ≡ false
+pub steady_begins : (q : Quoting) (b : ℕ) → is_steady b ≡ true → begins_id q b ≡ false
 steady_begins Outside b h = grind (arith, nat_tests)
 steady_begins Within b h = refl
 steady_begins Behind b h = refl
 steady_begins Commented b h = grind (arith, nat_tests)
 
-steady_after : (q : Quoting) (b : ℕ) → base q ≡ q → is_steady b ≡ true → after_byte q b ≡ q
+pub steady_after : (q : Quoting) (b : ℕ) → base q ≡ q → is_steady b ≡ true → after_byte q b ≡ q
 steady_after Outside b e h = let f : (b == 34) ≡ false = grind (arith, nat_tests) in rw f refl
 steady_after Within b e h = cc
 steady_after Behind b e h = cc
@@ -42,7 +42,7 @@ both false b h = cc
 bare_mark : (b : ℕ) → is_bare_byte b ≡ true → (b == 37) ≡ false
 bare_mark b h = grind (arith, nat_tests)
 
-bare_byte : (b : ℕ) → is_bare_byte b ≡ true → escaped_byte b ≡ b ∷ []
+pub bare_byte : (b : ℕ) → is_bare_byte b ≡ true → escaped_byte b ≡ b ∷ []
 bare_byte b h = grind (arith, nat_tests)
 
 bare_escaped : (t : List ℕ) → list_all is_bare_byte t ≡ true → escaped t ≡ t

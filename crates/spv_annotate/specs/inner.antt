@@ -6,6 +6,7 @@ pub mod Known
 pub mod Standing
 pub mod Task
 pub mod Linked
+pub mod Draft
 pub mod Look
 pub mod Uses
 pub mod Tame

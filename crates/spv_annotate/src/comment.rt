@@ -1,7 +1,8 @@
 //! The comment behind the line of an instruction.
 
-ghost use Rattle.std.specs.Prelude.{◌≡◌, ◌++◌, ◌<◌, ◌≤◌, ◌+◌, ℕ, OnOk, drop, length, map, string_bytes};
+ghost use Rattle.std.specs.Prelude.{◌≡◌, ◌++◌, ◌<◌, ◌≤◌, ◌+◌, [], ℕ, List, OnOk, drop, length, map, string_bytes, true};
 ghost use Rattle.spv_module.specs.Module.{plain_inst, plain_insts};
+ghost use Rattle.spv_module.specs.Operand.{PlainInst};
 ghost use Rattle.spv_layout.specs.Place.{first_word_of};
 ghost use Rattle.spv_annotate.specs.Module.{inst_at};
 ghost use Rattle.spv_annotate.specs.Notes.{block_note, column, comment, gap, notes, place_text};
@@ -22,11 +23,11 @@ use std::str::from_utf8_unchecked;
 const COLUMN: &str = "                                                ";
 
 /// The size of a buffer for these spaces and two numbers with their words.
-const PLACE: usize = 96;
+pub const PLACE: usize = 96;
 
 /// How many of these spaces are left out behind a line of so many octets: as many, but for one that is there at least.
 #[inline(always)]
-fn left_out(count: usize) -> usize
+pub fn left_out(count: usize) -> usize
     ensures text { drop result column ≡ gap count }
     ensures small { result < 48 }
 {
@@ -90,6 +91,37 @@ fn push_notes_at(
     push_notes(out, insts, known, at, &insts[at as usize])
 }
 
+/// Whether it is found at once that there are no notes on an instruction.
+#[inline(always)]
+pub fn is_bare(known: &Known, at: u32, inst: &Inst<'_>) -> bool
+    ensures { (is : List PlainInst) → IsKnown is known.now → result ≡ true
+        → notes is (value_in known.now.values at) at (plain_inst inst.now) ≡ [] }
+{
+    if known.named {
+        return false;
+    }
+    if inst.opcode == opcode::EXT_INST || inst.opcode == opcode::LABEL {
+        return false;
+    }
+    known.values.of(at).is_empty()
+}
+
+/// Puts spaces up to the column of comments but for so many, and the numbers of an instruction and of its first word,
+/// at the end of a buffer.
+#[inline(always)]
+pub fn place_in(buffer: &mut [u8], omitted: usize, at: u32, word: u32) -> &str
+    requires size { length buffer.old ≡ 96 }
+    requires few { omitted < 48 }
+    ensures { result.now ≡ drop omitted column ++ place_text at word }
+{
+    let last = put_number(buffer, word, PLACE);
+    let between = put_octets(buffer, b" word ", last);
+    let first = put_number(buffer, at, between);
+    let begin = put_octets(buffer, b"; inst ", first);
+    let left = put_octets(buffer, COLUMN.as_bytes(), begin);
+    unsafe { from_utf8_unchecked(&buffer[left + omitted..]) }
+}
+
 /// Adds spaces up to the column of comments but for so many, and the numbers of an instruction and of its first word.
 fn push_place(out: &mut String, omitted: usize, at: u32, word: u32) -> Result<(), AllocError>
     requires { omitted < 48 }
@@ -97,12 +129,7 @@ fn push_place(out: &mut String, omitted: usize, at: u32, word: u32) -> Result<()
         ≡ string_bytes out.old ++ (drop omitted column ++ place_text at word)) }
 {
     let mut buffer = [0u8; PLACE];
-    let last = put_number(&mut buffer, word, PLACE);
-    let between = put_octets(&mut buffer, b" word ", last);
-    let first = put_number(&mut buffer, at, between);
-    let begin = put_octets(&mut buffer, b"; inst ", first);
-    let left = put_octets(&mut buffer, COLUMN.as_bytes(), begin);
-    out.push_str(unsafe { from_utf8_unchecked(&buffer[left + omitted..]) })
+    out.push_str(place_in(&mut buffer, omitted, at, word))
 }
 
 /// Adds the comment behind the line of an instruction, which has so many octets, and the spaces before it.

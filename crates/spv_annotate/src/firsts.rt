@@ -1,11 +1,13 @@
 //! The first instruction that defines or names an id.
 
 ghost use Rattle.std.specs.Prelude.{◌≡◌, ◌≤◌, ◌<◌, ℕ, Some, if◌then◌else◌, IfOk, OnOk, length, map};
+ghost use Rattle.std.specs.List.{list_any};
 ghost use Rattle.spv_table.specs.Lookups.{is_number};
 ghost use Rattle.spv_module.specs.Module.{plain_inst, plain_operands};
 ghost use Rattle.spv_layout.specs.Place.{AreFew};
 ghost use Rattle.spv_annotate.specs.Module as specs;
 ghost use Rattle.spv_annotate.specs.Module.{definition_of, naming_of};
+ghost use Rattle.spv_annotate.specs.inner.Known.{is_naming};
 ghost use Rattle.spv_annotate.specs.inner.Numbers.{kept};
 
 use crate::numbers::Numbers;
@@ -58,6 +60,18 @@ pub fn find_definitions(alloc: Global, insts: &[Inst<'_>]) -> Result<Numbers, Al
         keep(&mut numbers, insts[at].result_id(), at as u32)?;
     }
     Ok(numbers)
+}
+
+/// Whether one of some instructions is an OpName.
+pub fn has_names(insts: &[Inst<'_>]) -> bool
+    ensures { result ≡ list_any is_naming (map plain_inst insts.now) }
+{
+    for inst in insts {
+        if inst.opcode == opcode::NAME {
+            return true;
+        }
+    }
+    false
 }
 
 /// Of each id the first OpName that names it.

@@ -9,6 +9,7 @@ ghost use Rattle.spv_annotate.specs.Page as specs;
 ghost use Rattle.spv_annotate.specs.Page.{IsPage, beginnings, contents_of, page_of};
 ghost use Rattle.spv_annotate.specs.inner.Look.{scene};
 
+use crate::draft::SIZE;
 use crate::finding::Finding;
 use crate::firsts::{find_definitions, find_namings};
 use crate::html::push_escaped;
@@ -97,8 +98,14 @@ pub fn page(
     };
     let mut out = page_contents(look, title, function)?;
     out.push_str(MIDDLE)?;
-    let mut pen = PagePen { out, look };
+    let mut pen = PagePen {
+        out,
+        look,
+        buffer: [0u8; SIZE],
+        at: 0,
+    };
     annotate_with(alloc, table, module, finding, function, &mut pen)?;
+    pen.finish()?;
     let PagePen { mut out, .. } = pen;
     out.push_str(END)?;
     Ok(out)

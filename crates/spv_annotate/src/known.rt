@@ -6,7 +6,7 @@ ghost use Rattle.spv_layout.specs.Place.{IsShort};
 ghost use Rattle.spv_annotate.specs.inner.Known.{IsKnown};
 
 use crate::edges::find_edges;
-use crate::firsts::{find_definitions, find_namings};
+use crate::firsts::{find_definitions, find_namings, has_names};
 use crate::numbers::Numbers;
 use crate::opencl::table_lines;
 use crate::uses::Uses;
@@ -21,6 +21,8 @@ pub struct Known {
     pub definitions: Numbers,
     /// Of each id the first OpName that names it.
     pub namings: Numbers,
+    /// Whether there is an OpName.
+    pub named: bool,
     /// The edges between blocks.
     pub edges: Uses,
     /// The lines of the table of OpenCL.std.
@@ -45,6 +47,7 @@ impl Known {
         Ok(Known {
             definitions,
             namings,
+            named: has_names(insts),
             edges,
             calls,
             values,

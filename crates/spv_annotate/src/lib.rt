@@ -5,6 +5,8 @@ mod buffer;
 mod calls;
 mod comment;
 mod contents;
+mod draft;
+mod drafted;
 mod edges;
 mod finding;
 mod firsts;

@@ -11,7 +11,6 @@ ghost use Rattle.spv_annotate.specs.inner.Numbers.{kept};
 ghost use Rattle.spv_annotate.specs.Html.{escaped};
 ghost use Rattle.spv_annotate.specs.Page as page;
 ghost use Rattle.spv_annotate.specs.Page.{after_byte, id_html, id_of, ids_at, link_to, linked, part_html};
-ghost use Rattle.spv_annotate.specs.declared.linked.Quoting.TheVariants.{Commented};
 
 use crate::buffer::{push_between, put_number, put_octets};
 use crate::html::{first_mark, is_mark, push_escaped};
@@ -30,7 +29,7 @@ const LONGEST_TAIL: usize = 24;
 const LINK: usize = 96;
 
 /// A number below this one has room for one more digit.
-const ROOM: u32 = 429_496_729;
+pub const ROOM: u32 = 429_496_729;
 
 /// Where a reader of a line stands.
 #[derive(Clone, Copy)]
@@ -335,7 +334,7 @@ fn is_bare_byte(byte: u8) -> bool
 
 /// Whether each byte of a comment stands for itself, and none begins an id. It looks at all of them, so that a compiler
 /// can take many at a time.
-fn is_bare(text: &[u8]) -> bool
+pub fn is_bare(text: &[u8]) -> bool
     ensures { result ≡ list_all specs.is_bare_byte text.now }
 {
     let mut bare = true;
@@ -343,17 +342,4 @@ fn is_bare(text: &[u8]) -> bool
         bare &= is_bare_byte(*byte);
     }
     bare
-}
-
-/// Adds a comment in which ids that are defined have links.
-///
-/// An `AllocError` comes only where a growth of memory was refused, and then nothing is said of what is left.
-pub fn push_remark(out: &mut String, definitions: &Numbers, text: &str) -> Result<(), AllocError>
-    ensures { OnOk result (string_bytes out.new
-        ≡ string_bytes out.old ++ linked (kept definitions.now) Commented text.now) }
-{
-    if is_bare(text.as_bytes()) {
-        return out.push_str(text);
-    }
-    push_linked(out, definitions, Quoting::Commented, text)
 }

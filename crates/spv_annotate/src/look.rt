@@ -1,20 +1,22 @@
 //! What is written in a page for each piece.
 
-ghost use Rattle.std.specs.Prelude.{◌≡◌, ◌≤◌, ◌++◌, ℕ, List, OnOk, codes, length, map, decimal, string_bytes};
+ghost use Rattle.std.specs.Prelude.{◌≡◌, ◌≤◌, ◌+◌, ◌++◌, IfOk, IsUtf8, codes, length, map, decimal, string_bytes};
+ghost use Rattle.std.specs.Prelude.{take};
+ghost use Rattle.spv_table.specs.Lookups.{is_number};
 ghost use Rattle.spv_module.specs.Module.{plain_inst};
 ghost use Rattle.spv_module.specs.Operand.{result_in};
 ghost use Rattle.spv_annotate.specs.Piece.{Comment, Line, Mark, plain_piece};
 ghost use Rattle.spv_annotate.specs.Module.{inst_at};
+ghost use Rattle.spv_annotate.specs.Html.{escaped};
 ghost use Rattle.spv_annotate.specs.Page as page;
-ghost use Rattle.spv_annotate.specs.Page.{headed, line_class, linked, page_of, use_links};
-ghost use Rattle.spv_annotate.specs.declared.linked.Quoting.TheVariants.{Outside};
-ghost use Rattle.spv_annotate.specs.inner.Buffer.{most_beside};
+ghost use Rattle.spv_annotate.specs.Page.{line_class, page_of, use_links};
+ghost use Rattle.spv_annotate.specs.inner.Draft.{IsAdded, IsDrafted, heading_begin, heading_end};
 ghost use Rattle.spv_annotate.specs.inner.Look.{scene};
-ghost use Rattle.spv_annotate.specs.inner.Numbers.{kept};
 
-use crate::buffer::push_between;
+use crate::draft::{add_number, add_text, push_draft, push_fixed, settle};
+use crate::drafted::{push_drafted, push_remark};
 use crate::html::push_escaped;
-use crate::linked::{Quoting, push_linked, push_remark};
+use crate::linked::{Quoting, push_linked};
 use crate::numbers::Numbers;
 use crate::piece::Piece;
 use crate::uses::Uses;
@@ -40,12 +42,68 @@ pub struct Look<'p, 'a> {
     pub walk: &'p Numbers,
 }
 
-/// Adds an empty line where a section begins.
-fn push_section(out: &mut String, section: u32) -> Result<(), AllocError>
-    ensures { OnOk result (string_bytes out.new
-        ≡ string_bytes out.old ++ (codes "<br id=s" ++ (decimal section ++ codes ">\n"))) }
+/// Adds a line of the header.
+#[inline(never)]
+fn push_header(out: &mut String, buffer: &[u8], at: usize, text: &str) -> Result<usize, AllocError>
+    requires within { at ≤ length buffer.now }
+    requires utf8 { IsUtf8 (take at buffer.now) }
+    ensures { IfOk result (λ end. IsDrafted (codes "<div>" ++ escaped text.now) (string_bytes out.old) at buffer.now
+        (string_bytes out.new) end buffer.now) }
 {
-    push_between(out, "<br id=s", section, ">\n")
+    push_draft(out, buffer, at)?;
+    out.push_str("<div>")?;
+    push_escaped(out, text)?;
+    Ok(0)
+}
+
+/// Adds an empty line where a section begins.
+fn push_section(
+    out: &mut String,
+    buffer: &mut [u8],
+    at: usize,
+    section: u32,
+) -> Result<usize, AllocError>
+    requires size { 4096 ≤ length buffer.old }
+    requires at { at ≤ 1024 }
+    requires utf8 { IsUtf8 (take at buffer.old) }
+    ensures { IfOk result (λ end. IsDrafted (codes "<br id=s" ++ (decimal section ++ codes ">\n"))
+        (string_bytes out.old) at buffer.old (string_bytes out.new) end buffer.new) }
+{
+    let number = add_text(buffer, "<br id=s", at);
+    let behind = add_number(buffer, section, number);
+    let added = add_text(buffer, ">\n", behind);
+    let end = settle(out, buffer, added)?;
+    Ok(end)
+}
+
+/// Begins the heading that a line is, if it is one, behind a place, and gives where that ends.
+#[inline(always)]
+fn add_heading(buffer: &mut [u8], opcode: u16, at: usize) -> usize
+    requires { at + 8 ≤ length buffer.old }
+    ensures low { at ≤ result }
+    ensures high { result ≤ at + 8 }
+    ensures added { IsAdded (heading_begin opcode) at result buffer.old buffer.new }
+{
+    match opcode {
+        opcode::FUNCTION => add_text(buffer, "<h2>", at),
+        opcode::LABEL => add_text(buffer, "<h3>", at),
+        _ => at,
+    }
+}
+
+/// Ends the heading that a line is, if it is one, behind a place, and gives where that ends.
+#[inline(always)]
+fn add_heading_end(buffer: &mut [u8], opcode: u16, at: usize) -> usize
+    requires { at + 8 ≤ length buffer.old }
+    ensures low { at ≤ result }
+    ensures high { result ≤ at + 8 }
+    ensures added { IsAdded (heading_end opcode) at result buffer.old buffer.new }
+{
+    match opcode {
+        opcode::FUNCTION => add_text(buffer, "</h2>", at),
+        opcode::LABEL => add_text(buffer, "</h3>", at),
+        _ => at,
+    }
 }
 
 impl<'p, 'a> Look<'p, 'a> {
@@ -69,6 +127,17 @@ impl<'p, 'a> Look<'p, 'a> {
         }
     }
 
+    /// Whether an instruction is that of the fault.
+    #[inline(always)]
+    fn is_fault(&self, inst: u32) -> bool
+        ensures { result ≡ is_number inst self.now.fault }
+    {
+        match self.fault {
+            Some(fault) => fault == inst,
+            None => false,
+        }
+    }
+
     /// Whether an instruction is the label of a block of the walk.
     fn is_walked(&self, inst: u32) -> bool
         ensures { result ≡ page.is_walked (scene self.now) inst }
@@ -85,124 +154,148 @@ impl<'p, 'a> Look<'p, 'a> {
         }
     }
 
-    /// How the line of an instruction is marked, and the end of its tag.
-    fn class(&self, inst: u32) -> &'static str
-        ensures text { result.now ≡ line_class (scene self.now) inst ++ codes ">" }
-        ensures short { length result.now ≤ most_beside }
+    /// Adds how the line of an instruction is marked, and the end of its tag, behind a place. Gives where that ends.
+    fn add_class(&self, buffer: &mut [u8], inst: u32, at: usize) -> usize
+        requires { at + 32 ≤ length buffer.old }
+        ensures low { at ≤ result }
+        ensures high { result ≤ at + 16 }
+        ensures added { IsAdded (line_class (scene self.now) inst ++ codes ">") at result buffer.old buffer.new }
     {
-        if self.fault == Some(inst) {
-            return " class=fault>";
+        if self.is_fault(inst) {
+            return add_text(buffer, " class=fault>", at);
         }
         if self.is_walked(inst) {
-            return " class=walk>";
+            return add_text(buffer, " class=walk>", at);
         }
-        ">"
+        add_text(buffer, ">", at)
     }
 
-    /// Opens the line of an instruction.
-    fn push_opening(&self, out: &mut String, inst: u32) -> Result<(), AllocError>
-        ensures { OnOk result (string_bytes out.new ≡ string_bytes out.old
-            ++ (codes "<div id=" ++ (decimal inst ++ (line_class (scene self.now) inst ++ codes ">")))) }
+    /// Opens the line of an instruction behind a place, and gives where that ends.
+    fn add_opening(&self, buffer: &mut [u8], inst: u32, at: usize) -> usize
+        requires { at + 128 ≤ length buffer.old }
+        ensures high { result ≤ at + 64 }
+        ensures added { IsAdded (codes "<div id=" ++ (decimal inst ++ (line_class (scene self.now) inst ++ codes ">")))
+            at result buffer.old buffer.new }
     {
-        push_between(out, "<div id=", inst, self.class(inst))
+        let number = add_text(buffer, "<div id=", at);
+        let class = add_number(buffer, inst, number);
+        self.add_class(buffer, inst, class)
     }
 
-    /// Adds a line as a heading.
-    fn push_heading(
-        &self,
-        out: &mut String,
-        begin: &str,
-        text: &str,
-        end: &str,
-    ) -> Result<(), AllocError>
-        ensures { OnOk result (string_bytes out.new ≡ string_bytes out.old
-            ++ (begin.now ++ (linked (kept self.now.definitions.now) Outside text.now ++ end.now))) }
-    {
-        out.push_str(begin)?;
-        push_linked(out, self.definitions, Quoting::Outside, text)?;
-        out.push_str(end)
-    }
-
-    /// Adds what stands in the line of an instruction.
-    fn push_headed(&self, out: &mut String, inst: u32, text: &str) -> Result<(), AllocError>
-        ensures { OnOk result (string_bytes out.new ≡ string_bytes out.old
-            ++ headed (inst_at (map plain_inst self.now.insts.now) inst).opcode
-            (linked (kept self.now.definitions.now) Outside text.now)) }
-    {
-        match self.opcode(inst) {
-            opcode::FUNCTION => self.push_heading(out, "<h2>", text, "</h2>"),
-            opcode::LABEL => self.push_heading(out, "<h3>", text, "</h3>"),
-            _ => push_linked(out, self.definitions, Quoting::Outside, text),
-        }
-    }
-
-    /// Adds links to the uses of what an instruction defines.
-    fn push_uses(&self, out: &mut String, inst: u32) -> Result<(), AllocError>
-        ensures { OnOk result (string_bytes out.new ≡ string_bytes out.old
-            ++ use_links (scene self.now) inst (result_in (inst_at (map plain_inst self.now.insts.now) inst).operands)) }
+    /// Adds links to the uses of what an instruction defines, behind a place, and gives where they end.
+    fn add_uses(&self, buffer: &mut [u8], inst: u32, at: usize) -> usize
+        requires { at + 1536 ≤ length buffer.old }
+        ensures high { result ≤ at + 1280 }
+        ensures added { IsAdded (use_links (scene self.now) inst
+            (result_in (inst_at (map plain_inst self.now.insts.now) inst).operands)) at result buffer.old buffer.new }
     {
         let Some(id) = self.result_of(inst) else {
-            return Ok(());
+            return at;
         };
         if self.definitions.get(id) != Some(inst) {
-            return Ok(());
+            return at;
         }
-        out.push_str("<u>")?;
-        self.uses.push_links(out, id)?;
-        out.push_str("</u>")?;
-        Ok(())
+        let begin = add_text(buffer, "<u>", at);
+        let behind = self.uses.add_links(buffer, id, begin);
+        add_text(buffer, "</u>", behind)
     }
 
     /// Adds the line of an instruction.
-    fn push_line(&self, out: &mut String, inst: u32, text: &str) -> Result<(), AllocError>
-        ensures { OnOk result (string_bytes out.new
-            ≡ string_bytes out.old ++ page_of (scene self.now) (Line inst text.now)) }
+    #[inline(never)]
+    fn push_line(
+        &self,
+        out: &mut String,
+        buffer: &mut [u8],
+        at: usize,
+        inst: u32,
+        text: &str,
+    ) -> Result<usize, AllocError>
+        requires size { 4096 ≤ length buffer.old }
+        requires at { at ≤ 1024 }
+        requires utf8 { IsUtf8 (take at buffer.old) }
+        ensures { IfOk result (λ end. IsDrafted (page_of (scene self.now) (Line inst text.now)) (string_bytes out.old)
+            at buffer.old (string_bytes out.new) end buffer.new) }
     {
-        self.push_opening(out, inst)?;
-        self.push_headed(out, inst, text)?;
-        self.push_uses(out, inst)?;
-        Ok(())
+        let opcode = self.opcode(inst);
+        let opened = self.add_opening(buffer, inst, at);
+        let begin = add_heading(buffer, opcode, opened);
+        let definitions = self.definitions;
+        let behind = push_drafted(out, buffer, definitions, Quoting::Outside, text, begin)?;
+        let ended = add_heading_end(buffer, opcode, behind);
+        let added = self.add_uses(buffer, inst, ended);
+        let end = settle(out, buffer, added)?;
+        Ok(end)
     }
 
     /// Adds a comment.
-    fn push_comment(&self, out: &mut String, text: &str) -> Result<(), AllocError>
-        ensures { OnOk result (string_bytes out.new
-            ≡ string_bytes out.old ++ page_of (scene self.now) (Comment text.now)) }
+    #[inline(never)]
+    fn push_comment(
+        &self,
+        out: &mut String,
+        buffer: &mut [u8],
+        at: usize,
+        text: &str,
+    ) -> Result<usize, AllocError>
+        requires size { 4096 ≤ length buffer.old }
+        requires at { at ≤ 1024 }
+        requires utf8 { IsUtf8 (take at buffer.old) }
+        ensures { IfOk result (λ end. IsDrafted (page_of (scene self.now) (Comment text.now)) (string_bytes out.old)
+            at buffer.old (string_bytes out.new) end buffer.new) }
     {
-        out.push_str("<i>")?;
-        push_remark(out, self.definitions, text)?;
-        out.push_str("</i>")
+        let begin = add_text(buffer, "<i>", at);
+        let behind = push_remark(out, buffer, self.definitions, text, begin)?;
+        let added = add_text(buffer, "</i>", behind);
+        let end = settle(out, buffer, added)?;
+        Ok(end)
     }
 
     /// Adds a line of evidence.
-    fn push_mark(&self, out: &mut String, text: &str) -> Result<(), AllocError>
-        ensures { OnOk result (string_bytes out.new
-            ≡ string_bytes out.old ++ page_of (scene self.now) (Mark text.now)) }
+    #[inline(never)]
+    fn push_mark(
+        &self,
+        out: &mut String,
+        buffer: &[u8],
+        at: usize,
+        text: &str,
+    ) -> Result<usize, AllocError>
+        requires within { at ≤ length buffer.now }
+        requires utf8 { IsUtf8 (take at buffer.now) }
+        ensures { IfOk result (λ end. IsDrafted (page_of (scene self.now) (Mark text.now)) (string_bytes out.old)
+            at buffer.now (string_bytes out.new) end buffer.now) }
     {
+        push_draft(out, buffer, at)?;
         out.push_str("<div class=fault>")?;
         push_linked(out, self.definitions, Quoting::Commented, text)?;
-        Ok(())
+        Ok(0)
     }
 
-    /// Adds what stands in the page for a piece.
+    /// Adds what stands in the page for a piece, behind what the buffer has up to a place. Gives where in the buffer
+    /// ends what is still to be added.
     ///
     /// An `AllocError` comes only where a growth of memory was refused, and then nothing is said of what is left.
-    pub fn push(&self, out: &mut String, piece: Piece<'_>) -> Result<(), AllocError>
-        ensures { OnOk result (string_bytes out.new
-            ≡ string_bytes out.old ++ page_of (scene self.now) (plain_piece piece.entry)) }
+    #[inline(always)]
+    pub fn push(
+        &self,
+        out: &mut String,
+        buffer: &mut [u8],
+        at: usize,
+        piece: Piece<'_>,
+    ) -> Result<usize, AllocError>
+        requires size { 4096 ≤ length buffer.old }
+        requires at { at ≤ 1024 }
+        requires utf8 { IsUtf8 (take at buffer.old) }
+        ensures { IfOk result (λ end. IsDrafted (page_of (scene self.now) (plain_piece piece.entry))
+            (string_bytes out.old) at buffer.old (string_bytes out.new) end buffer.new) }
     {
         match piece {
-            Piece::Header(text) => {
-                out.push_str("<div>")?;
-                push_escaped(out, text)
-            }
-            Piece::Section(section) => push_section(out, section),
-            Piece::Function(_) => out.push_str("<br>\n"),
-            Piece::Block(_) => Ok(()),
-            Piece::Line { inst, text } => self.push_line(out, inst, text),
-            Piece::Comment(text) => self.push_comment(out, text),
-            Piece::Mark(text) => self.push_mark(out, text),
-            Piece::Break => out.push_str("</div>\n"),
+            Piece::Header(text) => push_header(out, buffer, at, text),
+            Piece::Section(section) => push_section(out, buffer, at, section),
+            Piece::Function(_) => push_fixed(out, buffer, at, "<br>\n"),
+            Piece::Block(_) => Ok(at),
+            Piece::Line { inst, text } => self.push_line(out, buffer, at, inst, text),
+            Piece::Comment(text) => self.push_comment(out, buffer, at, text),
+            Piece::Mark(text) => self.push_mark(out, buffer, at, text),
+            Piece::Break => push_fixed(out, buffer, at, "</div>\n"),
         }
     }
 }

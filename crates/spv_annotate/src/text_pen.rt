@@ -1,6 +1,6 @@
 //! The pen that writes the text for reading.
 
-ghost use Rattle.std.specs.Prelude.{◌≡◌, ◌++◌, ◌∷◌, [], Bool, List, OnOk, string_bytes};
+ghost use Rattle.std.specs.Prelude.{◌≡◌, ◌++◌, ◌∷◌, [], Bool, List, OnOk, string_bytes, true};
 ghost use Rattle.spv_annotate.specs.Piece.{colored, plain_piece, text_of};
 
 use crate::piece::{Pen, Piece};
@@ -15,16 +15,24 @@ pub struct TextPen {
     pub color: bool,
 }
 
-/// Adds a text in the colour that a sequence of a terminal begins, or as it is.
-fn push_colored(out: &mut String, color: bool, begin: &str, text: &str) -> Result<(), AllocError>
-    ensures { OnOk result (string_bytes out.new ≡ string_bytes out.old ++ colored color begin.now text.now) }
+/// Adds a text between a sequence of a terminal that begins a colour, and the one that ends it.
+fn push_ink(out: &mut String, begin: &str, text: &str) -> Result<(), AllocError>
+    ensures { OnOk result (string_bytes out.new ≡ string_bytes out.old ++ colored true begin.now text.now) }
 {
-    if !color {
-        return out.push_str(text);
-    }
     out.push_str(begin)?;
     out.push_str(text)?;
     out.push_str("\x1b[0m")
+}
+
+/// Adds a text in the colour that a sequence of a terminal begins, or as it is.
+#[inline(always)]
+fn push_colored(out: &mut String, color: bool, begin: &str, text: &str) -> Result<(), AllocError>
+    ensures { OnOk result (string_bytes out.new ≡ string_bytes out.old ++ colored color begin.now text.now) }
+{
+    if color {
+        return push_ink(out, begin, text);
+    }
+    out.push_str(text)
 }
 
 /// Adds the text of a piece.

@@ -1,6 +1,6 @@
 //! The text for reading, by any pen.
 
-ghost use Rattle.std.specs.Prelude.{◌≡◌, ◌≤◌, ◌<◌, ◌+◌, ◌∷◌, [], ℕ, List, Option, IfOk, IfSome, OnOk};
+ghost use Rattle.std.specs.Prelude.{◌≡◌, ◌≤◌, ◌<◌, ◌+◌, ◌++◌, ◌∷◌, [], ℕ, List, Option, IfOk, IfSome, OnOk};
 ghost use Rattle.std.specs.Prelude.{drop, is_some, length, map, option_map, string_bytes, take, true};
 ghost use Rattle.std.specs.List.{flat_map, list_all, range_with_len};
 ghost use Rattle.spv_words.specs.Header.{greatest_length};
@@ -13,15 +13,15 @@ ghost use Rattle.spv_annotate.specs.Document as specs;
 ghost use Rattle.spv_annotate.specs.Document.{IsSpelled, IsSubject, Subject, begun, document, entry, header_piece};
 ghost use Rattle.spv_annotate.specs.Document.{is_of, line_pieces, mark_piece, marks};
 ghost use Rattle.spv_annotate.specs.Module.{function_of, inst_at};
-ghost use Rattle.spv_annotate.specs.Notes.{comment};
+ghost use Rattle.spv_annotate.specs.Notes.{comment, gap, place_text};
 ghost use Rattle.spv_annotate.specs.Piece.{Break, Comment, IsWritten, Line};
 ghost use Rattle.spv_annotate.specs.inner.Known.{IsKnown};
-ghost use Rattle.spv_annotate.specs.inner.Standing.{IsStanding};
+ghost use Rattle.spv_annotate.specs.inner.Standing.{IsStanding, section_behind};
 ghost use Rattle.spv_annotate.specs.inner.Tame.{is_tame_octet};
 ghost use Rattle.spv_annotate.specs.inner.Task.{subject_of};
 ghost use Rattle.spv_annotate.specs.inner.Values.{value_in};
 
-use crate::comment::push_comment;
+use crate::comment::{PLACE, is_bare, left_out, place_in, push_comment};
 use crate::finding::Finding;
 use crate::known::Known;
 use crate::piece::{Pen, Piece};
@@ -89,7 +89,7 @@ fn write_beginning<P: Pen>(
     standing: Standing,
 ) -> Result<(), AllocError>
     ensures { OnOk result (IsWritten P.text P.writes
-        (begun code standing.section (is_some standing.function) at) pen.old pen.new) }
+        (begun code (section_behind standing.before) (is_some standing.function) at) pen.old pen.new) }
 {
     if code == opcode::FUNCTION {
         return pen.write(Piece::Function(at));
@@ -101,7 +101,7 @@ fn write_beginning<P: Pen>(
         return Ok(());
     }
     let section = section_of(code);
-    if section == standing.section {
+    if section == standing.last_section() {
         return Ok(());
     }
     pen.write(Piece::Section(section))
@@ -133,6 +133,7 @@ fn write_evidence<P: Pen>(pen: &mut P, alloc: Global, lines: &str) -> Result<(),
 }
 
 /// Writes what is told of a fault, if it is told at an instruction.
+#[inline(always)]
 fn write_marks<P: Pen>(pen: &mut P, task: &Task<'_, '_>, at: u32) -> Result<(), AllocError>
     ensures { OnOk result (IsWritten P.text P.writes (marks task.now.finding at) pen.old pen.new) }
 {
@@ -162,6 +163,7 @@ fn draft_comment(
 }
 
 /// Writes a line of an instruction and a comment behind it.
+#[inline(always)]
 fn write_both<P: Pen>(pen: &mut P, at: u32, line: &str, comment: &str) -> Result<(), AllocError>
     ensures { OnOk result (IsWritten P.text P.writes (Line at line.now ∷ Comment comment.now ∷ Break ∷ [])
         pen.old pen.new) }
@@ -174,7 +176,19 @@ fn write_both<P: Pen>(pen: &mut P, at: u32, line: &str, comment: &str) -> Result
     pen.write(Piece::Break)
 }
 
+/// Writes the line of an instruction, and its comment, where that has no notes.
+#[inline(always)]
+fn write_bare<P: Pen>(pen: &mut P, at: u32, word: u32, line: &str) -> Result<(), AllocError>
+    ensures { OnOk result (IsWritten P.text P.writes
+        (Line at line.now ∷ Comment (gap (length line.now) ++ place_text at word) ∷ Break ∷ []) pen.old pen.new) }
+{
+    let mut buffer = [0u8; PLACE];
+    let comment = place_in(&mut buffer, left_out(line.len()), at, word);
+    write_both(pen, at, line, comment)
+}
+
 /// Writes the line of an instruction, which has no control characters, with its comment. `draft` is room for that.
+#[inline(always)]
 fn write_plain<P: Pen>(
     pen: &mut P,
     task: &Task<'_, '_>,
@@ -189,11 +203,15 @@ fn write_plain<P: Pen>(
     ensures { (lines : List (List ℕ)) → OnOk result (IsWritten P.text P.writes
         (line_pieces (subject_of task.now lines) at line.now) pen.old pen.new) }
 {
+    if is_bare(task.known, at, &task.module.insts[at as usize]) {
+        return write_bare(pen, at, word, line);
+    }
     draft_comment(draft, task, at, word, line)?;
     write_both(pen, at, line, draft.as_str())
 }
 
 /// Writes the line of an instruction, with its comment. `tame` tells whether it was found before that the line is tame.
+#[inline(always)]
 fn write_line<P: Pen>(
     pen: &mut P,
     task: &Task<'_, '_>,
@@ -213,6 +231,24 @@ fn write_line<P: Pen>(
     if is_tame_line(tame, line) {
         return write_plain(pen, task, &mut drafts.comment, at, word, line);
     }
+    write_tamed(pen, task, drafts, at, word, line)
+}
+
+/// Writes the line of an instruction, without its control characters, with its comment.
+fn write_tamed<P: Pen>(
+    pen: &mut P,
+    task: &Task<'_, '_>,
+    drafts: &mut Drafts,
+    at: u32,
+    word: u32,
+    line: &str,
+) -> Result<(), AllocError>
+    requires known { IsKnown (plain_insts task.now.«module».now) task.now.known.now }
+    requires within { at < length (plain_insts task.now.«module».now) }
+    requires word { word ≡ first_word_of (plain_insts task.now.«module».now) at }
+    ensures { (lines : List (List ℕ)) → OnOk result (IsWritten P.text P.writes
+        (line_pieces (subject_of task.now lines) at (plain_of line.now)) pen.old pen.new) }
+{
     drafts.line.clear();
     push_plain(&mut drafts.line, line)?;
     let text = drafts.line.as_str();

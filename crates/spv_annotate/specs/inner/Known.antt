@@ -1,6 +1,8 @@
 -- What is known of a module beside its instructions. (For the code alone.)
-use Rattle.std.specs.Prelude.{◌≡◌, ℕ, List, map}
+use Rattle.std.specs.Prelude.{◌≡◌, ℕ, List, Bool, map, nat_eq}
+use Rattle.std.specs.List.{list_any}
 use Rattle.spv_module.specs.Operand.{PlainInst}
+use Rattle.spv_module.specs.declared.opcode.TheConstants.{NAME}
 use Rattle.spv_annotate.specs.declared.known.Known.{Known}
 use Rattle.spv_annotate.specs.Module.{definition_of, edges_of, naming_of}
 use Rattle.spv_annotate.specs.Notes.{opencl_lines}
@@ -8,10 +10,15 @@ use Rattle.spv_annotate.specs.Values.{AreValues}
 use Rattle.spv_annotate.specs.inner.Numbers.{kept}
 use Rattle.spv_annotate.specs.inner.Values.{value_in}
 
+-- is an instruction an OpName
+abbrev pub is_naming : PlainInst → Bool
+is_naming i = nat_eq i.opcode NAME
+
 -- What is known is so by the instructions.
 pub record IsKnown (is : List PlainInst) (k : Known) : Type 0 where
   pub definitions : (x : ℕ) → kept k.definitions x ≡ definition_of is x
   pub namings : (x : ℕ) → kept k.namings x ≡ naming_of is x
+  pub named : k.named ≡ list_any is_naming is
   pub edges : k.edges.edges.items ≡ edges_of is
   pub calls : map (λ t. t.now) k.calls.items ≡ opencl_lines
   pub values : AreValues is (value_in k.values)

@@ -1,4 +1,4 @@
-use Rattle.std.proofs.Common.{◌≡◌, ◌++◌, ◌∙◌, ap, flat_map, is_some, map, string_bytes}
+use Rattle.std.proofs.Common.{◌≡◌, ◌++◌, ◌∙◌, ap, append-nil, flat_map, is_some, map, string_bytes}
 use Rattle.spv_module.specs.Module.{plain_inst, plain_insts}
 use Rattle.spv_annotate.specs.declared.style.TheConstants.{END, MIDDLE}
 use Rattle.spv_annotate.specs.Document.{document}
@@ -37,6 +37,8 @@ returns c =
     let a = c.in_ok-annotate_with.ensures in
     let out : string_bytes c.in_ok-out.out ≡ f ++ flat_map (contents_of S) (beginnings (plain_insts m) c.args.function) =
     c.in_ok-out.ensures ∙ ap (λ z. f ++ flat_map (contents_of S) (beginnings (map plain_inst z) c.args.function)) v in
+    let two = string_bytes c.push_str.new.self in
+    let body = flat_map (page_of S) (document a.0) in
     record {
       subject = a.0;
       scene = S;
@@ -50,6 +52,6 @@ returns c =
         walked = c.in_ok-walk.ensures;
       };
       all = whole f (flat_map (contents_of S) (beginnings (plain_insts m) c.args.function)) MIDDLE.now (flat_map (page_of S) (document a.0)) END.now
-          (string_bytes c.in_ok-out.out) (string_bytes c.push_str.new.self) (string_bytes c.annotate_with.new.pen.out) (string_bytes c.push_str-2.new.self)
-          out c.in_ok-push_str.ensures.bytes a.2.all c.in_ok-push_str-2.ensures.bytes;
+          (string_bytes c.in_ok-out.out) two (string_bytes c.finish.new.self.out) (string_bytes c.push_str-2.new.self)
+          out c.in_ok-push_str.ensures.bytes (c.in_ok-finish.ensures ∙ (a.2.all ∙ ap (λ z. z ++ body) (append-nil two))) c.in_ok-push_str-2.ensures.bytes;
     }

@@ -8,6 +8,7 @@ use Rattle.spv_annotate.specs.Document.{beginning, begun, entry, line_pieces, ma
 use Rattle.spv_annotate.specs.Module.{inst_at, section_before}
 use Rattle.spv_annotate.specs.Piece.{IsWritten, PlainPiece}
 use Rattle.spv_annotate.specs.inner.Task.{subject_of}
+use Rattle.spv_annotate.specs.inner.Standing.{section_behind}
 use Rattle.spv_annotate.proofs.Places.{inst_read}
 use Rattle.spv_annotate.proofs.Small.{plain_length}
 use Rattle.spv_annotate.proofs.Writings.{written_more, written_nothing}
@@ -29,8 +30,8 @@ returns g c = λ lines h.
     let fa = c.function_at.ensures is c.requires.standing o in
     let f = sym (c.is_asked.ensures at fa) ∙ c.if-not-is_asked.false in
     let st = c.requires.standing in
-    let eb : begun c.index.result.now.opcode s.section (is_some s.function) at ≡ beginning is at =
-    ap (λ z. begun z s.section (is_some s.function) at) (sym o)
+    let eb : begun c.index.result.now.opcode (section_behind s.before) (is_some s.function) at ≡ beginning is at =
+    ap (λ z. begun z (section_behind s.before) (is_some s.function) at) (sym o)
     ∙ (ap (λ z. begun (inst_at is at).opcode z (is_some s.function) at) st.section
     ∙ ap (λ z. begun (inst_at is at).opcode (section_before is at) (is_some z) at) st.function) in
     let pen = c.args.pen.now in

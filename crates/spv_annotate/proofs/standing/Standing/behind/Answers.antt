@@ -1,4 +1,4 @@
-use Rattle.std.proofs.Common.{◌∙◌, add-one, ap, arith, sym}
+use Rattle.std.proofs.Common.{add-one, ap, arith, sym}
 use Rattle.spv_layout.specs.Place.{word_count}
 use Rattle.spv_annotate.specs.Module.{section_of}
 use Rattle.spv_annotate.proofs.Places.{word_step}
@@ -13,6 +13,6 @@ returns c = λ is l e s.
     let v = s.word in
     record {
       word = omega (arith, q, f, w, v);
-      section = rw add-one (c.section_of.ensures ∙ ap (λ i. section_of i.opcode) (sym e));
+      section = rw add-one (ap (λ i. section_of i.opcode) (sym e));
       function = c.function_behind.ensures is e s.function;
     }

@@ -1,13 +1,12 @@
-use Rattle.std.proofs.Common.{◌≡◌, ◌++◌, ◌+◌, ◌∙◌, length, drop, drop-drop, refl, ap, subst, sym, string_bytes, arith}
+use Rattle.std.proofs.Common.{◌≡◌, ◌++◌, ◌+◌, ◌∙◌, length, drop, drop-drop, refl, ap, subst, sym, arith}
 use Rattle.std.proofs.lemmas.List.{drop-append-le}
 use Rattle.std.specs.Prelude.{codes, decimal}
 use Rattle.std.specs.Str.{IsUtf8}
 use Rattle.std.proofs.lemmas.Str.{IsUtf8-append}
 use Rattle.spv_annotate.specs.Notes.{column}
 use Rattle.spv_printer.proofs.Pieces.{rest_of}
-use Rattle.spv_printer.proofs.Texts.{on_pushed}
 use Rattle.spv_annotate.proofs.Buffers.{at_end, before_end, dropped_utf8, four_behind, number_utf8, text_utf8}
-use Rattle.spv_annotate.proofs.comment.push_place.Goals as goal
+use Rattle.spv_annotate.proofs.comment.place_in.Goals as goal
 
 pub from_utf8_unchecked-requires : goal.from_utf8_unchecked-requires
 from_utf8_unchecked-requires c =
@@ -20,7 +19,7 @@ from_utf8_unchecked-requires c =
     let b4 = c.put_octets-begin.new.buffer in
     let b5 = c.put_octets-left.new.buffer in
     let left = c.put_octets-left.result in
-    let l1 : length b1 ≡ 96 = omega (arith, c.put_number-last.auto.buffer) in
+    let l1 : length b1 ≡ 96 = omega (arith, c.put_number-last.auto.buffer, c.requires.size) in
     let l5 : length b5 ≡ 96 = omega (arith, l1, c.put_octets-between.auto.buffer, c.put_number-first.auto.buffer, c.put_octets-begin.auto.buffer, c.put_octets-left.auto.buffer) in
     let s1 = c.put_number-last.ensures.size in
     let s2 = c.put_octets-between.ensures.low in
@@ -36,8 +35,8 @@ from_utf8_unchecked-requires c =
     let w4 = codes "; inst " ++ w3 in
     let t5 : drop left b5 ≡ column ++ w4 = before_end b4 b5 column w4 left c.put_octets-begin.result (rw c.as_bytes.ensures.value at c.put_octets-left.ensures.text) t4 in
     let n : length column ≡ 48 = refl in
-    let t6 : drop (left + skip) b5 ≡ drop skip column ++ w4 = sym (drop-drop skip left b5) ∙ (ap (drop skip) t5 ∙ drop-append-le skip column w4 (omega (arith, n, c.requires))) in
-    let r = rest_of b5 (left + skip) 96 l5 (omega (arith, s1, s2, s3, s4, s5, n, c.requires)) in
+    let t6 : drop (left + skip) b5 ≡ drop skip column ++ w4 = sym (drop-drop skip left b5) ∙ (ap (drop skip) t5 ∙ drop-append-le skip column w4 (omega (arith, n, c.requires.few))) in
+    let r = rest_of b5 (left + skip) (length b5) refl (omega (arith, l5, s1, s2, s3, s4, s5, n, c.requires.few)) in
     let u2 = IsUtf8-append (codes " word ") (decimal word) (text_utf8 (codes " word ") refl) (number_utf8 word (omega arith)) in
     let u3 = IsUtf8-append (decimal at) w2 (number_utf8 at (omega arith)) u2 in
     let u4 = IsUtf8-append (codes "; inst ") w3 (text_utf8 (codes "; inst ") refl) u3 in
@@ -54,7 +53,7 @@ returns c =
     let b4 = c.put_octets-begin.new.buffer in
     let b5 = c.put_octets-left.new.buffer in
     let left = c.put_octets-left.result in
-    let l1 : length b1 ≡ 96 = omega (arith, c.put_number-last.auto.buffer) in
+    let l1 : length b1 ≡ 96 = omega (arith, c.put_number-last.auto.buffer, c.requires.size) in
     let l5 : length b5 ≡ 96 = omega (arith, l1, c.put_octets-between.auto.buffer, c.put_number-first.auto.buffer, c.put_octets-begin.auto.buffer, c.put_octets-left.auto.buffer) in
     let s1 = c.put_number-last.ensures.size in
     let s2 = c.put_octets-between.ensures.low in
@@ -70,8 +69,6 @@ returns c =
     let w4 = codes "; inst " ++ w3 in
     let t5 : drop left b5 ≡ column ++ w4 = before_end b4 b5 column w4 left c.put_octets-begin.result (rw c.as_bytes.ensures.value at c.put_octets-left.ensures.text) t4 in
     let n : length column ≡ 48 = refl in
-    let t6 : drop (left + skip) b5 ≡ drop skip column ++ w4 = sym (drop-drop skip left b5) ∙ (ap (drop skip) t5 ∙ drop-append-le skip column w4 (omega (arith, n, c.requires))) in
-    let r = rest_of b5 (left + skip) 96 l5 (omega (arith, s1, s2, s3, s4, s5, n, c.requires)) in
-    let old = string_bytes c.args.out.now in
-    on_pushed c.push_str.result _ (string_bytes c.push_str.new.self) old c.from_utf8_unchecked.result.now c.push_str.ensures.bytes
-    (λ p. p ∙ ap (λ z. old ++ z) (c.from_utf8_unchecked.ensures ∙ (r ∙ (t6 ∙ ap (λ z. drop skip column ++ z) (four_behind (codes "; inst ") (decimal at) (codes " word ") (decimal word))))))
+    let t6 : drop (left + skip) b5 ≡ drop skip column ++ w4 = sym (drop-drop skip left b5) ∙ (ap (drop skip) t5 ∙ drop-append-le skip column w4 (omega (arith, n, c.requires.few))) in
+    let r = rest_of b5 (left + skip) (length b5) refl (omega (arith, l5, s1, s2, s3, s4, s5, n, c.requires.few)) in
+    c.from_utf8_unchecked.ensures ∙ (r ∙ (t6 ∙ ap (λ z. drop skip column ++ z) (four_behind (codes "; inst ") (decimal at) (codes " word ") (decimal word))))
