@@ -20,6 +20,7 @@ pub mod Shapes
 pub mod Fitting
 pub mod TextOctets
 pub mod TextPlaces
+pub mod ShortTexts
 pub mod Frames
 pub mod Masks
 pub mod Patterns

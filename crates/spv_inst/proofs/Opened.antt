@@ -1,13 +1,13 @@
 -- The parameters of a mask, as they are put together bit by bit.
-use Rattle.std.proofs.Common.{◌≡◌, ◌<◌, ◌+◌, ◌-◌, ◌*◌, ◌/◌, ◌%◌, ◌^◌, ℕ, zero, suc, List, [], ◌∷◌, ◌++◌, Option, Some, None, refl, sym, ap, arith, map, append_assoc, append-nil}
-use Rattle.std.specs.Prelude.{option_map, filter, nat_eq}
-use Rattle.std.proofs.lemmas.Nat.{pow_pos}
-use Rattle.std.proofs.Math.Nat.{div-eq_of_lt}
+use Rattle.std.proofs.Common.{◌≡◌, ◌∙◌, ◌<◌, ◌+◌, ◌-◌, ◌*◌, ◌/◌, ◌%◌, ◌^◌, ℕ, zero, suc, List, [], ◌∷◌, ◌++◌, Option, Some, None, refl, sym, ap, arith, map, Bor, append_assoc, append-nil}
+use Rattle.std.specs.Prelude.{option_map, filter, nat_eq, IfSome}
+use Rattle.std.proofs.lemmas.Nat.{pow_pos, div-mul-add}
+use Rattle.std.proofs.Math.Nat.{div-eq_of_lt, pow-succ', mul-one}
 use Rattle.spv_table.specs.declared.table.Enumerant.{Enumerant}
 use Rattle.spv_inst.specs.Flat.{Due, OneOf}
 use Rattle.spv_module.specs.Shape.{alone}
 use Rattle.spv_module.specs.Spelling.{bits_from, parameters_of, parameters_of_all, mask_parameters}
-use Rattle.spv_inst.proofs.Enumerants.{step, lt_from_div}
+use Rattle.spv_inst.proofs.Enumerants.{step, lt_from_div, shifted}
 
 -- the parameters of the set bits from bit `b` up, of `n` bits
 unfoldable pub kinds_from : List Enumerant → ℕ → ℕ → ℕ → Option (List ℕ)
@@ -79,3 +79,48 @@ due_joined ks js all ds e = rw e (in_front ks)
     in_front : (ks : List ℕ) → map OneOf (map alone (ks ++ js)) ++ ds ≡ map OneOf (map alone ks) ++ (map OneOf (map alone js) ++ ds)
     in_front [] = refl
     in_front (k ∷ ks) = ap (λ zs. OneOf (alone k) ∷ zs) (in_front ks)
+
+-- a power of two by the least bit, and by one of its smaller bits
+one_self : (b : ℕ) → 0 < b → b / b % 2 ≡ 1
+one_self b h =
+    let d : (1 * b + 0) / b ≡ 1 = div-mul-add 1 b 0 h in
+    let e : 1 * b + 0 ≡ b = omega arith in
+    let f : b / b ≡ 1 = rw e at d in
+    rw f refl
+
+above_even : (b d : ℕ) → 0 < b → (b * 2 ^ suc d) / b % 2 ≡ 0
+above_even b d h =
+    let p : 2 ^ suc d ≡ 2 * 2 ^ d = pow-succ' 2 d in
+    let q : (2 ^ suc d * b + 0) / b ≡ 2 ^ suc d = div-mul-add (2 ^ suc d) b 0 h in
+    let e : 2 ^ suc d * b + 0 ≡ b * 2 ^ suc d = grind arith in
+    let f : (b * 2 ^ suc d) / b ≡ 2 ^ suc d = rw e at q in
+    rw f (omega (arith, p))
+
+-- the parameters of a mask of one bit are those of its enumerant
+one_bit : (es : List Enumerant) (d n b m : ℕ) (ks : List ℕ) → 0 < b → d < n → m ≡ b * 2 ^ d → parameters_of es m ≡ Some ks → kinds_from es m n b ≡ Some ks
+one_bit es d zero b m ks h l e k = absurd (omega arith)
+one_bit es zero (suc n) b m ks h l e k =
+    let f : m ≡ b = e ∙ mul-one b in
+    let g : m / b % 2 ≡ 1 = rw f (one_self b h) in
+    let k' : parameters_of es b ≡ Some ks = rw f at k in
+    let s = kinds_set es m n b ks g k' in
+    let r : kinds_from es m n (2 * b) ≡ Some [] = kinds_rest es m n (2 * b) (omega arith) in
+    s ∙ rw r (ap (λ zs. Some zs) (append-nil ks))
+one_bit es (suc d) (suc n) b m ks h l e k =
+    let g : m / b % 2 ≡ 0 = rw e (above_even b d h) in
+    let p : 2 ^ suc d ≡ 2 * 2 ^ d = pow-succ' 2 d in
+    let f : m ≡ (2 * b) * 2 ^ d = e ∙ twice b (2 ^ d) (2 ^ suc d) p in
+    kinds_unset es m n b g ∙ one_bit es d n (2 * b) m ks (omega arith) (omega arith) f k
+  where
+    twice : (b x y : ℕ) → y ≡ 2 * x → b * y ≡ (2 * b) * x
+    twice b x y e = rw e (grind arith)
+
+pub one_bit_kinds : (es : List Enumerant) (mask i : ℕ) (r : Option (Bor (List ℕ))) → i < 32 → 1 * 2 ^ i % 4294967296 ≡ mask → option_map (λ ks. ks.now) r ≡ parameters_of es mask
+    → IfSome r (λ ks. mask_parameters es mask ≡ Some ks.now)
+one_bit_kinds es mask i None l e k = tt
+one_bit_kinds es mask i (Some ks) l e k =
+    let m : mask ≡ 1 * 2 ^ i = sym e ∙ (shifted i l ∙ omega arith) in
+    kinds_begin es mask ∙ (sym (with_none (kinds_from es mask 32 1)) ∙ one_bit es i 32 1 mask ks.now (omega arith) l m (sym k))
+
+pub no_bit_kinds : (es : List Enumerant) → mask_parameters es 0 ≡ Some []
+no_bit_kinds es = kinds_begin es 0 ∙ (sym (with_none (kinds_from es 0 32 1)) ∙ kinds_rest es 0 32 1 (omega arith))

@@ -1,6 +1,7 @@
 -- The turns of the loop over an instruction's operands.
 use Rattle.std.proofs.Common.{◌≡◌, ◌++◌, ◌∙◌, ◌+◌, ◌-◌, ◌≤◌, ◌<◌, ◌&&◌, ◌||◌, ℕ, List, [], ◌∷◌, Option, Some, None, Bool, true, false, nat_eq, bytes_eq, codes, cond, length, map, take, drop, slice_index, unwrap_or, refl, sym, ap, arith, length-append}
 use Rattle.std.proofs.lemmas.List.{drop-drop, take-append-drop, length-take-le, length-drop, drop-take}
+use Rattle.std.proofs.Math.ListN.{drop_of_length-le}
 use Rattle.std.specs.List.{list_all}
 use Rattle.spv_table.specs.declared.table.Category.{Category}
 use Rattle.spv_table.specs.declared.table.Category.TheVariants as category
@@ -27,7 +28,7 @@ use Rattle.spv_inst.specs.inner.Reading.{between, parameter_kinds, TakesFront, R
 use Rattle.spv_inst.specs.inner.Pending.{settled, Opens, opened_kinds}
 use Rattle.spv_inst.proofs.Joined.{flat_match}
 use Rattle.spv_inst.proofs.Fronts.{fails_misfit}
-use Rattle.spv_inst.proofs.Steps.{after_is, at_end, at_operand, at_parts, at_maybe, at_many, at_no_maybe, at_no_many, at_refusal}
+use Rattle.spv_inst.proofs.Steps.{after_is, at_start, at_end, at_operand, at_parts, at_maybe, at_many, at_no_maybe, at_no_many, at_refusal}
 use Rattle.spv_inst.proofs.Contexts.{near_after}
 use Rattle.spv_inst.proofs.Between.{front}
 use Rattle.spv_inst.proofs.Bases.{and_first, passes_at}
@@ -404,6 +405,14 @@ turn_from G defined known b p pattern image first at end out ds es h l s e d o t
       sofar = s;
       near = rw (here_is b p out) (record { definitions = d; opcode = o; type_id = t; first = f });
     })
+
+-- none is taken yet
+pub at_begin : (G : Table) (b : List PlainInst) (p : ℕ) (pattern : List Item) (image : List ℕ) (first end n : ℕ) (os : List declared.Operand) → n ≡ length os
+    → Sofar G (start b p) (map due pattern) (between image first end) (plain_operands (drop n os)) (map due pattern) (between image first end) (first - first)
+at_begin G b p pattern image first end n os e =
+    let d : drop n os ≡ [] = drop_of_length-le os (omega arith) in
+    let z : first - first ≡ 0 = omega arith in
+    rw (d, z) (at_start G (start b p) (map due pattern) (between image first end))
 
 -- no word and nothing due is left
 pub words_end : (G : Table) (c : Context) (pattern : List Item) (image : List ℕ) (first at end taken : ℕ) (out : List Plain) (ds : List Due)

@@ -6,6 +6,7 @@ pub mod Batch
 pub mod Flat
 pub mod Front
 pub mod Known
+pub mod Pushed
 pub mod Reading
 pub mod Sofar
 pub mod Step

@@ -47,8 +47,8 @@ pub fn joined<'t>(first: &'t [u32], second: &'t [u32]) -> Option<&'t [u32]>
 
 /// The kinds of the parameters of a mask of a kind, those of the smaller bit first, where no more than one of its set
 /// bits has parameters. None where more of them have, or where one of them is the value of no enumerant.
-#[inline(always)]
-pub fn mask_kinds<'t>(table: &'t Table, kind: u32, mask: u32) -> Option<&'t [u32]>
+#[inline(never)]
+fn kinds_of_bits<'t>(table: &'t Table, kind: u32, mask: u32) -> Option<&'t [u32]>
     ensures { IfSome result (λ ks. mask_parameters (enumerants_at (kind_of table.now kind)) mask ≡ Some ks.now) }
 {
     let mut kinds: &'t [u32] = &[];
@@ -68,6 +68,21 @@ pub fn mask_kinds<'t>(table: &'t Table, kind: u32, mask: u32) -> Option<&'t [u32
         }
     }
     Some(kinds)
+}
+
+/// The same. Masks of no bit and of one, which most are, are told without a loop over bits.
+#[inline(always)]
+pub fn mask_kinds<'t>(table: &'t Table, kind: u32, mask: u32) -> Option<&'t [u32]>
+    ensures { IfSome result (λ ks. mask_parameters (enumerants_at (kind_of table.now kind)) mask ≡ Some ks.now) }
+{
+    if mask == 0 {
+        return Some(&[]);
+    }
+    let position = mask.trailing_zeros();
+    if 1 << position == mask {
+        return value_kinds(table, kind, mask);
+    }
+    kinds_of_bits(table, kind, mask)
 }
 
 /// Takes a value of a kind: a word that is the value of one of the kind's enumerants. The enumerant's parameters are

@@ -20,10 +20,11 @@ use crate::items::DueItems;
 use crate::known::{known_after, known_of};
 use crate::pairs::read_pairs;
 use crate::pending::Pending;
-use crate::plain::{Rest, read_bare, read_plain};
+use crate::plain::Rest;
 use crate::reader::{Place, Scene, take_operand};
 use crate::repeated::read_run;
-use crate::words::{read_long, read_words};
+use crate::singles::{read_parameters, read_singles};
+use crate::words::read_words;
 use spv_module::{Fault, Operand, Rule, Stop};
 use spv_table::Entry;
 use spv_words::word;
@@ -123,7 +124,7 @@ fn is_read(place: Place, rest: Rest<'_>) -> bool
     rest.items.are_optional()
 }
 
-/// Reads what is left of an instruction after operands of one word: `begin` is the place of the instruction's first
+/// Reads what is left of an instruction after some operands: `begin` is the place of the instruction's first
 /// operand in the list. After an error nothing is said of what is left of the list.
 #[inline(never)]
 fn read_further<'t, 'a>(
@@ -198,23 +199,17 @@ fn read_operands<'t, 'a>(
         (between scene.now.image.now place.first place.end) place.number place.first e) }
 {
     let begin = operands.len();
+    operands.reserve((place.end - place.first) as usize)?;
     let items = DueItems::of(&entry.operands);
-    let rest = read_bare(
-        scene.forms,
-        scene.image,
-        operands,
-        items,
-        place.first,
-        place.end,
-    )?;
+    let rest = read_singles(scene, operands, place, begin, items);
     if is_read(place, rest) {
         return Ok(());
     }
-    let rest = read_plain(scene, operands, place, begin, rest);
+    let rest = read_parameters(scene, operands, place, begin, rest);
     if is_read(place, rest) {
         return Ok(());
     }
-    let rest = read_long(scene, operands, place, begin, rest);
+    let rest = read_run(scene, operands, place, begin, rest);
     if is_read(place, rest) {
         return Ok(());
     }

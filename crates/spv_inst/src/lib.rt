@@ -17,6 +17,7 @@ mod pending;
 mod plain;
 mod reader;
 mod repeated;
+mod singles;
 mod text;
 mod words;
 mod written;

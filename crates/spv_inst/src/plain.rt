@@ -1,27 +1,20 @@
 //! Operands of one word.
 
-ghost use Rattle.std.specs.Prelude.{◌≡◌, ℕ, List, Some, ◌≤◌, ◌<◌, ◌+◌, ◌-◌, ◌∷◌, []};
-ghost use Rattle.std.specs.Prelude.{true, length, map, take, drop, IfOk, IfSome, MatchOption, vec_len, vec_capacity};
-ghost use Rattle.spv_table.specs.Table.{Table, Item, kind_of};
+ghost use Rattle.std.specs.Prelude.{◌≡◌, ℕ, Some, ◌∷◌, [], true, map, IfSome, MatchOption};
+ghost use Rattle.spv_table.specs.Table.{Table, kind_of};
 ghost use Rattle.spv_table.specs.declared.form.Form.TheVariants.{Leaf as LeafForm};
-ghost use Rattle.spv_table.specs.inner.Form.{form_of, form_at};
-ghost use Rattle.spv_module.specs.Operand.{Context, PlainInst};
-ghost use Rattle.spv_module.specs.Module.{plain_operand, plain_operands};
+ghost use Rattle.spv_table.specs.inner.Form.{form_at};
+ghost use Rattle.spv_module.specs.Operand.{Context};
+ghost use Rattle.spv_module.specs.Module.{plain_operand};
 ghost use Rattle.spv_module.specs.Shape.{alone, shape_of};
-ghost use Rattle.spv_module.specs.Spelling.{Takes, mask_parameters};
-ghost use Rattle.spv_inst.specs.Reading.{enumerants_at};
-ghost use Rattle.spv_inst.specs.inner.Reading.{between};
-ghost use Rattle.spv_inst.specs.inner.Pending.{items_of, settled, due_first};
-ghost use Rattle.spv_inst.specs.Flat.{OneOf, due};
-ghost use Rattle.spv_inst.specs.inner.Sofar.{Sofar, SofarAt};
+ghost use Rattle.spv_module.specs.Spelling.{Takes};
+ghost use Rattle.spv_inst.specs.inner.Pending.{settled, due_first};
+ghost use Rattle.spv_inst.specs.Flat.{OneOf};
 
 use crate::enumerant::{joined, mask_kinds, value_kinds};
 use crate::items::DueItems;
-use crate::reader::{Place, Scene};
 use spv_module::Operand;
-use spv_table::{Form, Leaf, Table, form_in};
-use spv_words::{Image, word};
-use std::alloc::AllocError;
+use spv_table::{Form, Leaf, Table};
 
 /// What is left of an instruction after some operands.
 #[derive(Clone, Copy)]
@@ -100,15 +93,6 @@ pub struct Plain<'t, 'a> {
     pub kinds: &'t [u32],
 }
 
-/// What `mask_kinds` answers, by a call: few operands are masks, and the loops that read operands do better without its
-/// loop in them.
-#[inline(never)]
-fn known_mask_kinds<'t>(table: &'t Table, kind: u32, mask: u32) -> Option<&'t [u32]>
-    ensures { IfSome result (λ ks. mask_parameters (enumerants_at (kind_of table.now kind)) mask ≡ Some ks.now) }
-{
-    mask_kinds(table, kind, mask)
-}
-
 /// The operand that a word is, where the kind of a number asks for one word: an id, a literal, a known value, or a mask
 /// of known bits of which no more than one has parameters. `leaf` is what the kind asks for.
 #[inline(always)]
@@ -137,7 +121,7 @@ pub fn plain_word<'t, 'a>(
             })
         }
         Leaf::Mask => {
-            let Some(kinds) = known_mask_kinds(table, kind, word) else {
+            let Some(kinds) = mask_kinds(table, kind, word) else {
                 return None;
             };
             let operand = Operand::Mask { kind, value: word };
@@ -183,121 +167,4 @@ pub fn next_single<'t>(rest: Rest<'t>) -> Option<Next<'t>>
         }),
         None => None,
     }
-}
-
-/// Takes the ids and the literals of one word at the front of the words from `first` up to `end`, both counted in words
-/// of the module from 0, by the items of a pattern, and adds them to a list, which gets room for as many operands as
-/// there are words. It stops before the first kind that asks for another operand, before an item that comes any number
-/// of times, or where no kind or no word is left.
-///
-/// An `AllocError` comes only where a growth of memory was refused, and then nothing is said of what is left of the
-/// list.
-#[inline(always)]
-pub fn read_bare<'t, 'a>(
-    forms: &[Form],
-    image: &Image,
-    operands: &mut Vec<Operand<'a>>,
-    items: DueItems<'t>,
-    first: u32,
-    end: u32,
-) -> Result<Rest<'t>, AllocError>
-    requires order { first ≤ end }
-    requires fits { end ≤ length image.now }
-    // From the whole pattern and all words, the operands that are added bring the decoder to what is left.
-    ensures front { (G : Table) (c : Context) → forms.now ≡ map form_of G.kinds
-        → IfOk result
-        (λ r. Sofar G c (map due (items_of items.entry.left.now)) (between image.now first end)
-        (plain_operands (drop (length operands.old.items) operands.new.items)) (due_first r.kinds.now r.items.left.now)
-        (between image.now r.at end) (r.at - first)) }
-    ensures kinds { IfOk result (λ r. r.kinds.now ≡ []) }
-    ensures kept { IfOk result (λ _. take (length operands.old.items) operands.new.items ≡ operands.old.items) }
-    ensures room { IfOk result (λ _. length operands.old.items ≤ length operands.new.items) }
-    ensures few { IfOk result (λ r. length operands.new.items + first ≤ length operands.old.items + r.at) }
-    ensures within { IfOk result (λ r. (first ≤ r.at) × (r.at ≤ end)) }
-    // There is room for as many operands as words are left.
-    ensures spare { IfOk result (λ r. vec_len operands.new + (end - r.at) ≤ vec_capacity operands.new) }
-{
-    operands.reserve((end - first) as usize)?;
-    let mut items = items;
-    let mut at = first;
-    while at < end {
-        let Some((kind, later)) = items.next_single() else {
-            return Ok(Rest {
-                kinds: &[],
-                items,
-                at,
-            });
-        };
-        let form = form_in(forms, kind);
-        let Some(operand) = bare_in_form(form, word(image, at)) else {
-            return Ok(Rest {
-                kinds: &[],
-                items,
-                at,
-            });
-        };
-        operands.push_reserved(operand);
-        items = later;
-        at += 1;
-    }
-    Ok(Rest {
-        kinds: &[],
-        items,
-        at,
-    })
-}
-
-/// Takes the operands that `plain_word` takes at the front of the words left of an instruction, with their parameters,
-/// and adds them to a list, which has room for as many operands as words are left: `begin` is the place of the
-/// instruction's first operand there. It stops before the first other operand, before an operand with parameters that is
-/// itself a parameter and not the last one, before an item that comes any number of times, or where no kind or no word
-/// is left.
-#[inline(always)]
-pub fn read_plain<'t, 'a>(
-    scene: &Scene<'t, '_, 'a>,
-    operands: &mut Vec<Operand<'a>>,
-    place: Place,
-    begin: usize,
-    rest: Rest<'t>,
-) -> Rest<'t>
-    requires forms { scene.now.forms.now ≡ map form_of scene.now.table.now.kinds }
-    requires within { (place.first ≤ rest.at) × (rest.at ≤ place.end) }
-    requires fits { place.end ≤ length scene.now.image.now }
-    requires room { begin ≤ length operands.now.items }
-    requires spare { vec_len operands.now + (place.end - rest.at) ≤ vec_capacity operands.now }
-    // The operands that are added bring the decoder from what was left to what is left.
-    ensures sofar { (before : List PlainInst) (pattern : List Item)
-        → SofarAt scene.now.table.now before place.opcode pattern scene.now.image.now place.first place.end
-        (drop begin operands.old.items) (due_first rest.entry.kinds.now rest.entry.items.left.now) rest.entry.at
-        → SofarAt scene.now.table.now before place.opcode pattern scene.now.image.now place.first place.end
-        (drop begin operands.new.items) (due_first result.kinds.now result.items.left.now) result.at }
-    ensures kept { take begin operands.new.items ≡ take begin operands.old.items }
-    ensures room { begin ≤ length operands.new.items }
-    ensures few { length operands.new.items + rest.entry.at ≤ length operands.old.items + result.at }
-    ensures within { (rest.entry.at ≤ result.at) × (result.at ≤ place.end) }
-    ensures spare { vec_len operands.new + (place.end - result.at) ≤ vec_capacity operands.new }
-{
-    let mut left = rest;
-    while left.at < place.end {
-        let Some(next) = next_single(left) else {
-            return left;
-        };
-        let Form::Leaf(leaf) = form_in(scene.forms, next.kind) else {
-            return left;
-        };
-        let first = word(scene.image, left.at);
-        let Some(plain) = plain_word(scene.table, leaf, next.kind, first) else {
-            return left;
-        };
-        let Some(kinds) = joined(plain.kinds, next.kinds) else {
-            return left;
-        };
-        operands.push_reserved(plain.operand);
-        left = Rest {
-            kinds,
-            items: next.items,
-            at: left.at + 1,
-        };
-    }
-    left
 }

@@ -1,9 +1,11 @@
 ghost use Rattle.std.specs.Prelude.{◌≡◌, ◌≤◌, ◌<◌, ◌-◌, ◌/◌, ◌%◌, ◌↔◌, ℕ, []};
-ghost use Rattle.std.specs.Prelude.{length, take, IfOk, IfErr, IsTrue};
+ghost use Rattle.std.specs.Prelude.{length, take, drop, IfOk, IfErr, IfSome, IsTrue};
+ghost use Rattle.std.specs.List.{AllByRecursion};
 ghost use Rattle.spv_words.specs.Words.{words_of};
 ghost use Rattle.spv_words.specs.declared.words.Order.TheVariants.{Little};
 ghost use Rattle.spv_table.specs.Table.{Table};
 ghost use Rattle.spv_module.specs.Module.{plain_operand};
+ghost use Rattle.spv_module.specs.Operand.{Text};
 ghost use Rattle.spv_module.specs.Shape.{AsText};
 ghost use Rattle.spv_module.specs.Spelling.{AreZeros, Takes};
 ghost use Rattle.spv_module.specs.Refusal.{ShapeRefuses};
@@ -14,6 +16,10 @@ use memchr::memchr;
 use simdutf8::basic::from_utf8;
 use spv_module::{Operand, Rule};
 use spv_words::Image;
+use std::str::from_utf8_unchecked;
+
+/// How many words a text may take to be looked at octet by octet.
+const SHORT: u32 = 16;
 
 /// Whether each octet is zero.
 fn are_zeros(octets: &[u8]) -> bool
@@ -76,4 +82,66 @@ pub fn take_text<'a>(image: &'a Image, at: u32, end: u32) -> Result<Taken<'a>, R
     // The length bounds how many octets there are.
     let _ = image.len();
     text_in(&image.octets()[at as usize * 4..end as usize * 4])
+}
+
+/// How many octets of the last four of a text come before its zero octet, where each from that on is zero. None where
+/// the last octet is not.
+#[inline(always)]
+fn count_in_last(last: &[u8]) -> Option<usize>
+    requires four { length last.now ≡ 4 }
+    ensures { IfSome result (λ n. (n < 4) × AreZeros (drop n last.now)) }
+{
+    if last[3] != 0 {
+        None
+    } else if last[2] != 0 {
+        Some(3)
+    } else if last[1] != 0 {
+        Some(2)
+    } else if last[0] != 0 {
+        Some(1)
+    } else {
+        Some(0)
+    }
+}
+
+/// Whether each octet is that of an ASCII character, and none is zero.
+#[inline(always)]
+fn are_ascii(octets: &[u8]) -> bool
+    ensures { IsTrue result ↔ AllByRecursion (λ b. (0 < b) × (b < 128)) octets.now }
+{
+    octets.iter().all(|octet| *octet > 0 && *octet < 128)
+}
+
+/// The text that octets spell to their end, four of which are a word. None where `short_text` has none.
+#[inline(always)]
+fn short_text_in(octets: &[u8]) -> Option<&str>
+    requires whole { length octets.now % 4 ≡ 0 }
+    requires some { 0 < length octets.now }
+    ensures { IfSome result (λ t. (k : ℕ) → Takes k AsText (Text t.now) (words_of Little octets.now) []) }
+{
+    let last = octets.len() - 4;
+    let Some(count) = count_in_last(&octets[last..]) else {
+        return None;
+    };
+    let text = &octets[..last + count];
+    if !are_ascii(text) {
+        return None;
+    }
+    Some(unsafe { from_utf8_unchecked(text) })
+}
+
+/// The text that all words from `at` up to `end` spell, where it is short and of ASCII characters alone, as names are.
+/// It is lent by the image. Of other texts `take_text` tells.
+#[inline(always)]
+pub fn short_text<'a>(image: &'a Image, at: u32, end: u32) -> Option<&'a str>
+    requires order { at < end }
+    requires fits { end ≤ length image.now }
+    ensures { IfSome result (λ t. (k : ℕ) → Takes k AsText (Text t.now) (between image.now at end) []) }
+{
+    if end - at > SHORT {
+        return None;
+    }
+    // The length bounds how many octets there are.
+    let _ = image.len();
+    short_text_in(&image.octets()[at as usize * 4..end as usize * 4])
 }

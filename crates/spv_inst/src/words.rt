@@ -37,7 +37,7 @@ fn first_type(operands: &[Operand<'_>]) -> Option<u32>
 /// there is one at least. None where `leaf` asks for neither or the words are refused, and for a number where the first
 /// of `operands`, those of the instruction before it, is not the result's type.
 #[inline(always)]
-fn long_operand<'a>(
+pub fn long_operand<'a>(
     scene: &Scene<'_, '_, 'a>,
     operands: &[Operand<'a>],
     leaf: Leaf,
@@ -107,55 +107,6 @@ fn next_operand<'t, 'a>(
         words: taken.words,
         kinds: &[],
     })
-}
-
-/// Takes the operand at the front of the words left of an instruction, where a text or a number as wide as the result's
-/// type is due there, and adds it to a list, which has room for as many operands as words are left. `begin` is the place
-/// of the instruction's first operand in the list. Where another operand is due, or the words are refused, nothing is
-/// taken.
-#[inline(always)]
-pub fn read_long<'t, 'a>(
-    scene: &Scene<'t, '_, 'a>,
-    operands: &mut Vec<Operand<'a>>,
-    place: Place,
-    begin: usize,
-    rest: Rest<'t>,
-) -> Rest<'t>
-    requires forms { scene.now.forms.now ≡ map form_of scene.now.table.now.kinds }
-    requires within { (place.first ≤ rest.at) × (rest.at ≤ place.end) }
-    requires fits { place.end ≤ length scene.now.image.now }
-    requires room { begin ≤ length operands.now.items }
-    requires spare { vec_len operands.now + (place.end - rest.at) ≤ vec_capacity operands.now }
-    // The operands that are added bring the decoder from what was left to what is left.
-    ensures sofar { (before : List PlainInst) (pattern : List Item) → Knows scene.now.definitions.now before
-        → SofarAt scene.now.table.now before place.opcode pattern scene.now.image.now place.first place.end
-        (drop begin operands.old.items) (due_first rest.entry.kinds.now rest.entry.items.left.now) rest.entry.at
-        → SofarAt scene.now.table.now before place.opcode pattern scene.now.image.now place.first place.end
-        (drop begin operands.new.items) (due_first result.kinds.now result.items.left.now) result.at }
-    ensures kept { take begin operands.new.items ≡ take begin operands.old.items }
-    ensures room { begin ≤ length operands.new.items }
-    ensures few { length operands.new.items + rest.entry.at ≤ length operands.old.items + result.at }
-    ensures within { (rest.entry.at ≤ result.at) × (result.at ≤ place.end) }
-    ensures spare { vec_len operands.new + (place.end - result.at) ≤ vec_capacity operands.new }
-{
-    if rest.at == place.end {
-        return rest;
-    }
-    let Some(next) = next_single(rest) else {
-        return rest;
-    };
-    let Form::Leaf(leaf) = form_in(scene.forms, next.kind) else {
-        return rest;
-    };
-    let Some(taken) = long_operand(scene, &operands[begin..], leaf, rest.at, place.end) else {
-        return rest;
-    };
-    operands.push_reserved(taken.operand);
-    Rest {
-        kinds: next.kinds,
-        items: next.items,
-        at: rest.at + taken.words,
-    }
 }
 
 /// Takes operands at the front of the words left of an instruction and adds them to a list, with their parameters:

@@ -12,10 +12,10 @@ returns-in-Some-clause-taken c = λ k e.
     let es = enumerants_at (kind_of c.args.table.now c.args.kind) in
     rw (shape_leaf c.args.table.now k (alone c.args.kind) c.args.leaf leaf.Value e c.in-Value.is) (Takes.value es c.args.word c.in-Some.kinds.now (sym c.in-Some.ensures))
 
-pub returns-in-Some-known_mask_kinds-clause-taken : goal.returns-in-Some-known_mask_kinds-clause-taken
-returns-in-Some-known_mask_kinds-clause-taken c = λ k e.
+pub returns-in-Some-mask_kinds-clause-taken : goal.returns-in-Some-mask_kinds-clause-taken
+returns-in-Some-mask_kinds-clause-taken c = λ k e.
     let es = enumerants_at (kind_of c.args.table.now c.args.kind) in
-    rw (shape_leaf c.args.table.now k (alone c.args.kind) c.args.leaf leaf.Mask e c.in-Mask.is) (Takes.mask es c.args.word c.in-Some-known_mask_kinds.kinds.now c.in-Some-known_mask_kinds.ensures)
+    rw (shape_leaf c.args.table.now k (alone c.args.kind) c.args.leaf leaf.Mask e c.in-Mask.is) (Takes.mask es c.args.word c.in-Some-mask_kinds.kinds.now c.in-Some-mask_kinds.ensures)
 
 pub returns-in-Some-bare_word-clause-taken : goal.returns-in-Some-bare_word-clause-taken
 returns-in-Some-bare_word-clause-taken c = λ k e.

@@ -1,18 +1,17 @@
-use Rattle.std.proofs.Common.{◌≡◌, ◌++◌, ◌∷◌, [], ◌∙◌, drop, map, sym, refl, ap, arith, length-append}
+use Rattle.std.proofs.Common.{◌≡◌, ◌++◌, ◌∷◌, [], ◌∙◌, drop, map, refl, ap, arith, length-append}
 use Rattle.std.proofs.lemmas.List.{take-append-le, drop-append-le}
 use Rattle.spv_module.specs.Module.{plain_operands}
 use Rattle.spv_module.specs.Operand.{start}
 use Rattle.spv_inst.specs.inner.Pending.{items_of}
 use Rattle.spv_inst.specs.Flat.{due}
-use Rattle.spv_inst.proofs.Opened.{due_joined}
 use Rattle.spv_inst.proofs.Turns.{word_next, plain-push}
-use Rattle.spv_inst.proofs.plain.read_plain.Goals as goal
+use Rattle.spv_inst.proofs.singles.read_parameters.Goals as goal
 
 pub loop-left-preserved : goal.loop-left-preserved
 loop-left-preserved c =
     let n = c.args.begin in
     let os = c.loop-left.operands.items in
-    let o = c.in-Some-plain_word.plain.operand in
+    let o = c.in-Some-bare_in_form.operand in
     let i = c.push_reserved.ensures.items in
     let r = c.loop-left.invariant.room in
     let f = c.loop-left.invariant.from in
@@ -28,10 +27,9 @@ loop-left-preserved c =
       kept = rw (i, take-append-le n os (o ∷ []) r) c.loop-left.invariant.kept;
       few = rw i (omega arith);
       spare = let s = c.loop-left.invariant.spare in let n = c.push_reserved.ensures.len in let k = c.push_reserved.ensures.capacity in omega arith;
-      sofar = λ b pattern s.
+      sofar = λ b pattern know s.
           let G = c.args.scene.now.table.now in
-          let h = sym (c.form_in.ensures G c.requires.forms) ∙ c.in-Leaf.is in
-          word_next G (start b c.args.place.opcode) _ _ _ _ _ _ _ c.in-Some.next.kind c.in-Some-plain_word.plain.kinds.now c.args.scene.now.image.now c.args.place.first c.loop-left.left.at c.args.place.end _ _ (c.loop-left.invariant.sofar b pattern s) (omega arith) t c.requires.fits c.in-Some.ensures c.word-first.ensures
-          (c.in-Some-plain_word.ensures.taken _ h) (rw i (pl ∙ plain-push (drop n os) _ o refl))
-          (due_joined c.in-Some-plain_word.plain.kinds.now c.in-Some.next.kinds.now c.in-Some-joined.kinds.now (map due (items_of c.in-Some.next.items.left.now)) c.in-Some-joined.ensures);
+          word_next G (start b c.args.place.opcode) _ _ _ _ _ _ _ c.in-Some.kind.now [] c.args.scene.now.image.now c.args.place.first c.loop-left.left.at c.args.place.end _ _ (c.loop-left.invariant.sofar b pattern know s) (omega arith) t c.requires.fits (rw c.in-Some.ensures.cases.0 refl)
+          c.word.ensures
+          (c.in-Some-bare_in_form.ensures G _ _ (c.form_in-form.ensures G c.requires.forms)) (rw i (pl ∙ plain-push (drop n os) _ o refl)) refl;
     }
