@@ -99,6 +99,45 @@ fn each_played(definitions: &Definitions<'_, '_>, asked: Asked, operands: &[Oper
     true
 }
 
+/// Whether types are types, and ids play the roles that are asked for. Names and decorations, of whose ids nothing is
+/// asked, are looked at first (a merge stands as they do), and types that are declared of one type or two: pointers and
+/// vectors, arrays, functions and structures.
+#[inline(always)]
+fn are_declared_played(
+    definitions: &Definitions<'_, '_>,
+    asked: Asked,
+    operands: &[Operand<'_>],
+) -> bool
+    ensures { MatchBool result (ArePlayed definitions.now asked.first asked.others asked.masked
+        (plain_operands operands.now))
+        (IsOneMiscast definitions.now asked.first asked.others asked.masked (plain_operands operands.now)) }
+{
+    use Operand::{Id, Mask, Result, Text, Value, Word};
+    match (operands, asked.first) {
+        ([Id(_), Text(_) | Value { .. } | Mask { .. }], Role::Any) => true,
+        (
+            [
+                Id(_),
+                Value { .. } | Word(_),
+                Text(_) | Value { .. } | Word(_) | Mask { .. },
+            ],
+            Role::Any,
+        ) => true,
+        ([Id(_), Word(_), Value { .. }, Value { .. } | Word(_)], Role::Any) => true,
+        (
+            [Result(_), Id(a)] | [Result(_), Id(a), Word(_)] | [Result(_), Value { .. }, Id(a)],
+            Role::OfType,
+        ) => is_type_id(definitions, *a),
+        ([Result(_), Id(a), Id(b)], Role::OfType) => are_type_and(
+            definitions,
+            *a,
+            asked.others,
+            *b,
+        ),
+        _ => each_played(definitions, asked, operands),
+    }
+}
+
 /// Whether types are types, and ids play the roles that are asked for. A label, and a condition before two labels, are
 /// looked at first.
 #[inline(always)]
@@ -111,14 +150,14 @@ fn are_uses_played(
         (plain_operands operands.now))
         (IsOneMiscast definitions.now asked.first asked.others asked.masked (plain_operands operands.now)) }
 {
-    match (asked.first, asked.others, operands) {
-        (Role::Any, _, [Operand::Id(_)]) => true,
-        (first, Role::Any, [Operand::Id(a), Operand::Id(_), Operand::Id(_)]) => plays(
+    match (operands, asked.first, asked.others) {
+        ([Operand::Id(_)], Role::Any, _) => true,
+        ([Operand::Id(a), Operand::Id(_), Operand::Id(_)], first, Role::Any) => plays(
             definitions,
             first,
             *a,
         ),
-        _ => each_played(definitions, asked, operands),
+        _ => are_declared_played(definitions, asked, operands),
     }
 }
 
