@@ -1,13 +1,14 @@
 // Times the calls of the library beside those of SPIRV-Tools, in one process, by the time of its processor.
 //
-// usage: library GRAMMAR ROUNDS FILE..
+// usage: library GRAMMAR ROUNDS [cold] FILE..
 //
 // Reads the grammar once and makes one context of SPIRV-Tools, and then for each module: checks it, shows it, and
 // assembles what was shown, by each of the two in turn. A round runs a call again and again for some milliseconds.
 // Prints for each module its bytes and six times in nanoseconds, the least of the rounds: check, show and assemble,
 // of the library and then of SPIRV-Tools each. At last prints three times more: to make the grammar of the file, to
-// make the built-in one, and to make a context of SPIRV-Tools. What a call made is let go within its time. Ends with
-// status 1 where a call does not succeed.
+// make the built-in one, and to make a context of SPIRV-Tools. What a call made is let go within its time. With `cold`
+// a round is one call, and before each the caches are emptied, by work on more memory than they hold. Ends with status 1
+// where a call does not succeed.
 #define _POSIX_C_SOURCE 200809L
 #include "spvk.h"
 
@@ -20,6 +21,10 @@
 enum { TASKS = 6, MAKERS = 3 };
 
 static const double NANOSECONDS_OF_A_ROUND = 3e6;
+
+// More than the caches of a processor hold together, and how many bytes lie in a line of theirs.
+enum { OTHER_BYTES = 64 << 20, LINE = 64 };
+static unsigned char *other;
 
 static spvk_grammar grammar = SPVK_GRAMMAR_NONE;
 static spv_context context;
@@ -121,16 +126,24 @@ static double timed(call *made, long times) {
     return (now() - start) / (double)times;
 }
 
+// Work on other memory, where there is any: nothing of what was used before is left in the caches.
+static void work_elsewhere(void) {
+    if (!other) return;
+    for (long it = 0; it < OTHER_BYTES; it += LINE) other[it]++;
+}
+
 // Prints the least time of each of some calls, which take turns.
 static void time_in_turn(call *const *calls, int count, long rounds) {
     double least[TASKS];
     long times[TASKS];
     for (int it = 0; it < count; it++) {
-        least[it] = timed(calls[it], 3);
-        times[it] = 1 + (long)(NANOSECONDS_OF_A_ROUND / least[it]);
+        work_elsewhere();
+        least[it] = timed(calls[it], other ? 1 : 3);
+        times[it] = other ? 1 : 1 + (long)(NANOSECONDS_OF_A_ROUND / least[it]);
     }
     for (long round = 0; round < rounds; round++) {
         for (int it = 0; it < count; it++) {
+            work_elsewhere();
             const double taken = timed(calls[it], times[it]);
             if (taken < least[it]) least[it] = taken;
         }
@@ -156,7 +169,9 @@ int main(int count, char **words) {
     expect(spvk_grammar_new(text.bytes, text.size, &grammar) == SPVK_OK, "spvk_grammar_new");
     context = spvContextCreate(SPV_ENV_UNIVERSAL_1_6);
     options = spvValidatorOptionsCreate();
-    for (int it = 3; it < count; it++) {
+    const bool is_cold = strcmp(words[3], "cold") == 0;
+    if (is_cold) other = calloc(OTHER_BYTES, 1);
+    for (int it = is_cold ? 4 : 3; it < count; it++) {
         module = read_file(words[it]);
         measure(words[it], atol(words[2]));
         free(module.bytes);
@@ -167,5 +182,6 @@ int main(int count, char **words) {
     spvContextDestroy(context);
     spvk_grammar_delete(&grammar);
     free(text.bytes);
+    free(other);
     return 0;
 }
