@@ -10,6 +10,7 @@ use Rattle.std.proofs.lemmas.Bool.{cases_eq, cases_order, ltb-true}
 use Rattle.std.proofs.lemmas.Bool.Decides.{nat_tests}
 use Rattle.std.proofs.lemmas.Option.{slice_get_within, slice_get-get_or, slice_get_read, get_or_from_slice_get}
 use Rattle.spv_capabilities.specs.declared.memo.Answer.{Answer}
+use Rattle.spv_capabilities.specs.declared.memo.Enumerated.{Enumerated}
 use Rattle.spv_capabilities.specs.declared.memo.Answer.TheVariants.{Unknown}
 use Rattle.spv_capabilities.specs.inner.Known.{IsAnswer, answer_of, pair_cmp}
 
@@ -96,3 +97,8 @@ unknown_all Q R l n e o a h = let s : Unknown ≡ a = read n o a (rw e at h) in 
 
 pub no_pairs : (Q : ℕ → ℕ → Type 0) (m : BTreeMap (ℕ × ℕ) Bool) → IsEmpty m → (x y : ℕ) (c : Bool) → get pair_cmp m (x, y) ≡ Some c → IsTrue c ↔ Q x y
 no_pairs Q m e x y c h = let n : get pair_cmp m (x, y) ≡ None = rw e refl in absurd (let no : None ≡ Some c = sym n ∙ h in cc)
+
+pub no_recent : (P : Type 0) (n o : ℕ) (e : Enumerated) → slice_get (replicate n None) o ≡ Some (Some e) → P
+no_recent P zero o e h = absurd (let no : None ≡ Some (Some e) = h in cc)
+no_recent P (suc n) zero e h = absurd (let no : Some None ≡ Some (Some e) = h in cc)
+no_recent P (suc n) (suc o) e h = no_recent P n o e h

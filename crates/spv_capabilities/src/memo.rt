@@ -33,6 +33,16 @@ pub enum Answer {
     Free,
 }
 
+/// How many places there are for the enumerants that were met of late.
+const RECENT: usize = 16;
+
+/// An enumerant, by the number of its kind and its value.
+#[derive(Clone, Copy)]
+struct Enumerated {
+    kind: u32,
+    value: u32,
+}
+
 /// What was asked about a module.
 #[derive(Drop)]
 pub struct Memo {
@@ -43,6 +53,9 @@ pub struct Memo {
     /// A mask whose set bits are all covered, the last that was asked of, or 0; and its kind.
     mask: u32,
     mask_kind: u32,
+    /// Enumerants that are covered, each at the place of its value modulo that many: of two that share a place the one
+    /// that was asked of last.
+    recent: [Option<Enumerated>; RECENT],
 }
 
 /// The number of one bit.
@@ -118,6 +131,7 @@ impl Memo {
             enumerants: BTreeMap::new(alloc),
             mask: 0,
             mask_kind: 0,
+            recent: [None; RECENT],
         })
     }
 
@@ -184,6 +198,39 @@ impl Memo {
         Ok(covered)
     }
 
+    /// Whether it is known at once that the enumerant of a value of a kind is covered.
+    #[inline(always)]
+    fn is_recent(&self, kind: u32, value: u32) -> bool
+        ensures { (s : Subject) → IsKnown s self.now → IsTrue result → IsCoveredValue s.table s.insts kind value }
+    {
+        match self.recent[value as usize % RECENT] {
+            Some(met) => met.kind == kind && met.value == value,
+            None => false,
+        }
+    }
+
+    /// Keeps that the enumerant of a value of a kind is covered.
+    fn keep_recent(&mut self, kind: u32, value: u32)
+        ensures { (s : Subject) → IsKnown s self.old → IsCoveredValue s.table s.insts kind value → IsKnown s self.new }
+    {
+        self.recent[value as usize % RECENT] = Some(Enumerated { kind, value });
+    }
+
+    /// Asks of a value that is not among those met of late.
+    #[inline(never)]
+    fn ask_value(&mut self, survey: &Survey<'_, '_>, kind: u32, value: u32) -> Result<bool, Memory>
+        requires { IsKnown survey.now self.old }
+        ensures answer { IfOk result (λ b. IsTrue b ↔ IsCoveredValue survey.now.table survey.now.insts kind value) }
+        ensures known { IsKnown survey.now self.new }
+    {
+        let covered = asks_nothing(survey, kind, value)
+            || self.is_covered_listing(survey, kind, value)?;
+        if covered {
+            self.keep_recent(kind, value);
+        }
+        Ok(covered)
+    }
+
     /// Whether the enumerant of a value of a kind is covered, if there is one.
     #[inline(always)]
     fn is_covered_value(
@@ -196,10 +243,10 @@ impl Memo {
         ensures answer { IfOk result (λ b. IsTrue b ↔ IsCoveredValue survey.now.table survey.now.insts kind value) }
         ensures known { IsKnown survey.now self.new }
     {
-        if asks_nothing(survey, kind, value) {
+        if self.is_recent(kind, value) {
             return Ok(true);
         }
-        self.is_covered_listing(survey, kind, value)
+        self.ask_value(survey, kind, value)
     }
 
     /// Whether a bit is not set, or its enumerant is covered. `bits` has it as the lowest.

@@ -1,6 +1,6 @@
 //! Operands of one word.
 
-ghost use Rattle.std.specs.Prelude.{◌≡◌, ℕ, Some, ◌∷◌, [], true, map, IfSome, MatchOption};
+ghost use Rattle.std.specs.Prelude.{◌≡◌, ℕ, ◌∷◌, [], true, IfSome, MatchOption};
 ghost use Rattle.spv_table.specs.Table.{Table, kind_of};
 ghost use Rattle.spv_table.specs.declared.form.Form.TheVariants.{Leaf as LeafForm};
 ghost use Rattle.spv_table.specs.inner.Form.{form_at};
@@ -11,10 +11,9 @@ ghost use Rattle.spv_module.specs.Spelling.{Takes};
 ghost use Rattle.spv_inst.specs.inner.Pending.{settled, due_first};
 ghost use Rattle.spv_inst.specs.Flat.{OneOf};
 
-use crate::enumerant::{joined, mask_kinds, value_kinds};
 use crate::items::DueItems;
 use spv_module::Operand;
-use spv_table::{Form, Leaf, Table};
+use spv_table::{Form, Leaf};
 
 /// What is left of an instruction after some operands.
 #[derive(Clone, Copy)]
@@ -82,65 +81,6 @@ pub fn bare_in_form<'a>(form: Form, word: u32) -> Option<Operand<'a>>
     match form {
         Form::Leaf(leaf) => bare_word(leaf, word),
         Form::Parts { .. } => None,
-    }
-}
-
-/// An operand, how many words it takes, and the kinds of its parameters, which are due after it.
-#[derive(Clone, Copy)]
-pub struct Plain<'t, 'a> {
-    pub operand: Operand<'a>,
-    pub words: u32,
-    pub kinds: &'t [u32],
-}
-
-/// The operand that a word is, where the kind of a number asks for one word: an id, a literal, a known value, or a mask
-/// of known bits of which no more than one has parameters. `leaf` is what the kind asks for.
-#[inline(always)]
-pub fn plain_word<'t, 'a>(
-    table: &'t Table,
-    leaf: Leaf,
-    kind: u32,
-    word: u32,
-) -> Option<Plain<'t, 'a>>
-    ensures taken { (c : Context) → form_at (kind_of table.now kind) ≡ LeafForm leaf
-        → IfSome result
-        (λ p. Takes kind (shape_of table.now c (alone kind)) (plain_operand p.operand) (word ∷ [])
-        (map alone p.kinds.now)) }
-    ensures words { IfSome result (λ p. p.words ≡ 1) }
-{
-    match leaf {
-        Leaf::Value => {
-            let Some(kinds) = value_kinds(table, kind, word) else {
-                return None;
-            };
-            let operand = Operand::Value { kind, value: word };
-            Some(Plain {
-                operand,
-                words: 1,
-                kinds,
-            })
-        }
-        Leaf::Mask => {
-            let Some(kinds) = mask_kinds(table, kind, word) else {
-                return None;
-            };
-            let operand = Operand::Mask { kind, value: word };
-            Some(Plain {
-                operand,
-                words: 1,
-                kinds,
-            })
-        }
-        _ => {
-            let Some(operand) = bare_word(leaf, word) else {
-                return None;
-            };
-            Some(Plain {
-                operand,
-                words: 1,
-                kinds: &[],
-            })
-        }
     }
 }
 

@@ -1,24 +1,28 @@
 //! Operands of items that come once at most, and their parameters.
 
 ghost use Rattle.std.specs.Prelude.{◌≡◌, ℕ, List, [], ◌≤◌, ◌<◌, ◌+◌, ◌-◌, length, map, take, drop};
-ghost use Rattle.std.specs.Prelude.{IfSome, IfNone, vec_len, vec_capacity};
+ghost use Rattle.std.specs.Prelude.{Some, IfSome, IfNone, vec_len, vec_capacity};
 ghost use Rattle.spv_table.specs.Table.{Item, kind_of};
 ghost use Rattle.spv_table.specs.declared.form.Form.TheVariants.{Leaf as LeafForm};
 ghost use Rattle.spv_table.specs.declared.form.Leaf.TheVariants as due_leaf;
 ghost use Rattle.spv_table.specs.inner.Form.{form_of, form_at};
-ghost use Rattle.spv_module.specs.Operand.{PlainInst};
+ghost use Rattle.spv_module.specs.Operand.{Context, PlainInst, type_in};
+ghost use Rattle.spv_module.specs.Module.{plain_operand, plain_operands};
+ghost use Rattle.spv_module.specs.Shape.{alone, shape_of};
+ghost use Rattle.spv_module.specs.Spelling.{Takes};
 ghost use Rattle.spv_inst.specs.inner.Known.{Knows};
 ghost use Rattle.spv_inst.specs.inner.Pending.{items_of, due_first};
 ghost use Rattle.spv_inst.specs.inner.Pushed.{IsPushed};
+ghost use Rattle.spv_inst.specs.inner.Reading.{between};
 ghost use Rattle.spv_inst.specs.inner.Sofar.{SofarAt};
 ghost use Rattle.spv_inst.specs.Flat.{due};
 
 use crate::enumerant::{mask_kinds, value_kinds};
 use crate::items::DueItems;
+use crate::number::take_number;
 use crate::plain::{Rest, bare_in_form};
-use crate::reader::{Place, Scene};
-use crate::text::short_text;
-use crate::words::long_operand;
+use crate::reader::{Place, Scene, Taken};
+use crate::text::{short_text, take_text};
 use spv_module::Operand;
 use spv_table::{Form, Leaf, form_in};
 use spv_words::word;
@@ -26,9 +30,60 @@ use spv_words::word;
 /// An operand that was added to a list: how many words it takes, and the kinds of its parameters, which are due after
 /// it.
 #[derive(Clone, Copy)]
-struct Pushed<'t> {
-    words: u32,
-    kinds: &'t [u32],
+pub struct Pushed<'t> {
+    pub words: u32,
+    pub kinds: &'t [u32],
+}
+
+/// The result's type, where that is the first of some operands.
+fn first_type(operands: &[Operand<'_>]) -> Option<u32>
+    ensures { IfSome result (λ id. type_in (plain_operands operands.now) ≡ Some id) }
+{
+    match operands {
+        [Operand::OfType(id), ..] => Some(*id),
+        _ => None,
+    }
+}
+
+/// The text, or the number as wide as the result's type, at the front of the words from `at` up to `end`, of which
+/// there is one at least. None where `leaf` asks for neither or the words are refused, and for a number where the first
+/// of `operands`, those of the instruction before it, is not the result's type.
+#[inline(always)]
+fn long_operand<'a>(
+    scene: &Scene<'_, '_, 'a>,
+    operands: &[Operand<'a>],
+    leaf: Leaf,
+    at: u32,
+    end: u32,
+) -> Option<Taken<'a>>
+    requires order { at < end }
+    requires fits { end ≤ length scene.now.image.now }
+    ensures taken { (c : Context) (kind : ℕ) → Knows scene.now.definitions.now c.before
+        → plain_operands operands.now ≡ c.operands → form_at (kind_of scene.now.table.now kind) ≡ LeafForm leaf
+        → IfSome result
+        (λ t. Takes kind (shape_of scene.now.table.now c (alone kind)) (plain_operand t.operand)
+        (take t.words (between scene.now.image.now at end)) []) }
+    ensures within { IfSome result (λ t. (0 < t.words) × (t.words ≤ end - at)) }
+{
+    match leaf {
+        Leaf::Text => {
+            let Ok(taken) = take_text(scene.image, at, end) else {
+                return None;
+            };
+            Some(taken)
+        }
+        Leaf::ContextNumber => {
+            let Some(type_id) = first_type(operands) else {
+                return None;
+            };
+            let width = scene.definitions.width(type_id);
+            let Ok(taken) = take_number(scene.image, width, at, end) else {
+                return None;
+            };
+            Some(taken)
+        }
+        _ => None,
+    }
 }
 
 /// Adds the text or the number at the front of the words from `at` up to `end` to a list that has room for it, and
@@ -92,11 +147,11 @@ fn push_text<'a>(
 }
 
 /// Adds the operand at the front of the words from `at` up to `end`, of which there is one at least, to a list that has
-/// room for it, where the kind of a number asks for an id, a literal, a known value, or a mask of known bits of which
-/// no more than one has parameters. `begin` is the place of the instruction's first operand in the list. None where it
-/// is refused, and then nothing is added.
+/// room for it, where the kind of a number asks for an id, a literal, a text, a number, a known value, or a mask of
+/// known bits of which no more than one has parameters. `begin` is the place of the instruction's first operand in the
+/// list. None where it is refused, and then nothing is added.
 #[inline(always)]
-fn push_next<'t, 'a>(
+pub fn push_next<'t, 'a>(
     scene: &Scene<'t, '_, 'a>,
     operands: &mut Vec<Operand<'a>>,
     begin: usize,
@@ -193,9 +248,9 @@ pub fn read_singles<'t, 'a>(
     left
 }
 
-/// Takes the parameters that are due, as far as they are ids and literals of one word, at the front of the words left of
-/// an instruction, and adds them to a list, which has room for as many operands as words are left: `begin` is the place
-/// of the instruction's first operand there.
+/// Takes the parameters that are due, as far as they are ids and literals of one word, at the front of the words left
+/// of an instruction, and adds them to a list, which has room for as many operands as words are left: `begin` is the
+/// place of the instruction's first operand there.
 #[inline(always)]
 pub fn read_parameters<'t, 'a>(
     scene: &Scene<'t, '_, 'a>,

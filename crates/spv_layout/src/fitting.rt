@@ -417,7 +417,7 @@ fn is_first_told(kinds: &Kinds<'_>, form: Form, operands: &[Operand<'_>]) -> boo
     }
 }
 
-/// Whether operands fit the ending of a row: that of loads and stores is looked at first.
+/// Whether operands fit the ending of a row: those that most rows have are looked at first.
 #[inline(always)]
 fn have_rest(kinds: &Kinds<'_>, row: &Row, operands: &[Operand<'_>]) -> bool
     ensures { result ≡ fits_ending kinds.now (plain_ending row.now.ending) (map plain_operand operands.now) }
@@ -426,6 +426,8 @@ fn have_rest(kinds: &Kinds<'_>, row: &Row, operands: &[Operand<'_>]) -> bool
         Ending::MaybeOthers(form) => {
             is_first_told(kinds, form, operands) || have_ending(kinds, row, operands)
         }
+        Ending::Others => are_free(kinds, operands),
+        Ending::Repeated([form]) => are_all(kinds, *form, operands),
         _ => have_ending(kinds, row, operands),
     }
 }

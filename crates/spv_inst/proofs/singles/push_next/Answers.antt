@@ -1,4 +1,4 @@
-use Rattle.std.proofs.Common.{◌≡◌, ◌∙◌, ◌++◌, ◌∷◌, ◌<◌, ◌≤◌, ◌⊎◌, inl, inr, ℕ, List, [], Option, Some, map, take, drop, length, slice_index, refl, sym, ap, arith, rules}
+use Rattle.std.proofs.Common.{◌≡◌, ◌∙◌, ◌++◌, ◌∷◌, ◌<◌, ◌≤◌, ◌⊎◌, inl, inr, ℕ, List, [], map, length, slice_index, sym, ap}
 use Rattle.spv_table.specs.Table.{Table, kind_of}
 use Rattle.spv_table.specs.declared.form.Form.TheVariants.{Leaf as LeafForm}
 use Rattle.spv_table.specs.declared.form.Leaf.TheVariants as leaf
@@ -6,13 +6,12 @@ use Rattle.spv_table.specs.declared.form.Leaf.{Leaf}
 use Rattle.spv_table.specs.inner.Form.{form_at}
 use Rattle.spv_module.specs.declared.operand.Operand.{Operand}
 use Rattle.spv_module.specs.declared.operand.Operand.TheVariants as code
-use Rattle.spv_module.specs.Module.{plain_operand, plain_operands}
+use Rattle.spv_module.specs.Module.{plain_operand}
 use Rattle.spv_module.specs.Operand.{Context, Word}
 use Rattle.spv_module.specs.Shape.{alone, shape_of}
-use Rattle.spv_module.specs.Spelling.{Takes, parameters_of, mask_parameters}
+use Rattle.spv_module.specs.Spelling.{Takes}
 use Rattle.spv_inst.specs.declared.definitions.Definitions.{Definitions}
 use Rattle.spv_inst.specs.Reading.{enumerants_at}
-use Rattle.spv_inst.specs.inner.Reading.{between}
 use Rattle.spv_inst.specs.inner.Pushed.{IsPushed}
 use Rattle.spv_inst.proofs.Between.{take_one}
 use Rattle.spv_inst.proofs.Shapes.{shape_leaf}

@@ -1,4 +1,4 @@
-use Rattle.std.proofs.Common.{◌≡◌, ◌-◌, length, take, refl, arith}
+use Rattle.std.proofs.Common.{◌≡◌, ◌-◌, take, refl, arith}
 use Rattle.std.proofs.lemmas.List.{take_all}
 use Rattle.spv_table.specs.declared.form.Leaf.TheVariants as leaf
 use Rattle.spv_module.specs.declared.operand.Operand.TheVariants as code

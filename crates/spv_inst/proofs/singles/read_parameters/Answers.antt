@@ -1,9 +1,7 @@
-use Rattle.std.proofs.Common.{◌≡◌, ◌++◌, ◌∷◌, [], ◌∙◌, drop, map, refl, ap, arith, length-append}
+use Rattle.std.proofs.Common.{◌≡◌, ◌++◌, ◌∷◌, [], ◌∙◌, drop, refl, ap, arith, length-append}
 use Rattle.std.proofs.lemmas.List.{take-append-le, drop-append-le}
 use Rattle.spv_module.specs.Module.{plain_operands}
 use Rattle.spv_module.specs.Operand.{start}
-use Rattle.spv_inst.specs.inner.Pending.{items_of}
-use Rattle.spv_inst.specs.Flat.{due}
 use Rattle.spv_inst.proofs.Turns.{word_next, plain-push}
 use Rattle.spv_inst.proofs.singles.read_parameters.Goals as goal
 

@@ -1,9 +1,7 @@
-use Rattle.std.proofs.Common.{◌≡◌, ◌-◌, ◌++◌, ◌∷◌, [], ◌∙◌, length, take, drop, map, refl, sym, ap, arith, length-append}
+use Rattle.std.proofs.Common.{◌≡◌, ◌++◌, ◌∷◌, [], ◌∙◌, drop, refl, sym, ap, arith, length-append}
 use Rattle.std.proofs.lemmas.List.{take-append-le, drop-append-le}
 use Rattle.spv_module.specs.Module.{plain_operands}
 use Rattle.spv_module.specs.Operand.{start}
-use Rattle.spv_inst.specs.inner.Pending.{items_of}
-use Rattle.spv_inst.specs.Flat.{due}
 use Rattle.spv_inst.proofs.Frames.{by_empty}
 use Rattle.spv_inst.proofs.Turns.{words_next, plain-push, here_is}
 use Rattle.spv_inst.proofs.singles.read_singles.Goals as goal

@@ -17,4 +17,5 @@ returns-clause-known c = record {
       pairs_more (IsCoveredValue c.args.survey.now.table c.args.survey.now.insts) c.args.self.now.enumerants c.insert.new.self c.args.kind c.args.value c.is_covered_value-covered.result c.requires.enumerants
       c.in_ok-insert.ensures.updates c.is_covered_value-covered.ensures;
   mask = c.requires.mask;
+  recent = c.requires.recent;
 }

@@ -3,7 +3,7 @@ use Rattle.spv_table.specs.declared.form.Leaf.TheVariants as leaf
 use Rattle.spv_module.specs.Shape.{alone}
 use Rattle.spv_module.specs.Width.{context_width}
 use Rattle.spv_inst.proofs.Shapes.{shape_leaf}
-use Rattle.spv_inst.proofs.words.long_operand.Goals as goal
+use Rattle.spv_inst.proofs.singles.long_operand.Goals as goal
 
 pub returns-in-Ok-clause-taken : goal.returns-in-Ok-clause-taken
 returns-in-Ok-clause-taken c = λ k j know f e.
