@@ -4,10 +4,6 @@ use Rattle.std.proofs.lemmas.Option.{slice_get_within, get_or_from_slice_get}
 use Rattle.std.specs.Prelude.{Err}
 use Rattle.spv_grammar.specs.declared.error.GrammarError.{GrammarError}
 use Rattle.spv_grammar.specs.declared.error.GrammarError.TheVariants.{J1, J2, J3, J4, J5, J6, J7, J8}
-use Rattle.std.specs.Str.{bytes_eq}
-use Rattle.std.specs.Cmp.Lexicographic.{bytes_decides}
-use Rattle.spv_grammar.specs.Kinds.{number_in}
-use Rattle.spv_grammar.specs.declared.file.FileKind.{FileKind}
 use Rattle.serde_json.specs.Data.{Data}
 use Rattle.json_tree.specs.View.{Content, view, items_left, items_view}
 use Rattle.spv_grammar.specs.File.{each}
@@ -38,10 +34,6 @@ refused view whole_view J5 made whole m none = none m
 refused view whole_view J6 made whole m none = none m
 refused view whole_view J7 made whole m none = none m
 refused view whole_view J8 made whole m none = m
-
--- the number of a name that was asked for before
-pub known_number : (ks vs : List FileKind) (name text : List ℕ) (r : Option ℕ) → r ≡ number_in ks text → ks ≡ vs → bytes_eq name text ≡ true → r ≡ number_in vs name
-known_number ks vs name text r known same e = known ∙ ap (number_in ks) (sym ((bytes_decides name text).0 e)) ∙ ap (λ v. number_in v name) same
 
 -- an item that is read
 pub read_step : {A : Type 0} (read : Data → Option A) (was is : List Content × ℕ) (x : List Content) (a : A) (whole : Option (List A)) (front found : List A) → items_left was ≡ view x ∷ items_left is

@@ -35,19 +35,23 @@ impl<'a> Named for First<'a> {
     }
 }
 
+/// The numbers of the five names that most operands bear: IdRef, IdResult, IdResultType, LiteralInteger and IdScope.
+#[derive(Clone, Copy)]
+struct Usual {
+    reference: Option<u32>,
+    result: Option<u32>,
+    result_type: Option<u32>,
+    integer: Option<u32>,
+    scope: Option<u32>,
+}
+
 /// The kinds of a grammar file, each name once. Contracts see the list of the kinds.
 #[derive(Drop)]
 pub(crate) struct Numbers<'a> {
     kinds: Vec<First<'a>>,
     /// Where the names of the kinds are.
     names: Names,
-    /// The numbers of the five names that most operands bear: IdRef, IdResult, IdResultType, LiteralInteger and
-    /// IdScope.
-    reference: Option<u32>,
-    result: Option<u32>,
-    result_type: Option<u32>,
-    integer: Option<u32>,
-    scope: Option<u32>,
+    usual: Usual,
 }
 
 impl<'a> Model for Numbers<'a> {
@@ -61,11 +65,11 @@ impl<'a> Model for Numbers<'a> {
     ghost view = { λ n. map (λ f. f.kind.now) n.kinds.items };
 
     ghost invariant = { λ n. Finds (λ f. f.kind.now.name) n.kinds.items n.names
-        × (n.reference ≡ number_in (map (λ f. f.kind.now) n.kinds.items) (codes "IdRef"))
-        × (n.result ≡ number_in (map (λ f. f.kind.now) n.kinds.items) (codes "IdResult"))
-        × (n.result_type ≡ number_in (map (λ f. f.kind.now) n.kinds.items) (codes "IdResultType"))
-        × (n.integer ≡ number_in (map (λ f. f.kind.now) n.kinds.items) (codes "LiteralInteger"))
-        × (n.scope ≡ number_in (map (λ f. f.kind.now) n.kinds.items) (codes "IdScope")) };
+        × (n.usual.reference ≡ number_in (map (λ f. f.kind.now) n.kinds.items) (codes "IdRef"))
+        × (n.usual.result ≡ number_in (map (λ f. f.kind.now) n.kinds.items) (codes "IdResult"))
+        × (n.usual.result_type ≡ number_in (map (λ f. f.kind.now) n.kinds.items) (codes "IdResultType"))
+        × (n.usual.integer ≡ number_in (map (λ f. f.kind.now) n.kinds.items) (codes "LiteralInteger"))
+        × (n.usual.scope ≡ number_in (map (λ f. f.kind.now) n.kinds.items) (codes "IdScope")) };
 }
 
 /// Whether a name is IdRef.
@@ -130,6 +134,24 @@ fn place_of<'a>(names: &Names, kinds: &[First<'a>], name: &str) -> Option<u32>
     Some(names.place(kinds, name)? as u32)
 }
 
+/// The numbers of the usual names among kinds.
+fn usual_of(names: &Names, kinds: &[First<'_>]) -> Usual
+    requires { Finds (λ f. f.kind.now.name) kinds.now names.now }
+    ensures reference { result.reference ≡ number_in (map (λ f. f.kind.now) kinds.now) (codes "IdRef") }
+    ensures result { result.result ≡ number_in (map (λ f. f.kind.now) kinds.now) (codes "IdResult") }
+    ensures result_type { result.result_type ≡ number_in (map (λ f. f.kind.now) kinds.now) (codes "IdResultType") }
+    ensures integer { result.integer ≡ number_in (map (λ f. f.kind.now) kinds.now) (codes "LiteralInteger") }
+    ensures scope { result.scope ≡ number_in (map (λ f. f.kind.now) kinds.now) (codes "IdScope") }
+{
+    Usual {
+        reference: place_of(names, kinds, "IdRef"),
+        result: place_of(names, kinds, "IdResult"),
+        result_type: place_of(names, kinds, "IdResultType"),
+        integer: place_of(names, kinds, "LiteralInteger"),
+        scope: place_of(names, kinds, "IdScope"),
+    }
+}
+
 impl<'a> Numbers<'a> {
     /// Numbers the kinds. The error is that memory ran out, or numbers: there may be 4,294,967,295.
     pub(crate) fn new(alloc: Global, kinds: &'a [FileKind<'a>]) -> Result<Numbers<'a>, GrammarError>
@@ -139,19 +161,11 @@ impl<'a> Numbers<'a> {
     {
         let kinds = firsts(alloc, kinds)?;
         let names = Names::of(alloc, kinds.as_slice())?;
-        let reference = place_of(&names, kinds.as_slice(), "IdRef");
-        let result = place_of(&names, kinds.as_slice(), "IdResult");
-        let result_type = place_of(&names, kinds.as_slice(), "IdResultType");
-        let integer = place_of(&names, kinds.as_slice(), "LiteralInteger");
-        let scope = place_of(&names, kinds.as_slice(), "IdScope");
+        let usual = usual_of(&names, kinds.as_slice());
         Ok(Numbers {
             kinds,
             names,
-            reference,
-            result,
-            result_type,
-            integer,
-            scope,
+            usual,
         })
     }
 
@@ -160,19 +174,19 @@ impl<'a> Numbers<'a> {
         ensures { result ≡ number_in self.now name.now }
     {
         if is_reference(name) {
-            return self.reference;
+            return self.usual.reference;
         }
         if is_result(name) {
-            return self.result;
+            return self.usual.result;
         }
         if is_result_type(name) {
-            return self.result_type;
+            return self.usual.result_type;
         }
         if is_integer(name) {
-            return self.integer;
+            return self.usual.integer;
         }
         if is_scope(name) {
-            return self.scope;
+            return self.usual.scope;
         }
         place_of(&self.names, self.kinds.as_slice(), name)
     }

@@ -76,6 +76,80 @@ fn number_of(found: &Option<Node<'_, '_>>) -> Option<Number>
     }
 }
 
+/// What is read of each element of an array.
+trait Element<'a>: Sized {
+    ghost use Rattle.std.specs.Prelude.{Option};
+    ghost use Rattle.serde_json.specs.Data.{Data};
+    ghost use Rattle.json_tree.specs.View.{view};
+    ghost use Rattle.spv_grammar.specs.inner.File.{Reads};
+
+    /// What the reading depends on beside the element.
+    type Context: Copy;
+
+    ghost reading: { Self.Context → Data → Option Self };
+
+    /// Reads an element.
+    fn read(
+        arena: &'a Bump,
+        context: Self::Context,
+        value: &Node<'_, 'a>,
+    ) -> Result<Self, GrammarError>
+        ensures { Reads result (reading context (view value.now)) };
+}
+
+/// Reads each element of an array.
+#[inline(never)]
+fn read_each<'a, T: Element<'a> + Drop>(
+    arena: &'a Bump,
+    context: T::Context,
+    elements: Items<'_, 'a>,
+) -> Result<Lent<'a, T>, GrammarError>
+    ensures { Reads result (each (T.reading context) (items_view elements.entry)) }
+{
+    let mut found = Vec::with_capacity(arena, elements.len())?;
+    for element in elements {
+        found.push(T::read(arena, context, &element)?)?;
+    }
+    Ok(Lent::from_vec(found))
+}
+
+/// Reads each element of the array that was found; none where the key is missing.
+#[inline(always)]
+fn read_found<'a, T: Element<'a> + Drop>(
+    arena: &'a Bump,
+    context: T::Context,
+    found: &Option<Node<'_, 'a>>,
+) -> Result<Lent<'a, T>, GrammarError>
+    ensures { Reads result (option_and_then (each (T.reading context)) (items_or_none (option_map view found.now))) }
+{
+    match found {
+        None => Ok(Lent::from_vec(Vec::new(arena))),
+        Some(node) => {
+            let Some(elements) = node.items() else {
+                return Err(GrammarError::J2);
+            };
+            read_each(arena, context, elements)
+        }
+    }
+}
+
+impl<'a> Element<'a> for LentName<'a> {
+    type Context = ();
+
+    ghost reading = { λ _. as_str };
+
+    fn read(
+        _arena: &'a Bump,
+        _context: (),
+        value: &Node<'_, 'a>,
+    ) -> Result<LentName<'a>, GrammarError> {
+        match value.as_str() {
+            Some(text) => Ok(LentName::of(text)),
+            None => Err(GrammarError::J2),
+        }
+    }
+}
+
 /// The members of an operand that count.
 #[derive(Drop)]
 struct OperandMembers<'t, 'a> {
@@ -111,89 +185,25 @@ fn read_quantifier(found: &Option<Node<'_, '_>>) -> Option<Option<Quantifier>>
     }
 }
 
-/// An operand or a parameter.
-fn read_operand<'a>(value: &Node<'_, 'a>) -> Result<FileOperand<'a>, GrammarError>
-    ensures { Reads result (operand_of (view value.now)) }
-{
-    let members = operand_members(value);
-    let Some(kind) = text_of(&members.kind) else {
-        return Err(GrammarError::J2);
-    };
-    let Some(quantifier) = read_quantifier(&members.quantifier) else {
-        return Err(GrammarError::J2);
-    };
-    let kind = LentName::of(kind);
-    Ok(FileOperand { kind, quantifier })
-}
+impl<'a> Element<'a> for FileOperand<'a> {
+    type Context = ();
 
-/// Each operand of an array.
-#[inline(never)]
-fn each_operand<'a>(
-    arena: &'a Bump,
-    elements: Items<'_, 'a>,
-) -> Result<Lent<'a, FileOperand<'a>>, GrammarError>
-    ensures { Reads result (each operand_of (items_view elements.entry)) }
-{
-    let mut found = Vec::with_capacity(arena, elements.len())?;
-    for element in elements {
-        found.push(read_operand(&element)?)?;
-    }
-    Ok(Lent::from_vec(found))
-}
+    ghost reading = { λ _. operand_of };
 
-/// The operands that were found; none where the key is missing.
-#[inline(always)]
-fn read_operands<'a>(
-    arena: &'a Bump,
-    found: &Option<Node<'_, 'a>>,
-) -> Result<Lent<'a, FileOperand<'a>>, GrammarError>
-    ensures { Reads result (option_and_then (each operand_of) (items_or_none (option_map view found.now))) }
-{
-    match found {
-        None => Ok(Lent::from_vec(Vec::new(arena))),
-        Some(node) => {
-            let Some(elements) = node.items() else {
-                return Err(GrammarError::J2);
-            };
-            each_operand(arena, elements)
-        }
-    }
-}
-
-/// Each name of an array of texts.
-#[inline(never)]
-fn each_name<'a>(
-    arena: &'a Bump,
-    elements: Items<'_, 'a>,
-) -> Result<Lent<'a, LentName<'a>>, GrammarError>
-    ensures { Reads result (each as_str (items_view elements.entry)) }
-{
-    let mut found = Vec::with_capacity(arena, elements.len())?;
-    for element in elements {
-        let Some(text) = element.as_str() else {
+    fn read(
+        _arena: &'a Bump,
+        _context: (),
+        value: &Node<'_, 'a>,
+    ) -> Result<FileOperand<'a>, GrammarError> {
+        let members = operand_members(value);
+        let Some(kind) = text_of(&members.kind) else {
             return Err(GrammarError::J2);
         };
-        found.push(LentName::of(text))?;
-    }
-    Ok(Lent::from_vec(found))
-}
-
-/// The names of capabilities that were found; none where the key is missing.
-#[inline(always)]
-fn read_capabilities<'a>(
-    arena: &'a Bump,
-    found: &Option<Node<'_, 'a>>,
-) -> Result<Lent<'a, LentName<'a>>, GrammarError>
-    ensures { Reads result (option_and_then (each as_str) (items_or_none (option_map view found.now))) }
-{
-    match found {
-        None => Ok(Lent::from_vec(Vec::new(arena))),
-        Some(node) => {
-            let Some(elements) = node.items() else {
-                return Err(GrammarError::J2);
-            };
-            each_name(arena, elements)
-        }
+        let Some(quantifier) = read_quantifier(&members.quantifier) else {
+            return Err(GrammarError::J2);
+        };
+        let kind = LentName::of(kind);
+        Ok(FileOperand { kind, quantifier })
     }
 }
 
@@ -256,43 +266,33 @@ fn read_opcode(found: &Option<Node<'_, '_>>) -> Option<Option<u16>>
     }
 }
 
-/// An instruction.
-fn read_instruction<'a>(
-    arena: &'a Bump,
-    value: &Node<'_, 'a>,
-) -> Result<FileInstruction<'a>, GrammarError>
-    ensures { Reads result (instruction_of (view value.now)) }
-{
-    let members = members_by(value, "opname", "opcode", "operands");
-    let Some(name) = text_of(&members.name) else {
-        return Err(GrammarError::J2);
-    };
-    let Some(opcode) = read_opcode(&members.number) else {
-        return Err(GrammarError::J2);
-    };
-    let operands = read_operands(arena, &members.operands)?;
-    let capabilities = read_capabilities(arena, &members.capabilities)?;
-    let name = LentName::of(name);
-    Ok(FileInstruction {
-        name,
-        opcode,
-        operands,
-        capabilities,
-    })
-}
+impl<'a> Element<'a> for FileInstruction<'a> {
+    type Context = ();
 
-/// Each instruction of an array.
-fn each_instruction<'a>(
-    arena: &'a Bump,
-    elements: Items<'_, 'a>,
-) -> Result<Lent<'a, FileInstruction<'a>>, GrammarError>
-    ensures { Reads result (each instruction_of (items_view elements.entry)) }
-{
-    let mut found = Vec::with_capacity(arena, elements.len())?;
-    for element in elements {
-        found.push(read_instruction(arena, &element)?)?;
+    ghost reading = { λ _. instruction_of };
+
+    fn read(
+        arena: &'a Bump,
+        _context: (),
+        value: &Node<'_, 'a>,
+    ) -> Result<FileInstruction<'a>, GrammarError> {
+        let members = members_by(value, "opname", "opcode", "operands");
+        let Some(name) = text_of(&members.name) else {
+            return Err(GrammarError::J2);
+        };
+        let Some(opcode) = read_opcode(&members.number) else {
+            return Err(GrammarError::J2);
+        };
+        let operands = read_found(arena, (), &members.operands)?;
+        let capabilities = read_found(arena, (), &members.capabilities)?;
+        let name = LentName::of(name);
+        Ok(FileInstruction {
+            name,
+            opcode,
+            operands,
+            capabilities,
+        })
     }
-    Ok(Lent::from_vec(found))
 }
 
 /// What a hexadecimal digit of either case stands for.
@@ -346,45 +346,33 @@ fn read_value(category: Category, found: &Option<Node<'_, '_>>) -> Option<Option
     }
 }
 
-/// An enumerant of a kind of this category.
-fn read_enumerant<'a>(
-    arena: &'a Bump,
-    category: Category,
-    value: &Node<'_, 'a>,
-) -> Result<FileEnumerant<'a>, GrammarError>
-    ensures { Reads result (enumerant_in category (view value.now)) }
-{
-    let members = members_by(value, "enumerant", "value", "parameters");
-    let Some(name) = text_of(&members.name) else {
-        return Err(GrammarError::J2);
-    };
-    let Some(number) = read_value(category, &members.number) else {
-        return Err(GrammarError::J2);
-    };
-    let parameters = read_operands(arena, &members.operands)?;
-    let capabilities = read_capabilities(arena, &members.capabilities)?;
-    let name = LentName::of(name);
-    Ok(FileEnumerant {
-        name,
-        value: number,
-        parameters,
-        capabilities,
-    })
-}
+impl<'a> Element<'a> for FileEnumerant<'a> {
+    type Context = Category;
 
-/// Each enumerant of an array, of a kind of this category.
-fn each_enumerant<'a>(
-    arena: &'a Bump,
-    category: Category,
-    elements: Items<'_, 'a>,
-) -> Result<Lent<'a, FileEnumerant<'a>>, GrammarError>
-    ensures { Reads result (each (enumerant_in category) (items_view elements.entry)) }
-{
-    let mut found = Vec::with_capacity(arena, elements.len())?;
-    for element in elements {
-        found.push(read_enumerant(arena, category, &element)?)?;
+    ghost reading = { enumerant_in };
+
+    fn read(
+        arena: &'a Bump,
+        category: Category,
+        value: &Node<'_, 'a>,
+    ) -> Result<FileEnumerant<'a>, GrammarError> {
+        let members = members_by(value, "enumerant", "value", "parameters");
+        let Some(name) = text_of(&members.name) else {
+            return Err(GrammarError::J2);
+        };
+        let Some(number) = read_value(category, &members.number) else {
+            return Err(GrammarError::J2);
+        };
+        let parameters = read_found(arena, (), &members.operands)?;
+        let capabilities = read_found(arena, (), &members.capabilities)?;
+        let name = LentName::of(name);
+        Ok(FileEnumerant {
+            name,
+            value: number,
+            parameters,
+            capabilities,
+        })
     }
-    Ok(Lent::from_vec(found))
 }
 
 /// The enumerants of a kind: those of an enum category, and none of another.
@@ -403,7 +391,7 @@ fn read_enumerants<'a>(
     let Some(elements) = items(value, "enumerants") else {
         return Err(GrammarError::J2);
     };
-    each_enumerant(arena, category, elements)
+    read_each(arena, category, elements)
 }
 
 /// The bases of a kind: those of a Composite, and none of another.
@@ -420,7 +408,7 @@ fn read_bases<'a>(
     let Some(elements) = items(value, "bases") else {
         return Err(GrammarError::J2);
     };
-    each_name(arena, elements)
+    read_each(arena, (), elements)
 }
 
 /// The category that a text names.
@@ -437,40 +425,33 @@ pub(crate) fn category(text: &str) -> Option<Category>
     }
 }
 
-/// A kind of operands.
-fn read_kind<'a>(arena: &'a Bump, value: &Node<'_, 'a>) -> Result<FileKind<'a>, GrammarError>
-    ensures { Reads result (kind_in (view value.now)) }
-{
-    let Some(name) = text(value, "kind") else {
-        return Err(GrammarError::J2);
-    };
-    let Some(category_text) = text(value, "category") else {
-        return Err(GrammarError::J2);
-    };
-    let category = category(category_text);
-    let enumerants = read_enumerants(arena, category, value)?;
-    let bases = read_bases(arena, category, value)?;
-    let name = LentName::of(name);
-    Ok(FileKind {
-        name,
-        category,
-        enumerants,
-        bases,
-    })
-}
+impl<'a> Element<'a> for FileKind<'a> {
+    type Context = ();
 
-/// Each kind of an array.
-fn each_kind<'a>(
-    arena: &'a Bump,
-    elements: Items<'_, 'a>,
-) -> Result<Lent<'a, FileKind<'a>>, GrammarError>
-    ensures { Reads result (each kind_in (items_view elements.entry)) }
-{
-    let mut found = Vec::with_capacity(arena, elements.len())?;
-    for element in elements {
-        found.push(read_kind(arena, &element)?)?;
+    ghost reading = { λ _. kind_in };
+
+    fn read(
+        arena: &'a Bump,
+        _context: (),
+        value: &Node<'_, 'a>,
+    ) -> Result<FileKind<'a>, GrammarError> {
+        let Some(name) = text(value, "kind") else {
+            return Err(GrammarError::J2);
+        };
+        let Some(category_text) = text(value, "category") else {
+            return Err(GrammarError::J2);
+        };
+        let category = category(category_text);
+        let enumerants = read_enumerants(arena, category, value)?;
+        let bases = read_bases(arena, category, value)?;
+        let name = LentName::of(name);
+        Ok(FileKind {
+            name,
+            category,
+            enumerants,
+            bases,
+        })
     }
-    Ok(Lent::from_vec(found))
 }
 
 /// What a grammar file holds; J2 where its tree has not the form.
@@ -483,8 +464,8 @@ pub fn read_file<'a>(arena: &'a Bump, value: &Node<'_, 'a>) -> Result<File<'a>, 
     let Some(kinds) = items(value, "operand_kinds") else {
         return Err(GrammarError::J2);
     };
-    let instructions = each_instruction(arena, instructions)?;
-    let kinds = each_kind(arena, kinds)?;
+    let instructions = read_each(arena, (), instructions)?;
+    let kinds = read_each(arena, (), kinds)?;
     Ok(File {
         instructions,
         kinds,

@@ -1,8 +1,0 @@
-use Rattle.std.proofs.Common.{◌≡◌}
-use Rattle.json_tree.specs.View.{items_view}
-use Rattle.spv_grammar.specs.File.{each, instruction_of}
-use Rattle.spv_grammar.proofs.Fronts.{with_front}
-use Rattle.spv_grammar.proofs.read.each_instruction.Given as goal
-
-abbrev pub invariant-loop-element : goal.invariant-loop-element
-invariant-loop-element l = each instruction_of (items_view l.fn.elements) ≡ with_front l.found.items (each instruction_of (items_view l.element-iterator))
