@@ -2,7 +2,6 @@
 
 ghost use Rattle.std.specs.Prelude.{◌≡◌, ◌<◌, ◌^◌, length, slice_get, position, codes, Some, IfOk, IfErr};
 ghost use Rattle.std.specs.Prelude.{map, option_map};
-ghost use Rattle.std.specs.Str.{bytes_eq};
 ghost use Rattle.spv_table.specs.inner.Named.{Finds};
 ghost use Rattle.spv_grammar.specs.Kinds.{first_kinds, number_in, kind_named};
 ghost use Rattle.spv_grammar.specs.declared.error.GrammarError.TheVariants.{J8};
@@ -72,41 +71,6 @@ impl<'a> Model for Numbers<'a> {
         × (n.usual.scope ≡ number_in (map (λ f. f.kind.now) n.kinds.items) (codes "IdScope")) };
 }
 
-/// Whether a name is IdRef.
-fn is_reference(name: &str) -> bool
-    ensures { result ≡ bytes_eq name.now (codes "IdRef") }
-{
-    name == "IdRef"
-}
-
-/// Whether a name is IdResult.
-fn is_result(name: &str) -> bool
-    ensures { result ≡ bytes_eq name.now (codes "IdResult") }
-{
-    name == "IdResult"
-}
-
-/// Whether a name is IdResultType.
-fn is_result_type(name: &str) -> bool
-    ensures { result ≡ bytes_eq name.now (codes "IdResultType") }
-{
-    name == "IdResultType"
-}
-
-/// Whether a name is LiteralInteger.
-fn is_integer(name: &str) -> bool
-    ensures { result ≡ bytes_eq name.now (codes "LiteralInteger") }
-{
-    name == "LiteralInteger"
-}
-
-/// Whether a name is IdScope.
-fn is_scope(name: &str) -> bool
-    ensures { result ≡ bytes_eq name.now (codes "IdScope") }
-{
-    name == "IdScope"
-}
-
 /// The kinds without those whose name an earlier one bears. The error is that memory ran out, or places: there may be
 /// 4,294,967,295 kinds.
 fn firsts<'a>(alloc: Global, kinds: &'a [FileKind<'a>]) -> Result<Vec<First<'a>>, AllocError>
@@ -173,22 +137,14 @@ impl<'a> Numbers<'a> {
     pub(crate) fn number(&self, name: &str) -> Option<u32>
         ensures { result ≡ number_in self.now name.now }
     {
-        if is_reference(name) {
-            return self.usual.reference;
+        match name {
+            "IdRef" => self.usual.reference,
+            "IdResult" => self.usual.result,
+            "IdResultType" => self.usual.result_type,
+            "LiteralInteger" => self.usual.integer,
+            "IdScope" => self.usual.scope,
+            _ => place_of(&self.names, self.kinds.as_slice(), name),
         }
-        if is_result(name) {
-            return self.usual.result;
-        }
-        if is_result_type(name) {
-            return self.usual.result_type;
-        }
-        if is_integer(name) {
-            return self.usual.integer;
-        }
-        if is_scope(name) {
-            return self.usual.scope;
-        }
-        place_of(&self.names, self.kinds.as_slice(), name)
     }
 
     /// The kind that a name means.

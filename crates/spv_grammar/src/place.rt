@@ -2,12 +2,11 @@
 
 ghost use Rattle.std.specs.Prelude.{◌≡◌, ◌^◌, Some, IfOk, IfSome, option_map, string_bytes};
 ghost use Rattle.json_tree.specs.View.{view};
-ghost use Rattle.spv_grammar.specs.Answer.{file_breaks, tree_breaks};
+ghost use Rattle.spv_grammar.specs.Answer.{tree_breaks};
 ghost use Rattle.spv_grammar.specs.Place.{IsPlaced};
 ghost use Rattle.spv_grammar.specs.declared.error.GrammarError.TheVariants.{J1};
 
 use crate::error::GrammarError;
-use crate::file::File;
 use crate::load::broken;
 use crate::numbers::Numbers;
 use crate::read::read_file;
@@ -91,29 +90,6 @@ fn fault_of_form(alloc: Global, root: &Node<'_, '_>) -> Result<GrammarFault, Mem
     placed(alloc, root, GrammarError::J2, search.file(root))
 }
 
-/// The fault of the tree of a file with this content; none where it breaks nothing.
-fn fault_of_file(
-    alloc: Global,
-    root: &Node<'_, '_>,
-    file: &File<'_>,
-) -> Result<Option<GrammarFault>, Memory>
-    ensures code { IfOk result (λ o. option_map (λ f. f.code) o ≡ file_breaks file.now) }
-    ensures place { IfOk result (λ o. IfSome o (λ f. IsPlaced (view root.now) (string_bytes f.path)
-        (string_bytes f.found))) }
-{
-    let Ok(numbers) = Numbers::new(alloc, file.kinds.as_slice()) else {
-        return Err(Memory);
-    };
-    let Some(code) = broken(&numbers, file) else {
-        return Ok(None);
-    };
-    let search = Search {
-        numbers: &numbers,
-        code,
-    };
-    Ok(Some(placed(alloc, root, code, search.file(root))?))
-}
-
 /// What the tree of a grammar file is refused for, by the least of J2 to J7 that it breaks, and where; none where it
 /// breaks nothing.
 ///
@@ -126,11 +102,22 @@ pub fn fault_in(alloc: Global, root: &Node<'_, '_>) -> Result<Option<GrammarFaul
         (string_bytes f.found))) }
 {
     let arena = Bump::new(alloc);
-    match read_file(&arena, root) {
-        Ok(file) => fault_of_file(alloc, root, &file),
-        Err(GrammarError::J8) => Err(Memory),
-        Err(_) => Ok(Some(fault_of_form(alloc, root)?)),
-    }
+    let file = match read_file(&arena, root) {
+        Ok(file) => file,
+        Err(GrammarError::J8) => return Err(Memory),
+        Err(_) => return Ok(Some(fault_of_form(alloc, root)?)),
+    };
+    let Ok(numbers) = Numbers::new(alloc, file.kinds.as_slice()) else {
+        return Err(Memory);
+    };
+    let Some(code) = broken(&numbers, &file) else {
+        return Ok(None);
+    };
+    let search = Search {
+        numbers: &numbers,
+        code,
+    };
+    Ok(Some(placed(alloc, root, code, search.file(root))?))
 }
 
 /// The fault of a text that is no JSON: the reader of `serde_json` tells where it stopped.

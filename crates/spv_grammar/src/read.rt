@@ -163,16 +163,18 @@ fn operand_members<'t, 'a>(value: &Node<'t, 'a>) -> OperandMembers<'t, 'a>
     ensures kind { option_map view result.kind ≡ get (codes "kind") (view value.now) }
     ensures quantifier { option_map view result.quantifier ≡ get (codes "quantifier") (view value.now) }
 {
-    let mut kind = None;
-    let mut quantifier = None;
+    let mut found = OperandMembers {
+        kind: None,
+        quantifier: None,
+    };
     let Some(members) = value.members() else {
-        return OperandMembers { kind, quantifier };
+        return found;
     };
     for (key, member) in members {
-        keep(&mut kind, "kind", key, &member);
-        keep(&mut quantifier, "quantifier", key, &member);
+        keep(&mut found.kind, "kind", key, &member);
+        keep(&mut found.quantifier, "quantifier", key, &member);
     }
-    OperandMembers { kind, quantifier }
+    found
 }
 
 /// How often an operand comes: none where what was found is no text.
@@ -229,30 +231,22 @@ fn members_by<'t, 'a>(
     ensures operands { option_map view result.operands ≡ get operands_key.now (view value.now) }
     ensures capabilities { option_map view result.capabilities ≡ get (codes "capabilities") (view value.now) }
 {
-    let mut name = None;
-    let mut number = None;
-    let mut operands = None;
-    let mut capabilities = None;
+    let mut found = Members {
+        name: None,
+        number: None,
+        operands: None,
+        capabilities: None,
+    };
     let Some(members) = value.members() else {
-        return Members {
-            name,
-            number,
-            operands,
-            capabilities,
-        };
+        return found;
     };
     for (key, member) in members {
-        keep(&mut name, name_key, key, &member);
-        keep(&mut number, number_key, key, &member);
-        keep(&mut operands, operands_key, key, &member);
-        keep(&mut capabilities, "capabilities", key, &member);
+        keep(&mut found.name, name_key, key, &member);
+        keep(&mut found.number, number_key, key, &member);
+        keep(&mut found.operands, operands_key, key, &member);
+        keep(&mut found.capabilities, "capabilities", key, &member);
     }
-    Members {
-        name,
-        number,
-        operands,
-        capabilities,
-    }
+    found
 }
 
 /// An opcode; `Some(None)` where the number is out of range.

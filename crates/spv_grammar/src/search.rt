@@ -12,6 +12,10 @@ const A_TEXT: &str = "a text";
 
 const A_NUMBER: &str = "a number";
 
+const AN_OPCODE: &str = "a whole number from 0 to 65535";
+
+const A_VALUE: &str = "a whole number from 0 to 4294967295";
+
 const AN_ARRAY: &str = "an array";
 
 const A_LIST_OR_NOTHING: &str = "an array, or no such key";
@@ -100,7 +104,7 @@ impl<'n, 'a> Search<'n, 'a> {
         if let Some(wrong) = self.text_at(element, "opname", steps) {
             return Some(wrong);
         }
-        if let Some(wrong) = self.opcode(element, steps.key("opcode")) {
+        if let Some(wrong) = self.whole(element, "opcode", 65535, AN_OPCODE, steps) {
             return Some(wrong);
         }
         if let Some(wrong) = self.operands(element, "operands", steps, false) {
@@ -115,21 +119,24 @@ impl<'n, 'a> Search<'n, 'a> {
         self.tell(GrammarError::J2, is_broken, steps.key(key), A_TEXT)
     }
 
-    /// At the opcode of an instruction.
-    fn opcode(&self, element: &Node<'_, '_>, steps: Steps) -> Option<Wrong> {
-        let Some(number) = element.get("opcode").and_then(|found| found.as_number()) else {
+    /// At the key of a whole number from 0 to a limit.
+    fn whole(
+        &self,
+        element: &Node<'_, '_>,
+        key: &'static str,
+        limit: u64,
+        wanted: &'static str,
+        steps: Steps,
+    ) -> Option<Wrong> {
+        let steps = steps.key(key);
+        let Some(number) = element.get(key).and_then(|found| found.as_number()) else {
             return self.tell(GrammarError::J2, true, steps, A_NUMBER);
         };
         let is_broken = match number.as_u64() {
-            Some(whole) => whole > 65535,
+            Some(whole) => whole > limit,
             None => true,
         };
-        self.tell(
-            GrammarError::J3,
-            is_broken,
-            steps,
-            "a whole number from 0 to 65535",
-        )
+        self.tell(GrammarError::J3, is_broken, steps, wanted)
     }
 
     /// In the operands of an instruction, or the parameters of an enumerant.
@@ -145,15 +152,16 @@ impl<'n, 'a> Search<'n, 'a> {
         let Some(elements) = list.items() else {
             return self.tell(GrammarError::J2, true, steps, A_LIST_OR_NOTHING);
         };
-        if are_parameters {
-            self.parameters(elements, steps)
-        } else {
-            self.each_operand(elements, steps)
-        }
+        self.each_operand(elements, steps, are_parameters)
     }
 
-    /// In each operand of an instruction.
-    fn each_operand(&self, elements: Items<'_, '_>, steps: Steps) -> Option<Wrong> {
+    /// In each operand of an instruction, or each parameter of an enumerant.
+    fn each_operand(
+        &self,
+        elements: Items<'_, '_>,
+        steps: Steps,
+        are_parameters: bool,
+    ) -> Option<Wrong> {
         let mut seen = Seen {
             result_type: false,
             result: false,
@@ -164,7 +172,12 @@ impl<'n, 'a> Search<'n, 'a> {
             if let Some(wrong) = self.operand(&operand, at) {
                 return Some(wrong);
             }
-            if let Some(wrong) = self.result(&operand, &mut seen, at) {
+            let told = if are_parameters {
+                self.parameter(&operand, at)
+            } else {
+                self.result(&operand, &mut seen, at)
+            };
+            if let Some(wrong) = told {
                 return Some(wrong);
             }
             place = place.saturating_add(1);
@@ -172,22 +185,10 @@ impl<'n, 'a> Search<'n, 'a> {
         None
     }
 
-    /// In each parameter of an enumerant.
-    fn parameters(&self, elements: Items<'_, '_>, steps: Steps) -> Option<Wrong> {
-        let mut place: usize = 0;
-        for operand in elements {
-            let at = steps.item(place);
-            if let Some(wrong) = self.operand(&operand, at) {
-                return Some(wrong);
-            }
-            if let Some(name) = text(&operand, "kind") {
-                if let Some(wrong) = self.no_result(name, at.key("kind")) {
-                    return Some(wrong);
-                }
-            }
-            place = place.saturating_add(1);
-        }
-        None
+    /// In a parameter of an enumerant: it is of no result kind.
+    fn parameter(&self, operand: &Node<'_, '_>, steps: Steps) -> Option<Wrong> {
+        let name = text(operand, "kind")?;
+        self.no_result(name, steps.key("kind"))
     }
 
     /// In an operand or a parameter.
@@ -261,10 +262,8 @@ impl<'n, 'a> Search<'n, 'a> {
         };
         let mut place: usize = 0;
         for name in elements {
-            let is_broken = name.as_str().is_none();
-            let told = self.tell(GrammarError::J2, is_broken, steps.item(place), A_TEXT);
-            if let Some(wrong) = told {
-                return Some(wrong);
+            if name.as_str().is_none() {
+                return self.tell(GrammarError::J2, true, steps.item(place), A_TEXT);
             }
             place = place.saturating_add(1);
         }
@@ -280,11 +279,8 @@ impl<'n, 'a> Search<'n, 'a> {
             return self.tell(GrammarError::J2, true, steps.key("category"), A_TEXT);
         };
         match category(text) {
-            Some(Category::BitEnum) => {
-                self.enumerants(element, Category::BitEnum, steps.key("enumerants"))
-            }
-            Some(Category::ValueEnum) => {
-                self.enumerants(element, Category::ValueEnum, steps.key("enumerants"))
+            Some(category @ (Category::BitEnum | Category::ValueEnum)) => {
+                self.enumerants(element, category, steps.key("enumerants"))
             }
             Some(Category::Composite) => self.bases(element, steps.key("bases")),
             Some(_) => None,
@@ -320,10 +316,9 @@ impl<'n, 'a> Search<'n, 'a> {
         if let Some(wrong) = self.text_at(element, "enumerant", steps) {
             return Some(wrong);
         }
-        let at = steps.key("value");
         let told = match category {
-            Category::BitEnum => self.bits(element, at),
-            _ => self.value(element, at),
+            Category::BitEnum => self.bits(element, steps.key("value")),
+            _ => self.whole(element, "value", 4_294_967_295, A_VALUE, steps),
         };
         if let Some(wrong) = told {
             return Some(wrong);
@@ -341,19 +336,6 @@ impl<'n, 'a> Search<'n, 'a> {
         };
         let is_broken = bit_value(text).is_none();
         let wanted = "0x and one to eight hexadecimal digits";
-        self.tell(GrammarError::J3, is_broken, steps, wanted)
-    }
-
-    /// At the value of an enumerant of a ValueEnum.
-    fn value(&self, element: &Node<'_, '_>, steps: Steps) -> Option<Wrong> {
-        let Some(number) = element.get("value").and_then(|found| found.as_number()) else {
-            return self.tell(GrammarError::J2, true, steps, A_NUMBER);
-        };
-        let is_broken = match number.as_u64() {
-            Some(whole) => whole > 4_294_967_295,
-            None => true,
-        };
-        let wanted = "a whole number from 0 to 4294967295";
         self.tell(GrammarError::J3, is_broken, steps, wanted)
     }
 

@@ -1,3 +1,5 @@
+use Rattle.std.proofs.Common.{arith}
+use Rattle.std.proofs.lemmas.Grind.{common_steps}
 use Rattle.std.proofs.Common.{ap, ◌∙◌, sym}
 use Rattle.spv_grammar.specs.Made.{is_kept, enumerant_from}
 use Rattle.spv_grammar.proofs.Fronts.{keep_step, skip_step}
@@ -14,3 +16,9 @@ loop-element-preserved c =
           skip_step (enumerant_from c.args.numbers.now) (is_kept c.args.category) c.args.elements.now c.loop-element.element-index c.element-item.result _ c.loop-element.found.items c.if-is_kept.found.items
           c.loop-element-test.true c.element-item.is c.loop-element.invariant (sym c.is_kept.ensures ∙ w.if-is_kept.false) (ap (λ v. v.items) w.found-is)
     ]
+
+pub returns-in_err-enumerant : goal.returns-in_err-enumerant
+returns-in_err-enumerant c = grind (arith, common_steps)
+
+pub returns : goal.returns
+returns c = grind (arith, common_steps)

@@ -11,8 +11,8 @@ loop-key-preserved c =
     record {
       done = i.done ++ (k, d) ∷ [];
       whole = one_done c.into_iter-key-iterator.result c.loop-key.key-iterator c.next.new.self (k, d) i.done i.whole c.in-Some-2.ensures.steps;
-      name = latest c.args.name_key.now k d i.done (option_map view c.loop-key.name) _ c.keep.ensures i.name;
-      number = latest c.args.number_key.now k d i.done (option_map view c.loop-key.number) _ c.keep-in-loop-key.ensures i.number;
-      operands = latest c.args.operands_key.now k d i.done (option_map view c.loop-key.operands) _ c.keep-in-loop-key-2.ensures i.operands;
-      capabilities = latest (codes "capabilities") k d i.done (option_map view c.loop-key.capabilities) _ c.keep-in-loop-key-3.ensures i.capabilities;
+      name = latest c.args.name_key.now k d i.done (option_map view c.loop-key.found.name) _ c.keep.ensures i.name;
+      number = latest c.args.number_key.now k d i.done (option_map view c.loop-key.found.number) _ c.keep-in-loop-key.ensures i.number;
+      operands = latest c.args.operands_key.now k d i.done (option_map view c.loop-key.found.operands) _ c.keep-in-loop-key-2.ensures i.operands;
+      capabilities = latest (codes "capabilities") k d i.done (option_map view c.loop-key.found.capabilities) _ c.keep-in-loop-key-3.ensures i.capabilities;
     }

@@ -8,8 +8,8 @@ abbrev pub invariant-loop-key : goal.invariant-loop-key
 invariant-loop-key l = record {
   done : List (List ℕ × Data);
   whole : members_left l.initial.key-iterator ≡ done ++ members_left l.key-iterator;
-  name : option_map view l.name ≡ get_member l.name_key (members_of done);
-  number : option_map view l.number ≡ get_member l.number_key (members_of done);
-  operands : option_map view l.operands ≡ get_member l.operands_key (members_of done);
-  capabilities : option_map view l.capabilities ≡ get_member (codes "capabilities") (members_of done);
+  name : option_map view l.found.name ≡ get_member l.name_key (members_of done);
+  number : option_map view l.found.number ≡ get_member l.number_key (members_of done);
+  operands : option_map view l.found.operands ≡ get_member l.operands_key (members_of done);
+  capabilities : option_map view l.found.capabilities ≡ get_member (codes "capabilities") (members_of done);
 }

@@ -11,6 +11,6 @@ loop-key-preserved c =
     record {
       done = i.done ++ (k, d) ∷ [];
       whole = one_done c.into_iter-key-iterator.result c.loop-key.key-iterator c.next.new.self (k, d) i.done i.whole c.in-Some-2.ensures.steps;
-      kind = latest (codes "kind") k d i.done (option_map view c.loop-key.kind) _ c.keep.ensures i.kind;
-      quantifier = latest (codes "quantifier") k d i.done (option_map view c.loop-key.quantifier) _ c.keep-in-loop-key.ensures i.quantifier;
+      kind = latest (codes "kind") k d i.done (option_map view c.loop-key.found.kind) _ c.keep.ensures i.kind;
+      quantifier = latest (codes "quantifier") k d i.done (option_map view c.loop-key.found.quantifier) _ c.keep-in-loop-key.ensures i.quantifier;
     }

@@ -8,6 +8,6 @@ abbrev pub invariant-loop-key : goal.invariant-loop-key
 invariant-loop-key l = record {
   done : List (List ℕ × Data);
   whole : members_left l.initial.key-iterator ≡ done ++ members_left l.key-iterator;
-  kind : option_map view l.kind ≡ get_member (codes "kind") (members_of done);
-  quantifier : option_map view l.quantifier ≡ get_member (codes "quantifier") (members_of done);
+  kind : option_map view l.found.kind ≡ get_member (codes "kind") (members_of done);
+  quantifier : option_map view l.found.quantifier ≡ get_member (codes "quantifier") (members_of done);
 }
