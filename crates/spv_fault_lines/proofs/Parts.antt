@@ -1,13 +1,12 @@
--- The three parts of what evidence tells.
-use Rattle.std.proofs.Common.{◌≡◌, ◌++◌, ◌∙◌, ℕ, List, refl, ap, append_assoc, append-nil}
+-- The parts of what evidence tells.
+use Rattle.std.proofs.Common.{◌≡◌, ℕ, List, refl}
 use Rattle.spv_module.specs.Operand.{PlainInst}
 use Rattle.spv_evidence.specs.declared.evidence.Evidence.{Evidence}
 use Rattle.spv_evidence.specs.declared.evidence.Evidence.TheVariants as evidence
-use Rattle.spv_fault_lines.specs.declared.fact.Fact.{Fact}
 use Rattle.spv_fault_lines.specs.Facts.{evidence_facts}
-use Rattle.spv_fault_lines.specs.inner.Parts.{form_facts, id_facts, list_facts}
+use Rattle.spv_fault_lines.specs.inner.Parts.{list_facts}
 
-parts : (is : List PlainInst) (n : ℕ) (e : Evidence) → id_facts n e ++ (form_facts n e ++ list_facts is n e) ≡ evidence_facts is n e
+pub parts : (is : List PlainInst) (n : ℕ) (e : Evidence) → list_facts is n e ≡ evidence_facts is n e
 parts is n (evidence.Opcode opcode) = refl
 parts is n (evidence.Due opcode k kind) = refl
 parts is n (evidence.Shape opcode known) = refl
@@ -18,7 +17,7 @@ parts is n (evidence.Defined k m) = refl
 parts is n (evidence.Local k m f) = refl
 parts is n (evidence.Miscast k role m) = refl
 parts is n (evidence.Capability c implied) = refl
-parts is n (evidence.Needs l) = append-nil (evidence_facts is n (evidence.Needs l))
+parts is n (evidence.Needs l) = refl
 parts is n evidence.NoEntry = refl
 parts is n (evidence.Entry part) = refl
 parts is n (evidence.Condition c k m wanted found types) = refl
@@ -29,13 +28,3 @@ parts is n (evidence.Twice k l ps) = refl
 parts is n (evidence.Walk k m blocks) = refl
 parts is n (evidence.Cycle calls cycle) = refl
 parts is n (evidence.Miscalled number operands least most) = refl
-
-pub parts_joined : (is : List PlainInst) (n : ℕ) (e : Evidence) (old a b c : List Fact) → a ≡ old ++ id_facts n e → b ≡ a ++ form_facts n e
-    → c ≡ b ++ list_facts is n e → c ≡ old ++ evidence_facts is n e
-parts_joined is n e old a b c f g h =
-    let i = id_facts n e in
-    let j = form_facts n e in
-    let k = list_facts is n e in
-    let s : c ≡ ((old ++ i) ++ j) ++ k = h ∙ ap (λ z. z ++ k) (g ∙ ap (λ z. z ++ j) f) in
-    let t : ((old ++ i) ++ j) ++ k ≡ old ++ (i ++ (j ++ k)) = simp append_assoc in
-    s ∙ (t ∙ ap (λ z. old ++ z) (parts is n e))

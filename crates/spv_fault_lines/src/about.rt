@@ -143,11 +143,13 @@ fn push_operand(
         (option_map plain_operand operand.entry)) }
 {
     match operand {
-        Some(Operand::OfType(id)) => push_id(out, id),
-        Some(Operand::Result(id)) => push_id(out, id),
-        Some(Operand::Id(id)) => push_id(out, id),
-        Some(Operand::Argument(id)) => push_id(out, id),
-        Some(Operand::Mention(id)) => push_id(out, id),
+        Some(
+            Operand::OfType(id)
+            | Operand::Result(id)
+            | Operand::Id(id)
+            | Operand::Argument(id)
+            | Operand::Mention(id),
+        ) => push_id(out, id),
         Some(Operand::Word(number)) => push_spaced(out, number),
         Some(Operand::Value { kind, value }) => {
             out.push_str(" ")?;

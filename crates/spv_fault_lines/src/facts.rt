@@ -181,7 +181,7 @@ fn push_miscall(
     )
 }
 
-/// Adds the facts of evidence on forms, capabilities, entry points and extended instructions.
+/// Adds the facts of evidence on forms, capabilities, entry points and extended instructions, or those of ids.
 fn push_form_facts(facts: &mut Vec<Fact>, inst: u32, evidence: &Evidence) -> Result<(), AllocError>
     ensures { OnOk result (facts.new.items ≡ facts.old.items ++ parts.form_facts inst evidence.now) }
 {
@@ -221,7 +221,7 @@ fn push_form_facts(facts: &mut Vec<Fact>, inst: u32, evidence: &Evidence) -> Res
             least,
             most,
         } => push_miscall(facts, *number, *operands, *least, *most),
-        _ => Ok(()),
+        _ => push_id_facts(facts, inst, evidence),
     }
 }
 
@@ -346,19 +346,18 @@ impl<'m, 'a> About<'m, 'a> {
         }
     }
 
-    /// Adds the facts of evidence on layout, types and flow.
-    fn push_list_facts(
+    /// Adds the facts of evidence on types, or those of forms and ids.
+    fn push_type_facts(
         &self,
         facts: &mut Vec<Fact>,
         inst: u32,
-        evidence: Evidence,
+        evidence: &Evidence,
     ) -> Result<(), AllocError>
         requires few { AreFew (plain_insts self.now.«module».now) }
-        ensures { OnOk result (facts.new.items ≡ facts.old.items ++ parts.list_facts
-            (plain_insts self.now.«module».now) inst evidence) }
+        ensures { OnOk result (facts.new.items ≡ facts.old.items ++ parts.typed_facts
+            (plain_insts self.now.«module».now) inst evidence.now) }
     {
         match evidence {
-            Evidence::MayCome { opcodes, end } => push_one(facts, Fact::MayCome { opcodes, end }),
             Evidence::Condition {
                 condition,
                 operand,
@@ -367,9 +366,9 @@ impl<'m, 'a> About<'m, 'a> {
                 found,
                 types,
             } => {
-                push_failing(facts, inst, condition, operand, defined)?;
+                push_failing(facts, inst, *condition, *operand, *defined)?;
                 self.push_types(facts, types.as_slice())?;
-                self.push_compared(facts, wanted, found)
+                self.push_compared(facts, *wanted, *found)
             }
             Evidence::Mismatch {
                 side,
@@ -377,18 +376,35 @@ impl<'m, 'a> About<'m, 'a> {
                 found,
                 of,
             } => {
-                push_one(facts, Fact::Differs { side })?;
-                self.push_asked(facts, of)?;
+                push_one(facts, Fact::Differs { side: *side })?;
+                self.push_asked(facts, *of)?;
                 push_two(
                     facts,
                     Fact::Wanted {
-                        thing: self.side_thing(side, wanted),
+                        thing: self.side_thing(*side, *wanted),
                     },
                     Fact::Found {
-                        thing: self.side_thing(side, found),
+                        thing: self.side_thing(*side, *found),
                     },
                 )
             }
+            _ => push_form_facts(facts, inst, evidence),
+        }
+    }
+
+    /// Adds what the evidence at an instruction tells.
+    pub fn push_evidence(
+        &self,
+        facts: &mut Vec<Fact>,
+        inst: u32,
+        evidence: Evidence,
+    ) -> Result<(), AllocError>
+        requires few { AreFew (plain_insts self.now.«module».now) }
+        ensures { OnOk result (facts.new.items ≡ facts.old.items ++ lists.evidence_facts
+            (plain_insts self.now.«module».now) inst evidence) }
+    {
+        match evidence {
+            Evidence::MayCome { opcodes, end } => push_one(facts, Fact::MayCome { opcodes, end }),
             Evidence::MissingParent {
                 block,
                 predecessors,
@@ -417,25 +433,8 @@ impl<'m, 'a> About<'m, 'a> {
                 Fact::Calls { functions: calls },
                 Fact::Cycle { functions: cycle },
             ),
-            _ => Ok(()),
+            other => self.push_type_facts(facts, inst, &other),
         }
-    }
-
-    /// Adds what the evidence at an instruction tells.
-    pub fn push_evidence(
-        &self,
-        facts: &mut Vec<Fact>,
-        inst: u32,
-        evidence: Evidence,
-    ) -> Result<(), AllocError>
-        requires few { AreFew (plain_insts self.now.«module».now) }
-        ensures { OnOk result (facts.new.items ≡ facts.old.items ++ lists.evidence_facts
-            (plain_insts self.now.«module».now) inst evidence) }
-    {
-        push_id_facts(facts, inst, &evidence)?;
-        push_form_facts(facts, inst, &evidence)?;
-        self.push_list_facts(facts, inst, evidence)?;
-        Ok(())
     }
 
     /// Adds the instruction at which a rule is told, and where it stands.

@@ -8,7 +8,7 @@ ghost use Rattle.spv_fault_lines.specs.Lines as lines;
 ghost use Rattle.spv_fault_lines.specs.Keys.{line_name};
 ghost use Rattle.spv_fault_lines.specs.Lines.{bit_name, keyed, key_of, line_of, name_part, needed_part, number_part};
 ghost use Rattle.spv_fault_lines.specs.Lines.{operand_at, plain_line, raw_of, rest_of, text_of, thing_text, type_line};
-ghost use Rattle.spv_fault_lines.specs.Shapes.{row_text};
+ghost use Rattle.spv_fault_lines.specs.inner.Parts.{named_text};
 
 use crate::about::{
     About, push_capabilities, push_capability, push_names, push_number, push_opcode, push_opcodes,
@@ -42,16 +42,6 @@ fn push_named_opcode(out: &mut String, table: &Table, opcode: u16) -> Result<(),
     push_opcode(out, table, opcode)
 }
 
-/// Adds whether the module may end, behind names.
-fn push_end(out: &mut String, end: bool) -> Result<(), AllocError>
-    ensures { OnOk result (string_bytes out.new ≡ string_bytes out.old ++ lines.end_part end) }
-{
-    if end {
-        return out.push_str(" end of module");
-    }
-    Ok(())
-}
-
 /// Whether the names of opcodes that may come are told.
 fn tells_names(detail: Detail, opcodes: &[u32]) -> bool
     ensures { result ≡ lines.tells_names detail opcodes.now }
@@ -73,7 +63,10 @@ fn push_coming_names(
         table.now opcodes.now end) }
 {
     push_opcodes(out, table, opcodes)?;
-    push_end(out, end)
+    if end {
+        return out.push_str(" end of module");
+    }
+    Ok(())
 }
 
 /// Adds `..` for words that are left out.
@@ -106,24 +99,17 @@ fn push_hex_words(out: &mut String, words: &[u32]) -> Result<(), AllocError>
     Ok(())
 }
 
-/// Adds the value of a word, if the module has it.
-fn push_value_of(out: &mut String, word: Option<u32>) -> Result<(), AllocError>
-    ensures { OnOk result (string_bytes out.new ≡ string_bytes out.old ++ lines.word_value word) }
-{
-    let Some(word) = word else {
-        return Ok(());
-    };
-    out.push_str(", 0x")?;
-    push_hex(out, word)
-}
-
-/// Adds the word that fails.
+/// Adds the word that fails, and its value if the module has it.
 fn push_failing(out: &mut String, offset: u32, word: Option<u32>) -> Result<(), AllocError>
     ensures { OnOk result (string_bytes out.new ≡ string_bytes out.old ++ (number_part offset
         ++ lines.word_value word)) }
 {
     push_spaced(out, offset)?;
-    push_value_of(out, word)
+    let Some(word) = word else {
+        return Ok(());
+    };
+    out.push_str(", 0x")?;
+    push_hex(out, word)
 }
 
 /// Adds the kind that is due, if one is.
@@ -191,38 +177,6 @@ pub fn listed_names<'t>(table: &'t Table, inst: &Inst<'_>, lister: Lister) -> Op
         Lister::Value { operand } => value_lists(table, operands.get(operand as usize)),
         Lister::Bit { operand, bit } => bit_lists(table, operands.get(operand as usize), bit),
         Lister::Width => None,
-    }
-}
-
-/// Adds the capabilities of which one is needed by an instruction, each after a space.
-fn push_needed(
-    out: &mut String,
-    table: &Table,
-    inst: &Inst<'_>,
-    lister: Lister,
-) -> Result<(), AllocError>
-    ensures { OnOk result (string_bytes out.new ≡ string_bytes out.old ++ needed_part table.now
-        (Some (plain_inst inst.now)) lister) }
-{
-    match listed_names(table, inst, lister) {
-        Some(names) => push_names(out, names),
-        None => push_capabilities(out, table, needs_of(inst.opcode, inst.operands.as_slice())),
-    }
-}
-
-/// The same of an instruction that may be missing.
-fn push_needed_by(
-    out: &mut String,
-    table: &Table,
-    inst: Option<&Inst<'_>>,
-    lister: Lister,
-) -> Result<(), AllocError>
-    ensures { OnOk result (string_bytes out.new ≡ string_bytes out.old ++ needed_part table.now
-        (option_map (λ i. plain_inst i.now) inst.entry) lister) }
-{
-    match inst {
-        Some(inst) => push_needed(out, table, inst, lister),
-        None => Ok(()),
     }
 }
 
@@ -319,12 +273,22 @@ impl<'m, 'a> About<'m, 'a> {
         }
     }
 
-    /// Adds the names of the capabilities of which one is needed by an instruction.
+    /// Adds the names of the capabilities of which one is needed by an instruction, each after a space.
     fn push_needed_of(&self, out: &mut String, inst: u32, lister: Lister) -> Result<(), AllocError>
         ensures { OnOk result (string_bytes out.new ≡ string_bytes out.old ++ needed_part self.now.table.now
             (slice_get (plain_insts self.now.«module».now) inst) lister) }
     {
-        push_needed_by(out, self.table, self.inst(inst), lister)
+        let Some(inst) = self.inst(inst) else {
+            return Ok(());
+        };
+        match listed_names(self.table, inst, lister) {
+            Some(names) => push_names(out, names),
+            None => push_capabilities(
+                out,
+                self.table,
+                needs_of(inst.opcode, inst.operands.as_slice()),
+            ),
+        }
     }
 
     /// Adds a broken part of E2: the instruction by which it is, or words.
@@ -333,8 +297,9 @@ impl<'m, 'a> About<'m, 'a> {
             → OnOk result (string_bytes out.new ≡ string_bytes out.old ++ lines.entry_rest shown part) }
     {
         match part {
-            EntryPart::Called { inst } => self.push_numbered(out, inst),
-            EntryPart::Imported { inst } => self.push_numbered(out, inst),
+            EntryPart::Called { inst } | EntryPart::Imported { inst } => self.push_numbered(
+                out, inst,
+            ),
             _ => push_name(out, entry_part_words(part)),
         }
     }
@@ -364,15 +329,6 @@ impl<'m, 'a> About<'m, 'a> {
         self.push_thing_text(out, thing)
     }
 
-    /// Adds a space and an instruction.
-    fn push_line_of(&self, out: &mut String, inst: u32) -> Result<(), AllocError>
-        ensures { (shown : List (List ℕ)) → ShownLines self.now.table.now [] (plain_insts self.now.«module».now) shown
-            → OnOk result (string_bytes out.new ≡ string_bytes out.old ++ name_part (inst_line shown inst)) }
-    {
-        out.push_str(" ")?;
-        self.push_inst(out, inst)
-    }
-
     /// Adds the functions of a cycle, and before them the last of them, the caller.
     fn push_cycle(&self, out: &mut String, cycle: &[u32]) -> Result<(), AllocError>
         ensures { OnOk result (string_bytes out.new ≡ string_bytes out.old ++ lines.cycle_part
@@ -383,28 +339,29 @@ impl<'m, 'a> About<'m, 'a> {
         self.push_results(out, cycle)
     }
 
-    /// Adds that what is open before an instruction has no end, after a space.
-    fn push_missing(&self, out: &mut String, place: Place) -> Result<(), AllocError>
-        ensures { OnOk result (string_bytes out.new ≡ string_bytes out.old ++ name_part (lines.unended_text
-            (plain_insts self.now.«module».now) place)) }
+    /// Adds what a fact tells behind its key and a space, with control characters as they are. Nothing of others.
+    fn push_named(&self, out: &mut String, fact: &Fact) -> Result<(), AllocError>
+        ensures { (shown : List (List ℕ)) → ShownLines self.now.table.now [] (plain_insts self.now.«module».now) shown
+            → OnOk result (string_bytes out.new ≡ string_bytes out.old ++ named_text self.now.table.now
+            (plain_insts self.now.«module».now) shown fact.now) }
     {
-        out.push_str(" ")?;
-        self.push_unended(out, place)
-    }
-
-    /// Adds a bit of an operand that is a mask, by its name, after a space.
-    fn push_named_bit(
-        &self,
-        out: &mut String,
-        inst: u32,
-        number: u32,
-        bit: u32,
-    ) -> Result<(), AllocError>
-        ensures { OnOk result (string_bytes out.new ≡ string_bytes out.old ++ name_part (bit_name self.now.table.now
-            (operand_at (plain_insts self.now.«module».now) inst number) bit)) }
-    {
-        out.push_str(" ")?;
-        self.push_bit(out, inst, number, bit)
+        match fact {
+            Fact::At { inst } => self.push_inst(out, *inst),
+            Fact::Row { opcode } => push_row_of(out, *opcode),
+            Fact::Unended { place } => self.push_unended(out, *place),
+            Fact::Failing { operand: number }
+            | Fact::Bound { bound: number }
+            | Fact::Number { number }
+            | Fact::Operands { count: number } => push_number(out, *number),
+            Fact::Due { kind } => push_due(out, self.table, *kind),
+            Fact::Role { role } => out.push_str(role_name(*role)),
+            Fact::Capability { capability, .. } => push_capability(out, self.table, *capability),
+            Fact::Bit { inst, operand, bit } => self.push_bit(out, *inst, *operand, *bit),
+            Fact::NoEntry => out.push_str("OpEntryPoint"),
+            Fact::Condition { condition } => out.push_str(condition_words(*condition)),
+            Fact::Wanted { thing } | Fact::Found { thing } => self.push_thing_text(out, *thing),
+            _ => Ok(()),
+        }
     }
 
     /// Adds what a fact tells behind its key, with control characters as they are. Nothing of types.
@@ -414,9 +371,7 @@ impl<'m, 'a> About<'m, 'a> {
             (plain_insts self.now.«module».now) shown fact.now) }
     {
         match fact {
-            Fact::At { inst } => self.push_line_of(out, *inst),
-            Fact::In { place } => self.push_place(out, *place),
-            Fact::Open { place } => self.push_place(out, *place),
+            Fact::In { place } | Fact::Open { place } => self.push_place(out, *place),
             Fact::Words {
                 before,
                 words,
@@ -424,42 +379,28 @@ impl<'m, 'a> About<'m, 'a> {
             } => push_words(out, *before, words.as_slice(), *after),
             Fact::Word { offset, word } => push_failing(out, *offset, *word),
             Fact::Opcode { opcode } => push_named_opcode(out, self.table, *opcode),
-            Fact::Row { opcode } => push_named_row(out, *opcode),
             Fact::MayCome { opcodes, end } => self.push_may_come(out, opcodes.as_slice(), *end),
-            Fact::Unended { place } => self.push_missing(out, *place),
             Fact::Operand { inst, operand } => self.push_operand_text(out, *inst, *operand),
-            Fact::Failing { operand } => push_spaced(out, *operand),
-            Fact::Due { kind } => push_named_due(out, self.table, *kind),
-            Fact::Bound { bound } => push_spaced(out, *bound),
-            Fact::Defined { inst } => self.push_numbered(out, *inst),
-            Fact::LocalTo { function } => self.push_results(out, &[*function]),
-            Fact::Role { role } => push_name(out, role_name(*role)),
-            Fact::Earlier { inst } => self.push_numbered(out, *inst),
-            Fact::Capability { capability, .. } => push_named_capability(
-                out,
-                self.table,
-                *capability,
-            ),
-            Fact::Bit { inst, operand, bit } => self.push_named_bit(out, *inst, *operand, *bit),
+            Fact::Defined { inst } | Fact::Earlier { inst } => self.push_numbered(out, *inst),
+            Fact::LocalTo { function: inst } | Fact::MissingParent { block: inst } => {
+                self.push_result(out, *inst)
+            }
             Fact::NeedsOneOf { inst, lister } => self.push_needed_of(out, *inst, *lister),
-            Fact::NoEntry => push_name(out, "OpEntryPoint"),
             Fact::Part { part } => self.push_part(out, *part),
-            Fact::Condition { condition } => push_name(out, condition_words(*condition)),
             Fact::Types { .. } => Ok(()),
             Fact::Differs { side } => push_side(out, *side),
-            Fact::Wanted { thing } => self.push_thing(out, *thing),
-            Fact::Found { thing } => self.push_thing(out, *thing),
-            Fact::MissingParent { block } => self.push_results(out, &[*block]),
-            Fact::NoPredecessor { inst, operand } => self.push_operand_of(out, *inst, *operand),
-            Fact::Twice { inst, operand } => self.push_operand_of(out, *inst, *operand),
-            Fact::Predecessors { blocks } => self.push_results(out, blocks.as_slice()),
-            Fact::Walk { blocks } => self.push_results(out, blocks.as_slice()),
-            Fact::Calls { functions } => self.push_results(out, functions.as_slice()),
+            Fact::NoPredecessor { inst, operand } | Fact::Twice { inst, operand } => {
+                self.push_operand_of(out, *inst, *operand)
+            }
+            Fact::Predecessors { blocks }
+            | Fact::Walk { blocks }
+            | Fact::Calls { functions: blocks } => self.push_results(out, blocks.as_slice()),
             Fact::Cycle { functions } => self.push_cycle(out, functions.as_slice()),
-            Fact::Number { number } => push_spaced(out, *number),
-            Fact::Operands { count } => push_spaced(out, *count),
-            Fact::Least { count } => push_count(out, *count),
-            Fact::Most { count } => push_count(out, *count),
+            Fact::Least { count } | Fact::Most { count } => push_count(out, *count),
+            _ => {
+                out.push_str(" ")?;
+                self.push_named(out, fact)
+            }
         }
     }
 
@@ -472,8 +413,7 @@ impl<'m, 'a> About<'m, 'a> {
         let mut raw = String::new(self.alloc);
         push_key(&mut raw, fact.key())?;
         self.push_rest(&mut raw, fact)?;
-        push_plain(out, raw.as_str())?;
-        out.push_str("\n")
+        push_raw(out, raw.as_str())
     }
 
     /// Adds the line of a type.
@@ -484,8 +424,7 @@ impl<'m, 'a> About<'m, 'a> {
         let mut raw = String::new(self.alloc);
         push_key(&mut raw, Key::Type)?;
         self.push_thing(&mut raw, thing)?;
-        push_plain(out, raw.as_str())?;
-        out.push_str("\n")
+        push_raw(out, raw.as_str())
     }
 
     /// Adds the lines of types, one each.
@@ -526,37 +465,20 @@ impl<'m, 'a> About<'m, 'a> {
     }
 }
 
+/// Adds the line of a raw text.
+fn push_raw(out: &mut String, raw: &str) -> Result<(), AllocError>
+    ensures { OnOk result (string_bytes out.new ≡ string_bytes out.old ++ plain_line raw.now) }
+{
+    push_plain(out, raw)?;
+    out.push_str("\n")
+}
+
 /// Adds a key and a colon.
 fn push_key(out: &mut String, key: Key) -> Result<(), AllocError>
     ensures { OnOk result (string_bytes out.new ≡ string_bytes out.old ++ (line_name key ++ codes ":")) }
 {
     out.push_str(key.line_name())?;
     out.push_str(":")
-}
-
-/// Adds the operands that the row of an opcode asks for, after a space.
-fn push_named_row(out: &mut String, opcode: u16) -> Result<(), AllocError>
-    ensures { OnOk result (string_bytes out.new ≡ string_bytes out.old ++ name_part (row_text opcode)) }
-{
-    out.push_str(" ")?;
-    push_row_of(out, opcode)
-}
-
-/// Adds the kind that is due, if one is, after a space.
-fn push_named_due(out: &mut String, table: &Table, kind: Option<u32>) -> Result<(), AllocError>
-    ensures { OnOk result (string_bytes out.new ≡ string_bytes out.old ++ name_part (lines.due_text table.now kind)) }
-{
-    out.push_str(" ")?;
-    push_due(out, table, kind)
-}
-
-/// Adds the name of a capability, or its number where the grammar has none, after a space.
-fn push_named_capability(out: &mut String, table: &Table, capability: u32) -> Result<(), AllocError>
-    ensures { OnOk result (string_bytes out.new ≡ string_bytes out.old ++ name_part
-        (lines.capability_name table.now capability)) }
-{
-    out.push_str(" ")?;
-    push_capability(out, table, capability)
 }
 
 /// A broken part of E2, in words.
@@ -592,8 +514,7 @@ fn push_side(out: &mut String, side: Side) -> Result<(), AllocError>
     ensures { OnOk result (string_bytes out.new ≡ string_bytes out.old ++ lines.side_rest side) }
 {
     match side {
-        Side::Parameter { number } => push_spaced(out, number),
-        Side::Argument { number } => push_spaced(out, number),
+        Side::Parameter { number } | Side::Argument { number } => push_spaced(out, number),
         _ => push_name(out, side_words(side)),
     }
 }

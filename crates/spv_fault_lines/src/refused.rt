@@ -2,6 +2,7 @@
 ghost use Rattle.std.specs.Prelude.{◌≡◌, ◌++◌, ◌<◌, ◌∷◌, [], OnOk, IfOk, Some, None, codes, decimal, if◌then◌else◌, option_map};
 ghost use Rattle.std.specs.Prelude.{slice_index, string_bytes};
 ghost use Rattle.spv_fault_lines.specs.Refused as seen;
+ghost use Rattle.spv_fault_lines.specs.inner.Parts as parts;
 ghost use Rattle.spv_fault_lines.specs.declared.key.Key.TheVariants as keys;
 
 use crate::about::push_number;
@@ -132,49 +133,19 @@ fn push_version(out: &mut String, word: u32) -> Result<(), AllocError>
     push_number(out, word / 256 % 256)
 }
 
-/// How many bytes there are, in words.
-fn size_found(alloc: Global, size: usize) -> Result<Option<String>, AllocError>
-    ensures { IfOk result (λ o. option_map (λ t. string_bytes t) o ≡ Some (seen.size_text size)) }
+/// Adds what is found in bytes that break a code, in words, by what stands in front of them. Nothing of W1 and W9.
+fn push_found_text(out: &mut String, code: WordError, front: Front) -> Result<(), AllocError>
+    ensures { OnOk result (string_bytes out.new ≡ string_bytes out.old ++ parts.found_words code front) }
 {
-    let mut text = String::new(alloc);
-    push_size(&mut text, size)?;
-    Ok(Some(text))
-}
-
-/// A word in hexadecimal.
-fn word_found(alloc: Global, word: u32) -> Result<Option<String>, AllocError>
-    ensures { IfOk result (λ o. option_map (λ t. string_bytes t) o ≡ Some (seen.hex_text word)) }
-{
-    let mut text = String::new(alloc);
-    push_hex_text(&mut text, word)?;
-    Ok(Some(text))
-}
-
-/// A number in decimal.
-fn number_found(alloc: Global, number: u32) -> Result<Option<String>, AllocError>
-    ensures { IfOk result (λ o. option_map (λ t. string_bytes t) o ≡ Some (decimal number)) }
-{
-    let mut text = String::new(alloc);
-    push_number(&mut text, number)?;
-    Ok(Some(text))
-}
-
-/// A version, or the word where it tells none.
-fn version_found(alloc: Global, word: u32) -> Result<Option<String>, AllocError>
-    ensures { IfOk result (λ o. option_map (λ t. string_bytes t) o ≡ Some (seen.version_text word)) }
-{
-    let mut text = String::new(alloc);
-    push_version(&mut text, word)?;
-    Ok(Some(text))
-}
-
-/// That there are too many bytes.
-fn excess_found(alloc: Global) -> Result<Option<String>, AllocError>
-    ensures { IfOk result (λ o. option_map (λ t. string_bytes t) o ≡ Some (codes "more than 16777216 bytes")) }
-{
-    let mut text = String::new(alloc);
-    text.push_str("more than 16777216 bytes")?;
-    Ok(Some(text))
+    match code {
+        WordError::W2 | WordError::W3 => push_size(out, front.size),
+        WordError::W4 => push_hex_text(out, front.magic),
+        WordError::W5 => push_version(out, front.version),
+        WordError::W6 => push_number(out, front.schema),
+        WordError::W7 => push_number(out, front.bound),
+        WordError::W8 => out.push_str("more than 16777216 bytes"),
+        WordError::W1 | WordError::W9 => Ok(()),
+    }
 }
 
 /// What is found in bytes that break a code, in words, by what stands in front of them. Nothing of W1 and W9.
@@ -183,17 +154,12 @@ fn excess_found(alloc: Global) -> Result<Option<String>, AllocError>
 pub fn found_in(alloc: Global, code: WordError, front: Front) -> Result<Option<String>, AllocError>
     ensures { IfOk result (λ o. option_map (λ t. string_bytes t) o ≡ seen.found_text code front) }
 {
-    match code {
-        WordError::W2 => size_found(alloc, front.size),
-        WordError::W3 => size_found(alloc, front.size),
-        WordError::W4 => word_found(alloc, front.magic),
-        WordError::W5 => version_found(alloc, front.version),
-        WordError::W6 => number_found(alloc, front.schema),
-        WordError::W7 => number_found(alloc, front.bound),
-        WordError::W8 => excess_found(alloc),
-        WordError::W1 => Ok(None),
-        WordError::W9 => Ok(None),
+    if matches!(code, WordError::W1 | WordError::W9) {
+        return Ok(None);
     }
+    let mut text = String::new(alloc);
+    push_found_text(&mut text, code, front)?;
+    Ok(Some(text))
 }
 
 /// How a module of an earlier version is read. Nothing of others.

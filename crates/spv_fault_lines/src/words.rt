@@ -6,6 +6,7 @@ ghost use Rattle.spv_module.specs.Module.{plain_insts};
 ghost use Rattle.spv_fault_lines.specs.Lines.{text_of};
 ghost use Rattle.spv_fault_lines.specs.Words as words;
 ghost use Rattle.spv_fault_lines.specs.Words.{begin_of, words_fact};
+ghost use Rattle.spv_fault_lines.specs.inner.Parts as parts;
 ghost use Rattle.spv_fault_lines.specs.declared.fact.Fact.TheVariants as kinds;
 
 use crate::about::About;
@@ -156,6 +157,20 @@ fn offset_of(place: u32, first: u32) -> u32
     behind_header(place).saturating_sub(first)
 }
 
+/// What is told of the words of an instruction that breaks a rule at a word: its words, and the one that fails.
+fn word_facts(alloc: Global, image: &Image, inst: u32, place: u32) -> Result<Vec<Fact>, AllocError>
+    ensures { IfOk result (λ v. v.items ≡ parts.word_facts (drop 5 image.now) inst (place - 5)) }
+{
+    let first = first_word(image, inst);
+    let offset = offset_of(place, first);
+    let mut facts = Vec::new(alloc);
+    let told = words_of(alloc, image, first, offset)?;
+    push_one(&mut facts, told)?;
+    let word = word_at(image, behind_header(place));
+    push_one(&mut facts, Fact::Word { offset, word })?;
+    Ok(facts)
+}
+
 /// What is told of an instruction of an image that breaks a rule at a word: its words, the one that fails, and what the
 /// evidence tells. The module of the lines has no instructions.
 ///
@@ -170,13 +185,7 @@ pub fn facts_of_words(
     requires none { plain_insts about.«module».now ≡ [] }
     ensures { IfOk result (λ v. v.items ≡ words.malformed_facts (drop 5 image.now) inst (place - 5) evidence) }
 {
-    let first = first_word(image, inst);
-    let offset = offset_of(place, first);
-    let mut facts = Vec::new(about.alloc);
-    let told = words_of(about.alloc, image, first, offset)?;
-    push_one(&mut facts, told)?;
-    let word = word_at(image, behind_header(place));
-    push_one(&mut facts, Fact::Word { offset, word })?;
+    let mut facts = word_facts(about.alloc, image, inst, place)?;
     about.push_evidence(&mut facts, inst, evidence)?;
     Ok(facts)
 }

@@ -58,38 +58,15 @@ pub fn push_cycle(out: &mut Output, about: &About<'_, '_>, cycle: &[u32]) -> Res
     out.end_array()
 }
 
-/// Adds numbers.
-fn push_numbers(out: &mut Output, numbers: &[u32]) -> Result<(), AllocError>
-    ensures { OnOk result (out.new ≡ out.old ++ flat_map members.number_tokens numbers.now) }
-{
-    for number in numbers {
-        out.number(*number)?;
-    }
-    Ok(())
-}
-
 /// Adds an array of words.
 pub fn push_words(out: &mut Output, words: &[u32]) -> Result<(), AllocError>
     ensures { OnOk result (out.new ≡ out.old ++ array (flat_map members.number_tokens words.now)) }
 {
     out.begin_array()?;
-    push_numbers(out, words)?;
-    out.end_array()
-}
-
-/// Adds types.
-fn push_each_thing(
-    out: &mut Output,
-    about: &About<'_, '_>,
-    things: &[Thing],
-) -> Result<(), AllocError>
-    ensures { (shown : List (List ℕ)) → ShownLines about.now.table.now [] (plain_insts about.now.«module».now) shown
-        → OnOk result (out.new ≡ out.old ++ flat_map (members.thing_tokens shown) things.now) }
-{
-    for thing in things {
-        push_thing(out, about, *thing)?;
+    for word in words {
+        out.number(*word)?;
     }
-    Ok(())
+    out.end_array()
 }
 
 /// Adds an array of types.
@@ -102,7 +79,9 @@ pub fn push_things(
         → OnOk result (out.new ≡ out.old ++ array (flat_map (members.thing_tokens shown) things.now)) }
 {
     out.begin_array()?;
-    push_each_thing(out, about, things)?;
+    for thing in things {
+        push_thing(out, about, *thing)?;
+    }
     out.end_array()
 }
 
@@ -126,22 +105,14 @@ fn push_coming(out: &mut Output, table: &Table, opcode: u32) -> Result<(), Alloc
     Ok(())
 }
 
-/// Adds the names of opcodes that may come.
-fn push_each_coming(out: &mut Output, table: &Table, opcodes: &[u32]) -> Result<(), AllocError>
-    ensures { OnOk result (out.new ≡ out.old ++ flat_map (members.coming_token table.now) opcodes.now) }
-{
-    for opcode in opcodes {
-        push_coming(out, table, *opcode)?;
-    }
-    Ok(())
-}
-
 /// Adds an array of the names of opcodes that may come.
 pub fn push_opcodes(out: &mut Output, table: &Table, opcodes: &[u32]) -> Result<(), AllocError>
     ensures { OnOk result (out.new ≡ out.old ++ array (flat_map (members.coming_token table.now) opcodes.now)) }
 {
     out.begin_array()?;
-    push_each_coming(out, table, opcodes)?;
+    for opcode in opcodes {
+        push_coming(out, table, *opcode)?;
+    }
     out.end_array()
 }
 

@@ -120,8 +120,7 @@ fn push_part(out: &mut Output, about: &About<'_, '_>, part: EntryPart) -> Result
         → OnOk result (out.new ≡ out.old ++ members.part_tokens shown part) }
 {
     match part {
-        EntryPart::Called { inst } => push_inst(out, about, inst),
-        EntryPart::Imported { inst } => push_inst(out, about, inst),
+        EntryPart::Called { inst } | EntryPart::Imported { inst } => push_inst(out, about, inst),
         _ => out.text(entry_part_words(part)),
     }
 }
@@ -131,8 +130,7 @@ fn push_side(out: &mut Output, side: Side) -> Result<(), AllocError>
     ensures { OnOk result (out.new ≡ out.old ++ members.side_tokens side) }
 {
     match side {
-        Side::Parameter { number } => out.number(number),
-        Side::Argument { number } => out.number(number),
+        Side::Parameter { number } | Side::Argument { number } => out.number(number),
         _ => out.text(side_words(side)),
     }
 }
@@ -144,9 +142,10 @@ fn push_value(out: &mut Output, about: &About<'_, '_>, fact: &Fact) -> Result<()
         fact.now) }
 {
     match fact {
-        Fact::At { inst } => push_inst(out, about, *inst),
-        Fact::In { place } => push_place(out, about, *place),
-        Fact::Open { place } => push_place(out, about, *place),
+        Fact::At { inst } | Fact::Defined { inst } | Fact::Earlier { inst } => {
+            push_inst(out, about, *inst)
+        }
+        Fact::In { place } | Fact::Open { place } => push_place(out, about, *place),
         Fact::Words {
             before,
             words,
@@ -157,14 +156,18 @@ fn push_value(out: &mut Output, about: &About<'_, '_>, fact: &Fact) -> Result<()
         Fact::Row { opcode } => push_row(out, about.alloc, *opcode),
         Fact::MayCome { opcodes, end } => push_may_come(out, about.table, opcodes.as_slice(), *end),
         Fact::Unended { place } => push_unended(out, about, *place),
-        Fact::Operand { inst, operand } => push_operand(out, about, *inst, *operand),
+        Fact::Operand { inst, operand }
+        | Fact::NoPredecessor { inst, operand }
+        | Fact::Twice { inst, operand } => push_operand(out, about, *inst, *operand),
         Fact::Failing { operand } => push_failing(out, about.alloc, about.table, *operand),
         Fact::Due { kind } => push_due_kind(out, about.alloc, about.table, *kind),
-        Fact::Bound { bound } => out.number(*bound),
-        Fact::Defined { inst } => push_inst(out, about, *inst),
-        Fact::LocalTo { function } => out.maybe_number(about.result_of(*function)),
+        Fact::Bound { bound: number }
+        | Fact::Number { number }
+        | Fact::Operands { count: number } => out.number(*number),
+        Fact::LocalTo { function: inst } | Fact::MissingParent { block: inst } => {
+            out.maybe_number(about.result_of(*inst))
+        }
         Fact::Role { role } => out.text(role_name(*role)),
-        Fact::Earlier { inst } => push_inst(out, about, *inst),
         Fact::Capability { capability, .. } => push_capability_name(
             out,
             about.alloc,
@@ -178,19 +181,11 @@ fn push_value(out: &mut Output, about: &About<'_, '_>, fact: &Fact) -> Result<()
         Fact::Condition { condition } => out.text(condition_words(*condition)),
         Fact::Types { things } => push_things(out, about, things.as_slice()),
         Fact::Differs { side } => push_side(out, *side),
-        Fact::Wanted { thing } => push_thing(out, about, *thing),
-        Fact::Found { thing } => push_thing(out, about, *thing),
-        Fact::MissingParent { block } => out.maybe_number(about.result_of(*block)),
-        Fact::NoPredecessor { inst, operand } => push_operand(out, about, *inst, *operand),
-        Fact::Twice { inst, operand } => push_operand(out, about, *inst, *operand),
-        Fact::Predecessors { blocks } => push_results(out, about, blocks.as_slice()),
-        Fact::Walk { blocks } => push_results(out, about, blocks.as_slice()),
-        Fact::Calls { functions } => push_results(out, about, functions.as_slice()),
+        Fact::Wanted { thing } | Fact::Found { thing } => push_thing(out, about, *thing),
+        Fact::Predecessors { blocks } | Fact::Walk { blocks } | Fact::Calls { functions: blocks } =>
+            push_results(out, about, blocks.as_slice()),
         Fact::Cycle { functions } => push_cycle(out, about, functions.as_slice()),
-        Fact::Number { number } => out.number(*number),
-        Fact::Operands { count } => out.number(*count),
-        Fact::Least { count } => out.maybe_number(*count),
-        Fact::Most { count } => out.maybe_number(*count),
+        Fact::Least { count } | Fact::Most { count } => out.maybe_number(*count),
     }
 }
 

@@ -1,9 +1,10 @@
 //! Objects: an instruction, an operand, an opcode, a bit and a word.
-ghost use Rattle.std.specs.Prelude.{◌≡◌, ◌++◌, ℕ, List, [], None, OnOk, codes, option_map};
+ghost use Rattle.std.specs.Prelude.{◌≡◌, ◌++◌, ◌∷◌, ℕ, List, [], None, OnOk, codes, option_map};
+ghost use Rattle.json.specs.Token.{begin_object, end_object};
 ghost use Rattle.spv_module.specs.Module.{plain_insts, plain_operand};
 ghost use Rattle.spv_lines.specs.Text.{ShownLines};
 ghost use Rattle.spv_fault_lines.specs.Lines.{bit_name, operand_at, value_text};
-ghost use Rattle.spv_fault_lines.specs.json_members.Tokens.{text_member};
+ghost use Rattle.spv_fault_lines.specs.json_members.Tokens.{number_member, text_member};
 ghost use Rattle.spv_fault_lines.specs.json_members.Members as members;
 
 use crate::json_members::arrays::push_words;
@@ -13,6 +14,23 @@ use spv_module::Operand;
 use spv_table::Table;
 use std::alloc::{AllocError, Global};
 
+/// Adds an object of a number and a text.
+fn push_pair(
+    out: &mut Output,
+    number_name: &str,
+    number: u32,
+    text_name: &str,
+    text: &str,
+) -> Result<(), AllocError>
+    ensures { OnOk result (out.new ≡ out.old ++ (begin_object ∷ number_member number_name.now number
+        ++ text_member text_name.now text.now ++ end_object ∷ [])) }
+{
+    out.begin_object()?;
+    out.number_member(number_name, number)?;
+    out.text_member(text_name, text)?;
+    out.end_object()
+}
+
 /// Adds an instruction: its number, and its line.
 pub fn push_inst(out: &mut Output, about: &About<'_, '_>, inst: u32) -> Result<(), AllocError>
     ensures { (shown : List (List ℕ)) → ShownLines about.now.table.now [] (plain_insts about.now.«module».now) shown
@@ -20,10 +38,7 @@ pub fn push_inst(out: &mut Output, about: &About<'_, '_>, inst: u32) -> Result<(
 {
     let mut line = String::new(about.alloc);
     about.push_inst(&mut line, inst)?;
-    out.begin_object()?;
-    out.number_member("inst", inst)?;
-    out.text_member("text", line.as_str())?;
-    out.end_object()
+    push_pair(out, "inst", inst, "text", line.as_str())
 }
 
 /// Adds an id in an object of its own.
@@ -74,11 +89,13 @@ fn push_operand_members(
         (option_map plain_operand operand.entry)) }
 {
     match operand {
-        Some(Operand::OfType(id)) => out.number_member("id", id),
-        Some(Operand::Result(id)) => out.number_member("id", id),
-        Some(Operand::Id(id)) => out.number_member("id", id),
-        Some(Operand::Argument(id)) => out.number_member("id", id),
-        Some(Operand::Mention(id)) => out.number_member("id", id),
+        Some(
+            Operand::OfType(id)
+            | Operand::Result(id)
+            | Operand::Id(id)
+            | Operand::Argument(id)
+            | Operand::Mention(id),
+        ) => out.number_member("id", id),
         Some(Operand::Word(number)) => out.number_member("number", number),
         Some(Operand::Value { kind, value }) => {
             out.number_member("number", value)?;
@@ -170,10 +187,7 @@ pub fn push_bit(
 {
     let mut text = String::new(about.alloc);
     about.push_bit(&mut text, inst, number, bit)?;
-    out.begin_object()?;
-    out.number_member("value", bit)?;
-    out.text_member("name", text.as_str())?;
-    out.end_object()
+    push_pair(out, "value", bit, "name", text.as_str())
 }
 
 /// Adds a member that is true or false.

@@ -1,3 +1,4 @@
+use Rattle.std.proofs.lemmas.Grind.{common_steps}
 use Rattle.std.proofs.Common.{◌≡◌, ◌<◌, ◌∷◌, [], arith, get_or, length, length-set}
 use Rattle.spv_module.specs.Module.{plain_insts}
 use Rattle.spv_fault_lines.specs.Facts.{type_things}
@@ -24,3 +25,6 @@ loop-id-preserved c =
           type_step is i.told ids k x left c.loop-id.told.items c.push_type.new.told.items
           (type_things is [] ids) (got ids k c.loop-id-test.true) r i.left c.in_ok-push_type.ensures.told i.things;
     }
+
+pub returns : goal.returns
+returns c = grind (arith, common_steps)

@@ -2,7 +2,7 @@ use Rattle.std.proofs.Common.{◌≡◌, ◌++◌, flat_map, drop, ℕ, List, []
 use Rattle.spv_module.specs.Module.{plain_insts}
 use Rattle.spv_lines.specs.Text.{ShownLines}
 use Rattle.spv_fault_lines.specs.json_members.Members.{thing_tokens}
-use Rattle.spv_fault_lines.proofs.json_members.arrays.push_each_thing.Given as goal
+use Rattle.spv_fault_lines.proofs.json_members.arrays.push_things.Given as goal
 
 abbrev pub invariant-loop-thing : goal.invariant-loop-thing
 invariant-loop-thing l =

@@ -1,6 +1,6 @@
 use Rattle.std.proofs.Common.{◌≡◌, ◌++◌, flat_map, drop}
 use Rattle.spv_fault_lines.specs.json_members.Members.{coming_token}
-use Rattle.spv_fault_lines.proofs.json_members.arrays.push_each_coming.Given as goal
+use Rattle.spv_fault_lines.proofs.json_members.arrays.push_opcodes.Given as goal
 
 abbrev pub invariant-loop-opcode : goal.invariant-loop-opcode
 invariant-loop-opcode l =
