@@ -263,25 +263,11 @@ fn push_early(
     Ok(())
 }
 
-/// Whether a rule is told of an instruction that may not come at its place.
-fn tells_order(rule: Rule) -> bool
-    ensures { result ≡ lists.tells_order rule }
-{
-    matches!(rule, Rule::L1)
-}
-
 /// Whether a rule is told at the end of a module.
 fn tells_end(rule: Rule) -> bool
     ensures { result ≡ lists.tells_end rule }
 {
     matches!(rule, Rule::L2)
-}
-
-/// Whether a rule is told of an id that is 0 or not below the bound.
-fn tells_bound(rule: Rule) -> bool
-    ensures { result ≡ lists.tells_bound rule }
-{
-    matches!(rule, Rule::D1)
 }
 
 impl<'m, 'a> About<'m, 'a> {
@@ -455,17 +441,15 @@ impl<'m, 'a> About<'m, 'a> {
         ensures { OnOk result (facts.new.items ≡ facts.old.items ++ lists.last_facts
             self.now.«module».now.header.bound (plain_insts self.now.«module».now) rule inst) }
     {
-        if tells_end(rule) {
-            return push_open(facts, self.place_of(inst));
+        match rule {
+            Rule::L2 => push_open(facts, self.place_of(inst)),
+            Rule::D1 => {
+                let bound = self.module.header.bound;
+                push_one(facts, Fact::Bound { bound })
+            }
+            Rule::L1 => push_early(facts, self.inst(inst), self.open_before(inst)),
+            _ => Ok(()),
         }
-        if tells_bound(rule) {
-            let bound = self.module.header.bound;
-            return push_one(facts, Fact::Bound { bound });
-        }
-        if tells_order(rule) {
-            return push_early(facts, self.inst(inst), self.open_before(inst));
-        }
-        Ok(())
     }
 
     /// What the lines tell of a rule that is broken at an instruction, with its evidence: first the instruction and

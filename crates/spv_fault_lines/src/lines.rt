@@ -79,24 +79,16 @@ fn push_dots(out: &mut String, left_out: bool) -> Result<(), AllocError>
     Ok(())
 }
 
-/// Adds words of an instruction, in hexadecimal.
+/// Adds words of an instruction in hexadecimal, each after a space.
 fn push_words(out: &mut String, before: bool, words: &[u32], after: bool) -> Result<(), AllocError>
     ensures { OnOk result (string_bytes out.new ≡ string_bytes out.old ++ lines.words_rest before words.now after) }
 {
     push_dots(out, before)?;
-    push_hex_words(out, words)?;
-    push_dots(out, after)
-}
-
-/// Adds words in hexadecimal, each after a space.
-fn push_hex_words(out: &mut String, words: &[u32]) -> Result<(), AllocError>
-    ensures { OnOk result (string_bytes out.new ≡ string_bytes out.old ++ flat_map lines.word_part words.now) }
-{
     for word in words {
         out.push_str(" ")?;
         push_hex(out, *word)?;
     }
-    Ok(())
+    push_dots(out, after)
 }
 
 /// Adds the word that fails, and its value if the module has it.
@@ -214,36 +206,20 @@ impl<'m, 'a> About<'m, 'a> {
         push_coming_classes(out, self.alloc, opcodes, end)
     }
 
-    /// Adds that a block has no end.
-    fn push_unended_block(&self, out: &mut String, block: u32) -> Result<(), AllocError>
-        ensures { OnOk result (string_bytes out.new ≡ string_bytes out.old ++ (codes "the end of block"
-            ++ lines.result_part (plain_insts self.now.«module».now) block)) }
-    {
-        out.push_str("the end of block")?;
-        self.push_result(out, block)
-    }
-
-    /// Adds that a function has no end.
-    fn push_unended_function(
-        &self,
-        out: &mut String,
-        function: Option<u32>,
-    ) -> Result<(), AllocError>
-        ensures { OnOk result (string_bytes out.new ≡ string_bytes out.old ++ (codes "the end of function"
-            ++ lines.function_part (plain_insts self.now.«module».now) function)) }
-    {
-        out.push_str("the end of function")?;
-        self.push_function(out, function)
-    }
-
     /// Adds that what is open before an instruction has no end.
     pub fn push_unended(&self, out: &mut String, place: Place) -> Result<(), AllocError>
         ensures { OnOk result (string_bytes out.new ≡ string_bytes out.old ++ lines.unended_text
             (plain_insts self.now.«module».now) place) }
     {
         match place.block {
-            Some(block) => self.push_unended_block(out, block),
-            None => self.push_unended_function(out, place.function),
+            Some(block) => {
+                out.push_str("the end of block")?;
+                self.push_result(out, block)
+            }
+            None => {
+                out.push_str("the end of function")?;
+                self.push_function(out, place.function)
+            }
         }
     }
 

@@ -43,18 +43,6 @@ fn keep(found: &mut Vec<Option<u32>>, id: Option<u32>, inst: u32)
     }
 }
 
-/// Takes what is left at a place.
-fn taken(left: &mut Vec<Option<u32>>, id: u32) -> Option<u32>
-    requires { id < length left.old.items }
-    ensures found { result ≡ get_or left.old.items id None }
-    ensures left { left.new.items ≡ set left.old.items id None }
-{
-    let place = id as usize;
-    let found = left[place];
-    left[place] = None;
-    found
-}
-
 /// Whether an instruction has a result.
 fn has_result(inst: &Inst<'_>, id: u32) -> bool
     ensures { result ≡ is_number id (result_in (plain_inst inst.now).operands) }
@@ -82,7 +70,9 @@ fn push_type(told: &mut Vec<Thing>, left: &mut Vec<Option<u32>>, id: u32) -> Res
         ++ (things.thing_at (get_or left.old.items id None) id ∷ [])) }
     ensures left { left.new.items ≡ set left.old.items id None }
 {
-    let found = taken(left, id);
+    let place = id as usize;
+    let found = left[place];
+    left[place] = None;
     told.push(thing_at(found, id))?;
     Ok(())
 }

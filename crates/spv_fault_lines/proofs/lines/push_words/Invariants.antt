@@ -1,6 +1,6 @@
 use Rattle.std.proofs.Common.{◌≡◌, ◌++◌, string_bytes, flat_map, drop}
 use Rattle.spv_fault_lines.specs.Lines.{word_part}
-use Rattle.spv_fault_lines.proofs.lines.push_hex_words.Given as goal
+use Rattle.spv_fault_lines.proofs.lines.push_words.Given as goal
 
 abbrev pub invariant-loop-word : goal.invariant-loop-word
 invariant-loop-word l =
