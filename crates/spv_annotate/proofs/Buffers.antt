@@ -1,12 +1,14 @@
 -- Texts that stand at the end of a buffer.
-use Rattle.std.proofs.Common.{◌≡◌, ◌++◌, ◌∙◌, ◌<◌, ◌≤◌, ◌+◌, ◌^◌, ℕ, List, [], ◌∷◌, length, drop, refl, true, ap, arith, append_assoc, append-nil, sym, length-append, length-drop}
-use Rattle.std.specs.Prelude.{decimal, nat_lt}
+use Rattle.std.proofs.Common.{◌≡◌, ◌++◌, ◌∙◌, ◌<◌, ◌≤◌, ◌+◌, ◌^◌, ℕ, List, [], ◌∷◌, length, drop, drop-drop, refl, true, ap, arith, append_assoc, append-nil, sym, length-append, length-drop}
+use Rattle.std.specs.Prelude.{codes, decimal, nat_lt}
 use Rattle.std.specs.List.{list_all}
 use Rattle.std.specs.Str.{IsUtf8}
 use Rattle.std.proofs.lemmas.Fmt.{IsAscii-decimal}
-use Rattle.std.proofs.lemmas.Str.{IsUtf8-from_ascii}
+use Rattle.std.proofs.lemmas.List.{drop-append-le}
+use Rattle.std.proofs.lemmas.Str.{IsUtf8-append, IsUtf8-from_ascii}
 use Rattle.spv_printer.proofs.Digits.{short_word}
 use Rattle.std.proofs.Common.{zero, suc}
+use Rattle.spv_annotate.specs.Notes.{column, place_text}
 use Rattle.spv_annotate.proofs.Small.{ascii_by, both}
 
 -- a number leaves room
@@ -47,3 +49,15 @@ dropped_utf8 k t h = text_utf8 (drop k t) (rest k t h)
 
 pub four_behind : (a b c d : List ℕ) → a ++ (b ++ (c ++ d)) ≡ ((a ++ b) ++ c) ++ d
 four_behind a b c d = sym (append_assoc (a ++ b) c d ∙ append_assoc a b (c ++ d))
+
+-- spaces up to the column of comments but for some, and the numbers of an instruction and of its first word
+
+pub place_left : (buffer : List ℕ) (left omitted at word : ℕ) → drop left buffer ≡ column ++ place_text at word → omitted < 48 → drop (left + omitted) buffer ≡ drop omitted column ++ place_text at word
+place_left buffer left omitted at word e few =
+    let n : length column ≡ 48 = refl in
+    sym (drop-drop omitted left buffer) ∙ (ap (drop omitted) e ∙ drop-append-le omitted column (place_text at word) (omega (arith, n, few)))
+
+pub place_utf8 : (omitted at word : ℕ) → at < 2 ^ 64 → word < 2 ^ 64 → IsUtf8 (drop omitted column ++ place_text at word)
+place_utf8 omitted at word h k =
+    let a = IsUtf8-append (codes "; inst " ++ decimal at) (codes " word ") (IsUtf8-append (codes "; inst ") (decimal at) (text_utf8 (codes "; inst ") refl) (number_utf8 at h)) (text_utf8 (codes " word ") refl) in
+    IsUtf8-append (drop omitted column) (place_text at word) (dropped_utf8 omitted column refl) (IsUtf8-append _ (decimal word) a (number_utf8 word k))

@@ -1,6 +1,6 @@
 -- Texts that are put together in a buffer, from the front.
 use Rattle.std.proofs.Common.{◌≡◌, ◌++◌, ◌∙◌, ◌<◌, ◌≤◌, ◌+◌, ℕ, List, [], ◌∷◌, Bool, true, false, ◌&&◌, length, take, set, get_or, refl, sym, ap, subst, arith, append_assoc, append-nil}
-use Rattle.std.specs.Prelude.{IsUtf8, nat_lt, ◌==◌}
+use Rattle.std.specs.Prelude.{IfOk, IsUtf8, Result as Answer, Ok, Err, nat_lt, ◌==◌}
 use Rattle.std.specs.List.{AllByRecursion}
 use Rattle.std.proofs.Math.Seq.{take-length}
 use Rattle.std.proofs.lemmas.Bool.Decides.{nat_tests}
@@ -9,6 +9,7 @@ use Rattle.std.proofs.lemmas.Str.{IsUtf8-append, IsUtf8-nil}
 use Rattle.spv_printer.proofs.Drafts.{front_copied}
 use Rattle.spv_printer.proofs.Shorts.{all_snoc, copied_next}
 use Rattle.spv_module.specs.declared.opcode.TheConstants.{FUNCTION, LABEL}
+use Rattle.spv_annotate.specs.declared.draft.TheConstants.{FULL}
 use Rattle.spv_annotate.specs.Page.{headed}
 use Rattle.spv_annotate.specs.inner.Draft.{IsAdded, IsCopied, IsDrafted, heading_begin, heading_end, is_plain}
 use Rattle.spv_annotate.specs.inner.Linked.{is_bare_byte}
@@ -80,19 +81,19 @@ copied_more old buffer octets at count h l p c =
 
 -- texts that are put together partly in a page, and partly in a buffer
 
-pub drafted_by : (text out : List ℕ) (at : ℕ) (old : List ℕ) (mid : ℕ) (more : List ℕ) (end : ℕ) (new : List ℕ) → IsAdded text at mid old new → end ≤ 1024 → IsUtf8 (take end new)
-    → more ++ take end new ≡ out ++ take mid new → IsDrafted text out at old more end new
-drafted_by text out at old mid more end new a h u e = record {
-  high = h;
-  utf8 = u;
-  all = e ∙ (ap (λ z. out ++ z) a.all ∙ sym (append_assoc out (take at old) text));
-}
+pub settled : {E : Type 0} (r : Answer ℕ E) (text out : List ℕ) (at : ℕ) (old more new all : List ℕ) → IfOk r (λ end. end ≤ FULL) → IfOk r (λ end. IsUtf8 (take end new))
+    → IfOk r (λ end. more ++ take end new ≡ all) → all ≡ (out ++ take at old) ++ text → IfOk r (λ end. IsDrafted text out at old more end new)
+settled (Ok end) text out at old more new all h u e f = record { high = h; utf8 = u; all = e ∙ f }
+settled (Err x) text out at old more new all h u e f = tt
+
+pub added_apart : (text out : List ℕ) (at mid : ℕ) (old new : List ℕ) → IsAdded text at mid old new → out ++ take mid new ≡ (out ++ take at old) ++ text
+added_apart text out at mid old new a = ap (λ z. out ++ z) a.all ∙ sym (append_assoc out (take at old) text)
 
 -- what is added to the page at once
 pub drafted_at_once : (text out : List ℕ) (at : ℕ) (old more new : List ℕ) → more ≡ (out ++ take at old) ++ text → IsDrafted text out at old more 0 new
 drafted_at_once text out at old more new e = record { high = omega arith; utf8 = IsUtf8-nil; all = append-nil more ∙ e }
 
-pub drafted_nothing : (out : List ℕ) (at : ℕ) (old : List ℕ) → at ≤ 1024 → IsUtf8 (take at old) → IsDrafted [] out at old out at old
+pub drafted_nothing : (out : List ℕ) (at : ℕ) (old : List ℕ) → at ≤ FULL → IsUtf8 (take at old) → IsDrafted [] out at old out at old
 drafted_nothing out at old h u = record { high = h; utf8 = u; all = sym (append-nil (out ++ take at old)) }
 
 pub line_drafted : (opening heading html ending uses out one t0 t1 t2 t3 t4 t5 : List ℕ) → t1 ≡ t0 ++ opening → t2 ≡ t1 ++ heading → one ++ t3 ≡ out ++ (t2 ++ html) → t4 ≡ t3 ++ ending

@@ -4,6 +4,7 @@ ghost use Rattle.std.specs.Prelude.{◌≡◌, ◌++◌, ◌<◌, ◌≤◌, ◌
 ghost use Rattle.spv_module.specs.Module.{plain_inst, plain_insts};
 ghost use Rattle.spv_module.specs.Operand.{PlainInst};
 ghost use Rattle.spv_layout.specs.Place.{first_word_of};
+ghost use Rattle.spv_annotate.specs.declared.comment.TheConstants.{PLACE};
 ghost use Rattle.spv_annotate.specs.Module.{inst_at};
 ghost use Rattle.spv_annotate.specs.Notes.{block_note, column, comment, gap, notes, place_text};
 ghost use Rattle.spv_annotate.specs.inner.Known.{IsKnown};
@@ -106,19 +107,30 @@ pub fn is_bare(known: &Known, at: u32, inst: &Inst<'_>) -> bool
     known.values.of(at).is_empty()
 }
 
-/// Puts spaces up to the column of comments but for so many, and the numbers of an instruction and of its first word,
-/// at the end of a buffer.
+/// Puts spaces up to the column of comments, and the numbers of an instruction and of its first word, at the end of a
+/// buffer, and gives where they begin.
 #[inline(always)]
-pub fn place_in(buffer: &mut [u8], omitted: usize, at: u32, word: u32) -> &str
-    requires size { length buffer.old ≡ 96 }
-    requires few { omitted < 48 }
-    ensures { result.now ≡ drop omitted column ++ place_text at word }
+fn put_place(buffer: &mut [u8], at: u32, word: u32) -> usize
+    requires { length buffer.old ≡ PLACE }
+    ensures within { result + 48 ≤ PLACE }
+    ensures text { drop result buffer.new ≡ column ++ place_text at word }
 {
     let last = put_number(buffer, word, PLACE);
     let between = put_octets(buffer, b" word ", last);
     let first = put_number(buffer, at, between);
     let begin = put_octets(buffer, b"; inst ", first);
-    let left = put_octets(buffer, COLUMN.as_bytes(), begin);
+    put_octets(buffer, COLUMN.as_bytes(), begin)
+}
+
+/// Puts spaces up to the column of comments but for so many, and the numbers of an instruction and of its first word,
+/// at the end of a buffer.
+#[inline(always)]
+pub fn place_in(buffer: &mut [u8], omitted: usize, at: u32, word: u32) -> &str
+    requires size { length buffer.old ≡ PLACE }
+    requires few { omitted < 48 }
+    ensures { result.now ≡ drop omitted column ++ place_text at word }
+{
+    let left = put_place(buffer, at, word);
     unsafe { from_utf8_unchecked(&buffer[left + omitted..]) }
 }
 

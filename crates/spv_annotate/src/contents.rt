@@ -79,8 +79,7 @@ impl<'p, 'a> Look<'p, 'a> {
     {
         out.push_str("</details>\n<details>\n<summary>")?;
         self.push_entry(out, inst)?;
-        out.push_str("</summary>\n")?;
-        Ok(())
+        out.push_str("</summary>\n")
     }
 
     /// Adds what stands in the list of contents for a piece.

@@ -2,6 +2,7 @@
 
 ghost use Rattle.std.specs.Prelude.{◌≡◌, ◌≤◌, ◌+◌, ◌++◌, IfOk, IsUtf8, OnOk, decimal, length};
 ghost use Rattle.std.specs.Prelude.{string_bytes, take, true};
+ghost use Rattle.spv_annotate.specs.declared.draft.TheConstants.{FULL, SIZE};
 ghost use Rattle.spv_annotate.specs.inner.Draft.{IsAdded, IsCopied, IsDrafted};
 ghost use Rattle.spv_annotate.specs.inner.Draft as specs;
 
@@ -14,7 +15,7 @@ use std::str::from_utf8_unchecked;
 pub const SIZE: usize = 4096;
 
 /// How far the buffer is filled before what it has is added to a page.
-const FULL: usize = 1024;
+pub const FULL: usize = 1024;
 
 /// The size of a buffer for a number, which ends in its middle.
 const TOKEN: usize = 32;
@@ -98,7 +99,7 @@ pub fn push_draft(out: &mut String, buffer: &[u8], end: usize) -> Result<(), All
 pub fn settle(out: &mut String, buffer: &[u8], end: usize) -> Result<usize, AllocError>
     requires within { end ≤ length buffer.now }
     requires utf8 { IsUtf8 (take end buffer.now) }
-    ensures high { IfOk result (λ at. at ≤ 1024) }
+    ensures high { IfOk result (λ at. at ≤ FULL) }
     ensures utf8 { IfOk result (λ at. IsUtf8 (take at buffer.now)) }
     ensures text { IfOk result (λ at. string_bytes out.new ++ take at buffer.now
         ≡ string_bytes out.old ++ take end buffer.now) }
@@ -120,14 +121,13 @@ pub fn push_fixed(
     at: usize,
     text: &str,
 ) -> Result<usize, AllocError>
-    requires size { 4096 ≤ length buffer.old }
-    requires at { at ≤ 1024 }
+    requires size { SIZE ≤ length buffer.old }
+    requires at { at ≤ FULL }
     requires text { length text.now ≤ 64 }
     requires utf8 { IsUtf8 (take at buffer.old) }
     ensures { IfOk result (λ end. IsDrafted text.now (string_bytes out.old) at buffer.old
         (string_bytes out.new) end buffer.new) }
 {
     let added = add_text(buffer, text, at);
-    let end = settle(out, buffer, added)?;
-    Ok(end)
+    settle(out, buffer, added)
 }

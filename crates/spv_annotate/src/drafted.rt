@@ -2,16 +2,15 @@
 
 ghost use Rattle.std.specs.Prelude.{◌≡◌, ◌≤◌, ◌<◌, ◌+◌, ◌++◌, IfOk, IfSome, IsUtf8, None, Some, length};
 ghost use Rattle.std.specs.Prelude.{string_bytes, take};
-ghost use Rattle.std.specs.List.{prefix_len};
-ghost use Rattle.spv_lines.specs.Digits as digits;
-ghost use Rattle.spv_annotate.specs.Page.{id_of, link_to, linked};
-ghost use Rattle.spv_annotate.specs.inner.Draft.{IsAdded, IsFront};
+ghost use Rattle.spv_annotate.specs.Page.{link_to, linked};
+ghost use Rattle.spv_annotate.specs.inner.Draft.{IsAdded, IsFront, most_begun, most_ended};
+ghost use Rattle.spv_annotate.specs.declared.draft.TheConstants.{SIZE};
 ghost use Rattle.spv_annotate.specs.inner.Linked.{base};
 ghost use Rattle.spv_annotate.specs.inner.Numbers.{kept};
 ghost use Rattle.spv_annotate.specs.declared.linked.Quoting.TheVariants.{Commented};
 
 use crate::draft::{add_number, add_plain, add_text, push_draft};
-use crate::linked::{Quoting, ROOM, is_bare, push_linked};
+use crate::linked::{Quoting, is_bare, lean_id, push_linked};
 use crate::numbers::Numbers;
 use std::alloc::AllocError;
 
@@ -27,65 +26,16 @@ const PADDED: usize = 144;
 /// How many octets an id may have there.
 const LONGEST_WORD: usize = 16;
 
-/// The octet of the digit 0.
-const ZERO: u32 = 48;
-
 /// Behind this place no part of a line is added.
 const LAST: usize = 2048;
 
-/// The id that stands at the front of a text.
-#[derive(Clone, Copy)]
-struct Lean {
-    id: u32,
-    /// How many digits it has.
-    count: usize,
-}
-
 /// What was added of a line.
 #[derive(Clone, Copy)]
-pub struct Front {
+pub struct Drafted {
     /// How many of the line's octets were read.
     pub read: usize,
     /// Where in the buffer ends what was added for them.
     pub at: usize,
-}
-
-/// Whether an octet is a digit.
-#[inline(always)]
-fn is_digit(octet: u8) -> bool
-    ensures { result ≡ digits.is_digit octet }
-{
-    octet >= b'0' && octet <= b'9'
-}
-
-/// The id that the digits at the front are. None where there are none, where a zero stands in front, and for most
-/// numbers of ten digits.
-#[inline(always)]
-fn lean_id(text: &[u8]) -> Option<Lean>
-    ensures count { IfSome result (λ l. l.count ≡ prefix_len digits.is_digit text.now) }
-    ensures id { IfSome result (λ l. Some l.id ≡ id_of (take l.count text.now)) }
-    ensures within { IfSome result (λ l. l.count ≤ length text.now) }
-{
-    let [first, ..] = text else {
-        return None;
-    };
-    if *first < b'1' || *first > b'9' {
-        return None;
-    }
-    let mut id: u32 = 0;
-    for (count, digit) in text.iter().enumerate() {
-        if !is_digit(*digit) {
-            return Some(Lean { id, count });
-        }
-        if id >= ROOM {
-            return None;
-        }
-        id = id * 10 + (u32::from(*digit) - ZERO);
-    }
-    Some(Lean {
-        id,
-        count: text.len(),
-    })
 }
 
 /// Adds an id, which stands at the front of a text and has so many octets, behind a place, and gives where it ends.
@@ -130,7 +80,7 @@ fn add_id(
     line: &[u8],
     padded: &[u8],
     at: usize,
-) -> Option<Front>
+) -> Option<Drafted>
     requires room { at + 64 ≤ length buffer.old }
     requires padded { length line.now + 16 ≤ length padded.now }
     requires line { take (length line.now) padded.now ≡ line.now }
@@ -152,7 +102,7 @@ fn add_id(
         return None;
     }
     let end = add_link(buffer, inst, padded, read, at);
-    Some(Front { read, at: end })
+    Some(Drafted { read, at: end })
 }
 
 /// Adds the id at the front of a line with its link, as `add_id`, and the octets behind it that are plain.
@@ -163,7 +113,7 @@ fn add_part(
     line: &[u8],
     padded: &[u8],
     at: usize,
-) -> Option<Front>
+) -> Option<Drafted>
     requires room { at + 64 + length line.now ≤ length buffer.old }
     requires padded { length line.now + 16 ≤ length padded.now }
     requires line { take (length line.now) padded.now ≡ line.now }
@@ -174,7 +124,7 @@ fn add_part(
 {
     let id = add_id(buffer, definitions, line, padded, at)?;
     let plain = add_plain(buffer, &line[id.read..], id.at);
-    Some(Front {
+    Some(Drafted {
         read: id.read + plain,
         at: id.at + plain,
     })
@@ -192,19 +142,19 @@ fn put_line(padded: &mut [u8], line: &[u8])
 /// Adds the front of a line, in which ids have links, behind a place: up to an octet that is not plain and begins no id
 /// as `add_id` adds it, or to where there is no room for more.
 #[inline(always)]
-fn add_front(buffer: &mut [u8], definitions: &Numbers, line: &[u8], at: usize) -> Front
-    requires size { 4096 ≤ length buffer.old }
-    requires begin { at ≤ 1200 }
+fn add_front(buffer: &mut [u8], definitions: &Numbers, line: &[u8], at: usize) -> Drafted
+    requires size { SIZE ≤ length buffer.old }
+    requires begin { at ≤ most_begun }
     ensures front { IsFront (kept definitions.now) line.now result.read at result.at buffer.old buffer.new }
-    ensures high { result.at ≤ 2300 }
+    ensures high { result.at ≤ most_ended }
 {
     if line.len() > LONGEST_LINE {
-        return Front { read: 0, at };
+        return Drafted { read: 0, at };
     }
     let mut padded = [0u8; PADDED];
     put_line(&mut padded, line);
     let plain = add_plain(buffer, line, at);
-    let mut front = Front {
+    let mut front = Drafted {
         read: plain,
         at: at + plain,
     };
@@ -214,7 +164,7 @@ fn add_front(buffer: &mut [u8], definitions: &Numbers, line: &[u8], at: usize) -
         let Some(part) = add_part(buffer, definitions, rest, behind, front.at) else {
             return front;
         };
-        front = Front {
+        front = Drafted {
             read: front.read + part.read,
             at: part.at,
         };
@@ -235,11 +185,11 @@ pub fn push_drafted(
     line: &str,
     at: usize,
 ) -> Result<usize, AllocError>
-    requires size { 4096 ≤ length buffer.old }
-    requires begin { at ≤ 1200 }
+    requires size { SIZE ≤ length buffer.old }
+    requires begin { at ≤ most_begun }
     requires utf8 { IsUtf8 (take at buffer.old) }
     requires base { base quoting ≡ quoting }
-    ensures high { IfOk result (λ end. end ≤ 2300) }
+    ensures high { IfOk result (λ end. end ≤ most_ended) }
     ensures utf8 { IfOk result (λ end. IsUtf8 (take end buffer.new)) }
     ensures text { IfOk result (λ end. string_bytes out.new ++ take end buffer.new
         ≡ string_bytes out.old ++ (take at buffer.old ++ linked (kept definitions.now) quoting line.now)) }
@@ -263,10 +213,10 @@ pub fn push_remark(
     text: &str,
     at: usize,
 ) -> Result<usize, AllocError>
-    requires size { 4096 ≤ length buffer.old }
-    requires begin { at ≤ 1200 }
+    requires size { SIZE ≤ length buffer.old }
+    requires begin { at ≤ most_begun }
     requires utf8 { IsUtf8 (take at buffer.old) }
-    ensures high { IfOk result (λ end. end ≤ 2300) }
+    ensures high { IfOk result (λ end. end ≤ most_ended) }
     ensures utf8 { IfOk result (λ end. IsUtf8 (take end buffer.new)) }
     ensures text { IfOk result (λ end. string_bytes out.new ++ take end buffer.new
         ≡ string_bytes out.old ++ (take at buffer.old ++ linked (kept definitions.now) Commented text.now)) }

@@ -51,6 +51,5 @@ pub fn push_escaped(out: &mut String, text: &str) -> Result<(), AllocError>
         out.push_str(reference(rest.as_bytes()[at]))?;
         rest = &rest[at + 1..];
     }
-    out.push_str(rest)?;
-    Ok(())
+    out.push_str(rest)
 }

@@ -6,7 +6,7 @@ ghost use Rattle.spv_layout.specs.Place.{AreFew, IsShort};
 ghost use Rattle.spv_module.specs.Module.{plain_inst, plain_insts};
 ghost use Rattle.spv_annotate.specs.Document.{IsSpelled, IsSubject, Subject, document};
 ghost use Rattle.spv_annotate.specs.Page as specs;
-ghost use Rattle.spv_annotate.specs.Page.{IsPage, beginnings, contents_of, page_of};
+ghost use Rattle.spv_annotate.specs.Page.{IsPage, IsScene, beginnings, contents_of, page_of};
 ghost use Rattle.spv_annotate.specs.inner.Look.{scene};
 
 use crate::draft::SIZE;
@@ -32,8 +32,7 @@ fn push_front(out: &mut String, title: &str) -> Result<(), AllocError>
     push_escaped(out, title)?;
     out.push_str(STYLE)?;
     push_escaped(out, title)?;
-    out.push_str(LIST)?;
-    Ok(())
+    out.push_str(LIST)
 }
 
 /// The number of the instruction of a fault.
@@ -61,6 +60,53 @@ fn page_contents(
     let mut pen = ContentsPen { out, look };
     write_beginnings(&mut pen, look.insts, function)?;
     let ContentsPen { out, .. } = pen;
+    Ok(out)
+}
+
+/// Adds what stands in the page for each piece of the text for reading.
+fn push_lines(
+    out: String,
+    look: Look<'_, '_>,
+    table: &Table,
+    module: &Module<'_>,
+    finding: Option<Finding<'_>>,
+    function: Option<u32>,
+) -> Result<String, AllocError>
+    requires spelled { IsSpelled table.now (plain_insts «module».now) }
+    requires words { IsShort (plain_insts «module».now) }
+    ensures { IfOk result (λ t. (S : Subject) × IsSubject table.now «module».now finding.entry function S
+        × (string_bytes t ≡ string_bytes out ++ flat_map (page_of (scene look.entry)) (document S))) }
+{
+    let mut pen = PagePen {
+        out,
+        look,
+        buffer: [0u8; SIZE],
+        at: 0,
+    };
+    annotate_with(look.alloc, table, module, finding, function, &mut pen)?;
+    pen.finish()?;
+    let PagePen { out, .. } = pen;
+    Ok(out)
+}
+
+/// The page of a module, by what is known where it is written.
+fn page_by(
+    look: Look<'_, '_>,
+    table: &Table,
+    module: &Module<'_>,
+    title: &str,
+    finding: Option<Finding<'_>>,
+    function: Option<u32>,
+) -> Result<String, AllocError>
+    requires known { IsScene (plain_insts «module».now) finding (scene look) }
+    requires spelled { IsSpelled table.now (plain_insts «module».now) }
+    requires words { IsShort (plain_insts «module».now) }
+    ensures { IfOk result (λ t. IsPage table.now «module».now title.now finding.entry function (string_bytes t)) }
+{
+    let mut front = page_contents(look, title, function)?;
+    front.push_str(MIDDLE)?;
+    let mut out = push_lines(front, look, table, module, finding, function)?;
+    out.push_str(END)?;
     Ok(out)
 }
 
@@ -96,17 +142,5 @@ pub fn page(
         fault: fault_of(finding),
         walk: &walk,
     };
-    let mut out = page_contents(look, title, function)?;
-    out.push_str(MIDDLE)?;
-    let mut pen = PagePen {
-        out,
-        look,
-        buffer: [0u8; SIZE],
-        at: 0,
-    };
-    annotate_with(alloc, table, module, finding, function, &mut pen)?;
-    pen.finish()?;
-    let PagePen { mut out, .. } = pen;
-    out.push_str(END)?;
-    Ok(out)
+    page_by(look, table, module, title, finding, function)
 }

@@ -1,10 +1,11 @@
 //! Lines in which ids have links.
 
 ghost use Rattle.std.specs.Prelude.{◌≡◌, ◌++◌, ◌∷◌, ◌≤◌, ◌<◌, ℕ, List, IfSome, OnOk, Some, get_or, length};
-ghost use Rattle.std.specs.Prelude.{option_and_then, string_bytes, true};
+ghost use Rattle.std.specs.Prelude.{drop, option_and_then, string_bytes, take, true};
 ghost use Rattle.std.specs.List.{list_all, prefix_len};
 ghost use Rattle.std.specs.Option.{option_to_list};
-ghost use Rattle.spv_lines.specs.Digits.{is_digit};
+ghost use Rattle.spv_lines.specs.Digits as digits;
+ghost use Rattle.spv_annotate.specs.declared.linked.TheConstants.{LINK};
 ghost use Rattle.spv_annotate.specs.inner.Linked as specs;
 ghost use Rattle.spv_annotate.specs.inner.Linked.{base, is_steady, part_len, until_id};
 ghost use Rattle.spv_annotate.specs.inner.Numbers.{kept};
@@ -29,7 +30,19 @@ const LONGEST_TAIL: usize = 24;
 const LINK: usize = 96;
 
 /// A number below this one has room for one more digit.
-pub const ROOM: u32 = 429_496_729;
+const ROOM: u32 = 429_496_729;
+
+/// The octet of the digit 0.
+const ZERO: u32 = 48;
+
+/// The id that stands at the front of a text.
+#[derive(Clone, Copy)]
+pub struct Lean {
+    /// Its number.
+    pub id: u32,
+    /// How many digits it has.
+    pub count: usize,
+}
 
 /// Where a reader of a line stands.
 #[derive(Clone, Copy)]
@@ -142,13 +155,21 @@ pub fn part_size(line: &[u8], quoting: Quoting) -> usize
     }
 }
 
+/// Whether an octet is a digit.
+#[inline(always)]
+fn is_digit(octet: u8) -> bool
+    ensures { result ≡ digits.is_digit octet }
+{
+    octet >= b'0' && octet <= b'9'
+}
+
 /// How many digits stand at the front.
 fn digit_count(text: &[u8]) -> usize
-    ensures count { result ≡ prefix_len is_digit text.now }
+    ensures count { result ≡ prefix_len digits.is_digit text.now }
     ensures within { result ≤ length text.now }
 {
     for (at, byte) in text.iter().enumerate() {
-        if *byte < b'0' || *byte > b'9' {
+        if !is_digit(*byte) {
             return at;
         }
     }
@@ -164,6 +185,24 @@ pub fn push_link(out: &mut String, inst: u32, word: &str) -> Result<(), AllocErr
     out.push_str("</a>")
 }
 
+/// Puts a short word with a link to the instruction of that number, and a short text behind it, at the end of a buffer,
+/// and gives where they begin.
+#[inline(always)]
+fn put_link(buffer: &mut [u8], inst: u32, word: &str, tail: &str) -> usize
+    requires size { length buffer.old ≡ LINK }
+    requires word { length word.now ≤ 32 }
+    requires tail { length tail.now ≤ 24 }
+    ensures within { result ≤ LINK }
+    ensures text { drop result buffer.new ≡ link_to inst word.now ++ tail.now }
+{
+    let last = put_octets(buffer, tail.as_bytes(), LINK);
+    let behind = put_octets(buffer, b"</a>", last);
+    let begin = put_octets(buffer, word.as_bytes(), behind);
+    let tag = put_octets(buffer, b">", begin);
+    let digits = put_number(buffer, inst, tag);
+    put_octets(buffer, b"<a href=#", digits)
+}
+
 /// Adds a short word, of which each byte stands for itself in HTML, with a link to the instruction of that number, and
 /// a short text behind it.
 #[inline(always)]
@@ -174,12 +213,7 @@ fn push_short_link(out: &mut String, inst: u32, word: &str, tail: &str) -> Resul
         ≡ string_bytes out.old ++ (link_to inst word.now ++ tail.now)) }
 {
     let mut buffer = [0u8; LINK];
-    let last = put_octets(&mut buffer, tail.as_bytes(), LINK);
-    let behind = put_octets(&mut buffer, b"</a>", last);
-    let begin = put_octets(&mut buffer, word.as_bytes(), behind);
-    let tag = put_octets(&mut buffer, b">", begin);
-    let digits = put_number(&mut buffer, inst, tag);
-    let start = put_octets(&mut buffer, b"<a href=#", digits);
+    let start = put_link(&mut buffer, inst, word, tail);
     out.push_str(unsafe { from_utf8_unchecked(&buffer[start..]) })
 }
 
@@ -195,25 +229,46 @@ fn behind_mark(word: &[u8]) -> &[u8]
     }
 }
 
-/// The id that digits are. None where they are none, where a zero stands in front, and for most numbers of ten digits.
+/// The id that the digits at the front are. None where there are none, where a zero stands in front, and for most
+/// numbers of ten digits.
 #[inline(always)]
-fn short_id(digits: &[u8]) -> Option<u32>
-    ensures { IfSome result (λ id. Some id ≡ id_of digits.now) }
+pub fn lean_id(text: &[u8]) -> Option<Lean>
+    ensures count { IfSome result (λ l. l.count ≡ prefix_len digits.is_digit text.now) }
+    ensures id { IfSome result (λ l. Some l.id ≡ id_of (take l.count text.now)) }
+    ensures within { IfSome result (λ l. l.count ≤ length text.now) }
 {
-    let [first, ..] = digits else {
+    let [first, ..] = text else {
         return None;
     };
-    if *first == b'0' {
+    if *first < b'1' || *first > b'9' {
         return None;
     }
     let mut id: u32 = 0;
-    for digit in digits {
-        if *digit < b'0' || *digit > b'9' || id >= ROOM {
+    for (count, digit) in text.iter().enumerate() {
+        if !is_digit(*digit) {
+            return Some(Lean { id, count });
+        }
+        if id >= ROOM {
             return None;
         }
-        id = id * 10 + u32::from(*digit - b'0');
+        id = id * 10 + (u32::from(*digit) - ZERO);
     }
-    Some(id)
+    Some(Lean {
+        id,
+        count: text.len(),
+    })
+}
+
+/// The id that a text of digits is. None where it is none, and where `lean_id` tells none.
+#[inline(always)]
+fn short_id(text: &[u8]) -> Option<u32>
+    ensures { IfSome result (λ id. Some id ≡ id_of text.now) }
+{
+    let lean = lean_id(text)?;
+    if lean.count < text.len() {
+        return None;
+    }
+    Some(lean.id)
 }
 
 /// The id that a word is, as `%7`.

@@ -10,6 +10,7 @@ ghost use Rattle.spv_annotate.specs.Module.{inst_at};
 ghost use Rattle.spv_annotate.specs.Html.{escaped};
 ghost use Rattle.spv_annotate.specs.Page as page;
 ghost use Rattle.spv_annotate.specs.Page.{line_class, page_of, use_links};
+ghost use Rattle.spv_annotate.specs.declared.draft.TheConstants.{FULL, SIZE};
 ghost use Rattle.spv_annotate.specs.inner.Draft.{IsAdded, IsDrafted, heading_begin, heading_end};
 ghost use Rattle.spv_annotate.specs.inner.Look.{scene};
 
@@ -43,6 +44,8 @@ pub struct Look<'p, 'a> {
 }
 
 /// Adds a line of the header.
+///
+/// An `AllocError` comes only where a growth of memory was refused, and then nothing is said of what is left.
 #[inline(never)]
 fn push_header(out: &mut String, buffer: &[u8], at: usize, text: &str) -> Result<usize, AllocError>
     requires within { at ≤ length buffer.now }
@@ -57,14 +60,16 @@ fn push_header(out: &mut String, buffer: &[u8], at: usize, text: &str) -> Result
 }
 
 /// Adds an empty line where a section begins.
+///
+/// An `AllocError` comes only where a growth of memory was refused, and then nothing is said of what is left.
 fn push_section(
     out: &mut String,
     buffer: &mut [u8],
     at: usize,
     section: u32,
 ) -> Result<usize, AllocError>
-    requires size { 4096 ≤ length buffer.old }
-    requires at { at ≤ 1024 }
+    requires size { SIZE ≤ length buffer.old }
+    requires at { at ≤ FULL }
     requires utf8 { IsUtf8 (take at buffer.old) }
     ensures { IfOk result (λ end. IsDrafted (codes "<br id=s" ++ (decimal section ++ codes ">\n"))
         (string_bytes out.old) at buffer.old (string_bytes out.new) end buffer.new) }
@@ -72,8 +77,7 @@ fn push_section(
     let number = add_text(buffer, "<br id=s", at);
     let behind = add_number(buffer, section, number);
     let added = add_text(buffer, ">\n", behind);
-    let end = settle(out, buffer, added)?;
-    Ok(end)
+    settle(out, buffer, added)
 }
 
 /// Begins the heading that a line is, if it is one, behind a place, and gives where that ends.
@@ -201,6 +205,8 @@ impl<'p, 'a> Look<'p, 'a> {
     }
 
     /// Adds the line of an instruction.
+    ///
+    /// An `AllocError` comes only where a growth of memory was refused, and then nothing is said of what is left.
     #[inline(never)]
     fn push_line(
         &self,
@@ -210,8 +216,8 @@ impl<'p, 'a> Look<'p, 'a> {
         inst: u32,
         text: &str,
     ) -> Result<usize, AllocError>
-        requires size { 4096 ≤ length buffer.old }
-        requires at { at ≤ 1024 }
+        requires size { SIZE ≤ length buffer.old }
+        requires at { at ≤ FULL }
         requires utf8 { IsUtf8 (take at buffer.old) }
         ensures { IfOk result (λ end. IsDrafted (page_of (scene self.now) (Line inst text.now)) (string_bytes out.old)
             at buffer.old (string_bytes out.new) end buffer.new) }
@@ -223,11 +229,12 @@ impl<'p, 'a> Look<'p, 'a> {
         let behind = push_drafted(out, buffer, definitions, Quoting::Outside, text, begin)?;
         let ended = add_heading_end(buffer, opcode, behind);
         let added = self.add_uses(buffer, inst, ended);
-        let end = settle(out, buffer, added)?;
-        Ok(end)
+        settle(out, buffer, added)
     }
 
     /// Adds a comment.
+    ///
+    /// An `AllocError` comes only where a growth of memory was refused, and then nothing is said of what is left.
     #[inline(never)]
     fn push_comment(
         &self,
@@ -236,8 +243,8 @@ impl<'p, 'a> Look<'p, 'a> {
         at: usize,
         text: &str,
     ) -> Result<usize, AllocError>
-        requires size { 4096 ≤ length buffer.old }
-        requires at { at ≤ 1024 }
+        requires size { SIZE ≤ length buffer.old }
+        requires at { at ≤ FULL }
         requires utf8 { IsUtf8 (take at buffer.old) }
         ensures { IfOk result (λ end. IsDrafted (page_of (scene self.now) (Comment text.now)) (string_bytes out.old)
             at buffer.old (string_bytes out.new) end buffer.new) }
@@ -245,11 +252,12 @@ impl<'p, 'a> Look<'p, 'a> {
         let begin = add_text(buffer, "<i>", at);
         let behind = push_remark(out, buffer, self.definitions, text, begin)?;
         let added = add_text(buffer, "</i>", behind);
-        let end = settle(out, buffer, added)?;
-        Ok(end)
+        settle(out, buffer, added)
     }
 
     /// Adds a line of evidence.
+    ///
+    /// An `AllocError` comes only where a growth of memory was refused, and then nothing is said of what is left.
     #[inline(never)]
     fn push_mark(
         &self,
@@ -281,8 +289,8 @@ impl<'p, 'a> Look<'p, 'a> {
         at: usize,
         piece: Piece<'_>,
     ) -> Result<usize, AllocError>
-        requires size { 4096 ≤ length buffer.old }
-        requires at { at ≤ 1024 }
+        requires size { SIZE ≤ length buffer.old }
+        requires at { at ≤ FULL }
         requires utf8 { IsUtf8 (take at buffer.old) }
         ensures { IfOk result (λ end. IsDrafted (page_of (scene self.now) (plain_piece piece.entry))
             (string_bytes out.old) at buffer.old (string_bytes out.new) end buffer.new) }

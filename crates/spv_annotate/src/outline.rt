@@ -74,7 +74,7 @@ impl Before {
 }
 
 /// Whether what stands in a function, or in none, is asked for.
-fn is_asked(insts: &[Inst<'_>], asked: Option<u32>, function: Option<u32>) -> bool
+pub fn is_in_asked(insts: &[Inst<'_>], asked: Option<u32>, function: Option<u32>) -> bool
     ensures { (n : ℕ) → function ≡ function_of (map plain_inst insts.now) n
         → result ≡ is_of (map plain_inst insts.now) asked n }
 {
@@ -104,7 +104,7 @@ fn write_outlined<P: Pen>(
     ensures { OnOk result (IsWritten P.text P.writes (outlined (map plain_inst insts.now) asked at) pen.old pen.new) }
 {
     let code = insts[at as usize].opcode;
-    if !is_asked(insts, asked, before.function_at(at, code)) {
+    if !is_in_asked(insts, asked, before.function_at(at, code)) {
         return Ok(());
     }
     match before.beginning(at, code) {

@@ -3,6 +3,7 @@
 ghost use Rattle.std.specs.Prelude.{◌≡◌, ◌≤◌, ◌++◌, IsUtf8, OnOk, string_bytes, take};
 ghost use Rattle.std.proofs.Props.{props};
 ghost use Rattle.spv_annotate.specs.Page.{contents_of, page_of};
+ghost use Rattle.spv_annotate.specs.declared.draft.TheConstants.{FULL};
 ghost use Rattle.spv_annotate.specs.inner.Look.{scene};
 
 use crate::draft::{SIZE, push_draft};
@@ -21,7 +22,7 @@ pub struct PagePen<'p, 'a> {
     pub buffer: [u8; SIZE],
     /// Where in the buffer ends what is still to be added to the page.
     pub at: usize,
-    ghost high: { at ≤ 1024 },
+    ghost high: { at ≤ FULL },
     ghost utf8: { IsUtf8 (take at buffer) } by { Prim.hlevel props },
 }
 

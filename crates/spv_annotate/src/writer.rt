@@ -1,13 +1,13 @@
 //! The text for reading, by any pen.
 
 ghost use Rattle.std.specs.Prelude.{◌≡◌, ◌≤◌, ◌<◌, ◌+◌, ◌++◌, ◌∷◌, [], ℕ, List, Option, IfOk, IfSome, OnOk};
-ghost use Rattle.std.specs.Prelude.{drop, is_some, length, map, option_map, string_bytes, take, true};
+ghost use Rattle.std.specs.Prelude.{drop, is_some, length, option_map, string_bytes, take, true};
 ghost use Rattle.std.specs.List.{flat_map, list_all, range_with_len};
 ghost use Rattle.spv_words.specs.Header.{greatest_length};
-ghost use Rattle.spv_module.specs.Module.{plain_inst, plain_insts};
+ghost use Rattle.spv_module.specs.Module.{plain_insts};
 ghost use Rattle.spv_module.specs.Operand.{PlainInst};
 ghost use Rattle.spv_layout.specs.Place.{IsShort, first_word_of, word_count};
-ghost use Rattle.spv_lines.specs.Text.{inst_line, lines_of};
+ghost use Rattle.spv_lines.specs.Text.{header_lines, inst_line, lines_of};
 ghost use Rattle.spv_lines.specs.Plain.{plain_of};
 ghost use Rattle.spv_annotate.specs.Document as specs;
 ghost use Rattle.spv_annotate.specs.Document.{IsSpelled, IsSubject, Subject, begun, document, entry, header_piece};
@@ -24,12 +24,13 @@ ghost use Rattle.spv_annotate.specs.inner.Values.{value_in};
 use crate::comment::{PLACE, is_bare, left_out, place_in, push_comment};
 use crate::finding::Finding;
 use crate::known::Known;
+use crate::outline::is_in_asked;
 use crate::piece::{Pen, Piece};
 use crate::section::section_of;
 use crate::standing::Standing;
 use crate::tame::{has_tame_lines, is_tame_line};
 use spv_lines::{push_plain, split_line};
-use spv_module::{Inst, Module, opcode};
+use spv_module::{Module, opcode};
 use spv_printer::show_listed;
 use spv_table::Table;
 use std::alloc::{AllocError, Global};
@@ -255,28 +256,12 @@ fn write_tamed<P: Pen>(
     write_plain(pen, task, &mut drafts.comment, at, word, text)
 }
 
-/// Whether the first instruction of a function, if there is one, defines an id.
-fn is_function_named(insts: &[Inst<'_>], id: u32, function: Option<u32>) -> bool
-    ensures { result ≡ specs.is_function_named (map plain_inst insts.now) id function }
-{
-    let Some(at) = function else {
-        return false;
-    };
-    match insts.get(at as usize) {
-        Some(inst) => inst.result_id() == Some(id),
-        None => false,
-    }
-}
-
 /// Whether what stands in a function, or in none, is asked for.
 fn is_asked(task: &Task<'_, '_>, function: Option<u32>) -> bool
     ensures { (n : ℕ) → function ≡ function_of (plain_insts task.now.«module».now) n
         → result ≡ is_of (plain_insts task.now.«module».now) task.now.function n }
 {
-    match task.function {
-        Some(id) => is_function_named(task.module.insts.as_slice(), id, function),
-        None => true,
-    }
+    is_in_asked(task.module.insts.as_slice(), task.function, function)
 }
 
 /// The OpFunction of the function that an instruction is of, by what stands before it.
@@ -362,6 +347,19 @@ fn write_ending<P: Pen>(
     write_marks(pen, task, task.module.insts.len() as u32)
 }
 
+/// Writes the text for reading, by the shown lines, those of the header first.
+fn write_shown<P: Pen>(pen: &mut P, task: &Task<'_, '_>, text: &str) -> Result<(), AllocError>
+    requires known { IsKnown (plain_insts task.now.«module».now) task.now.known.now }
+    requires words { IsShort (plain_insts task.now.«module».now) }
+    requires header { take 5 (lines_of text.now) ≡ header_lines task.now.«module».now.header }
+    requires lines { length (lines_of text.now) ≡ 5 + length (plain_insts task.now.«module».now) }
+    ensures { OnOk result (IsWritten P.text P.writes (document (subject_of task.now (drop 5 (lines_of text.now))))
+        pen.old pen.new) }
+{
+    let rest = write_header(pen, text, 5)?;
+    write_entries(pen, task, rest)
+}
+
 /// Writes the text for reading of a module that words spell: the five lines of its header, and the line of each
 /// instruction with a comment behind it; empty lines before sections and functions; and what is told of a fault, below
 /// the line of its instruction. Where a function is asked for, by the id of its OpFunction, only the lines of the header
@@ -393,6 +391,5 @@ pub fn annotate_with<P: Pen>(
         finding,
         function,
     };
-    let rest = write_header(pen, text.as_str(), 5)?;
-    write_entries(pen, &task, rest)
+    write_shown(pen, &task, text.as_str())
 }

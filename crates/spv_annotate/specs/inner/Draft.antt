@@ -3,9 +3,17 @@ use Rattle.std.specs.Prelude.{◌≡◌, ◌≤◌, ◌<◌, ◌+◌, ◌++◌, 
 use Rattle.std.specs.Prelude.{IsUtf8, drop, length, nat_lt, take}
 use Rattle.std.specs.List.{AllByRecursion}
 use Rattle.spv_module.specs.declared.opcode.TheConstants.{FUNCTION, LABEL}
+use Rattle.spv_annotate.specs.declared.draft.TheConstants.{FULL}
 use Rattle.spv_annotate.specs.declared.linked.Quoting.{Quoting}
 use Rattle.spv_annotate.specs.Page.{linked}
 use Rattle.spv_annotate.specs.inner.Linked.{base, is_bare_byte}
+
+-- up to where a line may begin in the buffer, and up to where it may end
+abbrev pub most_begun : ℕ
+most_begun = 1200
+
+abbrev pub most_ended : ℕ
+most_ended = 2300
 
 -- Behind a place a text was added.
 pub record IsAdded (text : List ℕ) (at end : ℕ) (old new : List ℕ) : Type 0 where
@@ -32,7 +40,7 @@ pub record IsFront (definition : ℕ → Option ℕ) (line : List ℕ) (read at 
 
 -- A page goes on with a text: what is added to it, and behind that what a buffer has up to a place.
 pub record IsDrafted (text out : List ℕ) (at : ℕ) (old more : List ℕ) (end : ℕ) (new : List ℕ) : Type 0 where
-  pub high : end ≤ 1024
+  pub high : end ≤ FULL
   pub utf8 : IsUtf8 (take end new)
   pub all : more ++ take end new ≡ (out ++ take at old) ++ text
 

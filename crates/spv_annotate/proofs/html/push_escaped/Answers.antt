@@ -1,5 +1,6 @@
 use Rattle.std.proofs.Common.{◌≡◌, ◌++◌, ◌∙◌, ◌<◌, ◌-◌, ap, arith, length, take, get_or, string_bytes}
 use Rattle.std.proofs.lemmas.Str.{IsCharBoundary-after_ascii}
+use Rattle.spv_printer.proofs.Texts.{on_pushed}
 use Rattle.spv_annotate.specs.Html.{escaped}
 use Rattle.spv_annotate.proofs.Escapes.{escaped_more, escaped_end, marked_ascii}
 use Rattle.spv_annotate.proofs.html.push_escaped.Goals as goal
@@ -30,5 +31,5 @@ loop-at-preserved c =
 pub returns : goal.returns
 returns c =
     let m = rw c.as_bytes.ensures.value at c.in_default.ensures in
-    escaped_end c.loop-at.rest.now (string_bytes c.args.out.now ++ escaped c.args.text.now) (string_bytes c.loop-at.out) (string_bytes c.push_str-2.new.self) (λ k l. m k (omega arith) l)
-    c.loop-at.invariant.1 c.in_ok-push_str-3.ensures.bytes
+    on_pushed c.push_str-2.result _ (string_bytes c.push_str-2.new.self) (string_bytes c.loop-at.out) c.loop-at.rest.now c.push_str-2.ensures.bytes
+    (escaped_end c.loop-at.rest.now (string_bytes c.args.out.now ++ escaped c.args.text.now) (string_bytes c.loop-at.out) (string_bytes c.push_str-2.new.self) (λ k l. m k (omega arith) l) c.loop-at.invariant.1)

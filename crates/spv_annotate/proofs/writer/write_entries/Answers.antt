@@ -1,3 +1,4 @@
+use Rattle.std.proofs.lemmas.Grind.{common_steps}
 use Rattle.std.proofs.Common.{◌≡◌, ◌∙◌, ℕ, List, [], ap, arith, flat_map, length, length-drop, refl, rules, subst, sym}
 use Rattle.std.specs.Prelude.{unwrap_or}
 use Rattle.std.specs.List.{range_with_len}
@@ -121,3 +122,6 @@ returns g c =
     (λ _. IsWritten text writes (entries S) pen c.write_ending.new.pen)
     (λ _ k. written_more text writes (flat_map (entry S) (range_with_len 0 (length (plain_insts m)))) (ending S) pen c.loop-at.pen c.write_ending.new.pen front k)
     (c.write_ending.ensures ls)
+
+pub write_entry-requires-clause-within : goal.write_entry-requires-clause-within
+write_entry-requires-clause-within g c = grind (arith, common_steps)

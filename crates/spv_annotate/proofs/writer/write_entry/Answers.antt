@@ -1,3 +1,4 @@
+use Rattle.std.proofs.lemmas.Grind.{common_steps}
 use Rattle.std.proofs.Common.{◌≡◌, ◌∙◌, ◌++◌, List, ℕ, Bool, [], ap, arith, subst, sym}
 use Rattle.std.specs.Prelude.{if◌then◌else◌, is_some}
 use Rattle.std.proofs.lemmas.Result.{IfOk-weaker}
@@ -62,3 +63,6 @@ returns-then-not-is_asked g c = λ lines h.
     let f = sym (c.is_asked.ensures at fa) ∙ c.if-not-is_asked.true in
     let all = beginning is at ++ line_pieces S at (plain_of (inst_line lines at)) ++ marks c.args.task.now.finding at in
     subst (λ (z : Bool). IsWritten text writes (if z then all else []) c.args.pen.now c.args.pen.now) (sym f) (written_nothing text writes c.args.pen.now)
+
+pub index-requires : goal.index-requires
+index-requires g c = grind (arith, common_steps)

@@ -1,3 +1,5 @@
+use Rattle.std.proofs.Common.{arith}
+use Rattle.std.proofs.lemmas.Grind.{common_steps}
 use Rattle.std.proofs.Common.{◌++◌, ◌∙◌, ap, append_assoc, flat_map, rules, sym}
 use Rattle.spv_lines.specs.Text.{lines_of}
 use Rattle.spv_annotate.specs.Document.{mark_piece}
@@ -16,3 +18,9 @@ loop-rest-preserved g c =
       left = append_assoc v.done (mark_piece line) (flat_map mark_piece (lines_of further))
           ∙ (ap (λ ls. v.done ++ flat_map mark_piece ls) (sym c.split_line.ensures.lines) ∙ v.left);
     }
+
+pub write_mark-requires-text-line : goal.write_mark-requires-text-line
+write_mark-requires-text-line g c = grind (arith, common_steps)
+
+pub returns : goal.returns
+returns g c = grind (arith, common_steps)

@@ -8,7 +8,7 @@ use Rattle.spv_annotate.specs.Page.{headed, line_class, linked, use_links}
 use Rattle.spv_annotate.specs.inner.Draft.{heading_begin, heading_end}
 use Rattle.spv_annotate.specs.inner.Look.{scene}
 use Rattle.spv_annotate.specs.inner.Numbers.{kept}
-use Rattle.spv_annotate.proofs.Drafts.{headed_parts, line_drafted, opening_apart}
+use Rattle.spv_annotate.proofs.Drafts.{headed_parts, line_drafted, opening_apart, settled}
 use Rattle.spv_annotate.proofs.look.Look.push_line.Goals as goal
 
 pub push_drafted-requires-clause-utf8 : goal.push_drafted-requires-clause-utf8
@@ -29,15 +29,12 @@ returns c =
     let opening = codes "<div id=" ++ (decimal n ++ (line_class S n ++ codes ">")) in
     let code = c.opcode-opcode.result in
     let uses = use_links S n (result_in i.operands) in
-    let e = c.in_ok-end.ensures in
+    let e = c.settle.ensures in
     let h : (heading_begin code ++ (html ++ heading_end code)) ++ uses ≡ headed i.opcode html ++ uses =
     ap (λ z. z ++ uses) (headed_parts code html ∙ ap (λ z. headed z html) c.opcode-opcode.ensures) in
-    record {
-      high = e.high;
-      utf8 = e.utf8;
-      all = e.text ∙ (line_drafted opening (heading_begin code) html (heading_end code) uses out one old
-          (take c.add_opening-opened.result c.add_opening-opened.new.buffer) (take c.add_heading-begin.result c.add_heading-begin.new.buffer) (take c.in_ok-behind.behind c.push_drafted.new.buffer)
-          (take c.add_heading_end-ended.result c.add_heading_end-ended.new.buffer) (take c.add_uses-added.result c.add_uses-added.new.buffer)
-          c.add_opening-opened.ensures.added.all c.add_heading-begin.ensures.added.all c.in_ok-behind.ensures.text c.add_heading_end-ended.ensures.added.all c.add_uses-added.ensures.added.all
-          ∙ (ap (λ z. (out ++ old) ++ (opening ++ z)) h ∙ ap (λ z. (out ++ old) ++ z) (opening_apart (codes "<div id=") (decimal n) (line_class S n) (headed i.opcode html ++ uses))));
-    }
+    settled c.settle.result _ _ _ _ _ _ _ e.high e.utf8 e.text
+    (line_drafted opening (heading_begin code) html (heading_end code) uses out one old
+    (take c.add_opening-opened.result c.add_opening-opened.new.buffer) (take c.add_heading-begin.result c.add_heading-begin.new.buffer) (take c.in_ok-behind.behind c.push_drafted.new.buffer)
+    (take c.add_heading_end-ended.result c.add_heading_end-ended.new.buffer) (take c.add_uses-added.result c.add_uses-added.new.buffer)
+    c.add_opening-opened.ensures.added.all c.add_heading-begin.ensures.added.all c.in_ok-behind.ensures.text c.add_heading_end-ended.ensures.added.all c.add_uses-added.ensures.added.all
+    ∙ (ap (λ z. (out ++ old) ++ (opening ++ z)) h ∙ ap (λ z. (out ++ old) ++ z) (opening_apart (codes "<div id=") (decimal n) (line_class S n) (headed i.opcode html ++ uses))))

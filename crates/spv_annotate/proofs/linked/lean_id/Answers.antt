@@ -4,7 +4,7 @@ use Rattle.std.proofs.lemmas.List.{take_all}
 use Rattle.spv_lines.specs.Digits.{is_digit}
 use Rattle.spv_lines.proofs.Reader.{value_more}
 use Rattle.spv_annotate.proofs.Fronts.{digit_high, digits_end, digits_front, digits_next}
-use Rattle.spv_annotate.proofs.drafted.lean_id.Goals as goal
+use Rattle.spv_annotate.proofs.linked.lean_id.Goals as goal
 
 pub loop-count-preserved : goal.loop-count-preserved
 loop-count-preserved c =

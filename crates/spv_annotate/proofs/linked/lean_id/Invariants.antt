@@ -1,7 +1,7 @@
 use Rattle.std.proofs.Common.{◌≡◌, ◌<◌, take, true}
 use Rattle.std.specs.List.{list_all}
 use Rattle.spv_lines.specs.Digits.{is_digit, value}
-use Rattle.spv_annotate.proofs.drafted.lean_id.Given as goal
+use Rattle.spv_annotate.proofs.linked.lean_id.Given as goal
 
 abbrev pub invariant-loop-count : goal.invariant-loop-count
 invariant-loop-count l = record {
