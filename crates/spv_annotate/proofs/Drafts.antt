@@ -23,10 +23,6 @@ pub copied_text : (old octets text rest : List ℕ) (at : ℕ) → at ≤ length
 copied_text old octets text rest at h e =
     front_copied old octets rest at (length octets) h (omega arith) ∙ (ap (λ z. take at old ++ z) (take-length octets) ∙ ap (λ z. take at old ++ z) e)
 
--- nothing
-pub added_none : (at : ℕ) (old : List ℕ) → IsAdded [] at at old old
-added_none at old = record { all = sym (append-nil (take at old)); utf8 = λ u. u }
-
 -- one text more
 pub added_more : (p q : List ℕ) (at mid end : ℕ) (old one new : List ℕ) → IsAdded p at mid old one → IsAdded q mid end one new → IsAdded (p ++ q) at end old new
 added_more p q at mid end old one new a b = record {
@@ -92,9 +88,6 @@ added_apart text out at mid old new a = ap (λ z. out ++ z) a.all ∙ sym (appen
 -- what is added to the page at once
 pub drafted_at_once : (text out : List ℕ) (at : ℕ) (old more new : List ℕ) → more ≡ (out ++ take at old) ++ text → IsDrafted text out at old more 0 new
 drafted_at_once text out at old more new e = record { high = omega arith; utf8 = IsUtf8-nil; all = append-nil more ∙ e }
-
-pub drafted_nothing : (out : List ℕ) (at : ℕ) (old : List ℕ) → at ≤ FULL → IsUtf8 (take at old) → IsDrafted [] out at old out at old
-drafted_nothing out at old h u = record { high = h; utf8 = u; all = sym (append-nil (out ++ take at old)) }
 
 pub line_drafted : (opening heading html ending uses out one t0 t1 t2 t3 t4 t5 : List ℕ) → t1 ≡ t0 ++ opening → t2 ≡ t1 ++ heading → one ++ t3 ≡ out ++ (t2 ++ html) → t4 ≡ t3 ++ ending
     → t5 ≡ t4 ++ uses → one ++ t5 ≡ (out ++ t0) ++ (opening ++ ((heading ++ (html ++ ending)) ++ uses))

@@ -1,10 +1,10 @@
 -- The front of a line in which ids have links.
-use Rattle.std.proofs.Common.{◌≡◌, ◌++◌, ◌∙◌, ◌<◌, ◌≤◌, ◌+◌, ℕ, zero, suc, List, [], ◌∷◌, Option, Some, Bool, true, false, ◌&&◌, length, take, drop, get_or, refl, sym, ap, subst, arith, append_assoc, append-nil, length-drop}
+use Rattle.std.proofs.Common.{◌≡◌, ◌++◌, ◌∙◌, ◌<◌, ◌≤◌, ◌+◌, ℕ, zero, suc, List, [], ◌∷◌, Option, Some, Bool, true, false, ◌&&◌, length, take, drop, get_or, refl, sym, ap, subst, arith, append_assoc, length-drop}
 use Rattle.std.specs.Prelude.{IsUtf8, ◌==◌, option_and_then}
 use Rattle.std.specs.List.{AllByRecursion, flat_map, list_all, prefix_len}
 use Rattle.std.specs.Str.{IsCharBoundary}
 use Rattle.std.proofs.lemmas.Bool.Decides.{nat_tests}
-use Rattle.std.proofs.lemmas.List.{drop_all, drop-drop, drop-take, take-take}
+use Rattle.std.proofs.lemmas.List.{drop-drop, drop-take, take-take}
 use Rattle.std.proofs.lemmas.List.Sums.{prefix_len-le-length, prefix_len_passes}
 use Rattle.std.proofs.lemmas.Str.{IsCharBoundary-from_take, IsUtf8-append}
 use Rattle.spv_lines.specs.Digits.{is_digit}
@@ -88,9 +88,6 @@ digits_both false b h = cc
 pub digit_high : (b : ℕ) → is_digit b ≡ true → b ≤ 57
 digit_high b h = grind (arith, nat_tests)
 
-pub digit_low : (b : ℕ) → is_digit b ≡ true → 48 ≤ b
-digit_low b h = grind (arith, nat_tests)
-
 pub digits_front : (xs : List ℕ) (n : ℕ) → list_all is_digit (take n xs) ≡ true → n < length xs → is_digit (get_or xs n 0) ≡ false → n ≡ prefix_len is_digit xs
 digits_front [] n h l e = absurd (omega arith)
 digits_front (x ∷ xs) zero h l e = rw e refl
@@ -147,9 +144,6 @@ id_linked d q xs b =
     ∙ (append_assoc (html (digits_in xs)) (escaped (take v ys)) (linked d q (drop v ys)) ∙ ap (λ z. html (digits_in xs) ++ z) (sym (until_linked d q ys b)))))
 
 -- fronts
-
-pub front_none : (d : ℕ → Option ℕ) (line : List ℕ) (at : ℕ) (old : List ℕ) → IsFront d line 0 at at old old
-front_none d line at old = record { within = omega arith; ascii = tt; all = λ q b. refl; utf8 = λ u. u }
 
 pub front_plain : (d : ℕ → Option ℕ) (line : List ℕ) (n at : ℕ) (old new : List ℕ) → IsCopied line at n old new → IsFront d line n at (at + n) old new
 front_plain d line n at old new c =
@@ -235,15 +229,3 @@ front_id d (x ∷ xs) word k id inst at end old new l f e i n w a =
 -- what is left of a line
 pub front_ends : (d : ℕ → Option ℕ) (line : List ℕ) (n at end : ℕ) (old new : List ℕ) → IsUtf8 line → IsFront d line n at end old new → IsCharBoundary line n
 front_ends d line n at end old new u f = IsCharBoundary-from_take line n u f.within (ascii_utf8 (take n line) f.ascii)
-
-pub front_whole : (d : ℕ → Option ℕ) (q : Quoting) (line : List ℕ) (n at end : ℕ) (out old new : List ℕ) → base q ≡ q → IsFront d line n at end old new → n ≡ length line
-    → out ++ take end new ≡ out ++ (take at old ++ linked d q line)
-front_whole d q line n at end out old new b f e =
-    let r : drop n line ≡ [] = ap (λ k. drop k line) e ∙ drop_all (length line) line (omega arith) in
-    let w : take end new ≡ take end new ++ linked d q (drop n line) = sym (ap (λ z. take end new ++ linked d q z) r ∙ append-nil (take end new)) in
-    ap (λ z. out ++ z) (w ∙ f.all q b)
-
-pub front_behind : (d : ℕ → Option ℕ) (q : Quoting) (line : List ℕ) (n at end : ℕ) (out old new one two : List ℕ) → base q ≡ q → IsFront d line n at end old new
-    → one ≡ out ++ take end new → two ≡ one ++ linked d q (drop n line) → two ++ [] ≡ out ++ (take at old ++ linked d q line)
-front_behind d q line n at end out old new one two b f e g =
-    append-nil two ∙ (g ∙ (ap (λ z. z ++ linked d q (drop n line)) e ∙ (append_assoc out (take end new) (linked d q (drop n line)) ∙ ap (λ z. out ++ z) (f.all q b))))

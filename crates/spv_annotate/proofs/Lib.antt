@@ -26,7 +26,6 @@ pub mod Steadies
 pub mod UsePlaces
 pub mod Buffers
 pub mod EdgeCounts
-pub mod ShortIds
 pub mod Links
 pub mod Drafts
 pub mod Fronts

@@ -11,10 +11,6 @@ link_behind n word tail =
     ap (λ z. codes "<a href=#" ++ z) (append_assoc (decimal n) (62 ∷ (word ++ codes "</a>")) tail
     ∙ ap (λ z. decimal n ++ (62 ∷ z)) (append_assoc word (codes "</a>") tail))
 
--- a word, and then what stands behind it
-pub one_behind : (out mid last word tail : List ℕ) → mid ≡ out ++ word → last ≡ mid ++ tail → last ≡ out ++ (word ++ tail)
-one_behind out mid last word tail e f = f ∙ (ap (λ z. z ++ tail) e ∙ append_assoc out word tail)
-
 pub link_utf8 : (n : ℕ) (word tail : List ℕ) → n < 2 ^ 64 → IsUtf8 word → IsUtf8 tail → IsUtf8 (link_to n word ++ tail)
 link_utf8 n word tail h u v =
     let a = IsUtf8-append (codes "</a>") tail (text_utf8 (codes "</a>") refl) v in

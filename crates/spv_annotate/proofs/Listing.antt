@@ -1,5 +1,5 @@
 -- The labels of a walk, added one after another.
-use Rattle.std.proofs.Common.{◌≡◌, ◌++◌, ◌∙◌, ◌<◌, ℕ, List, [], ◌∷◌, length, take, drop, refl, sym, ap, arith, append_assoc, append-nil}
+use Rattle.std.proofs.Common.{◌≡◌, ◌++◌, ◌∙◌, ◌<◌, ℕ, List, ◌∷◌, length, take, drop, refl, sym, ap, append_assoc}
 use Rattle.std.specs.List.{flat_map}
 use Rattle.spv_lines.specs.Text.{lines_of}
 use Rattle.spv_annotate.specs.declared.linked.Quoting.TheVariants.{Commented}
@@ -14,10 +14,6 @@ part_pushed xs ids n old new all l e f g h =
     let p : flat_map ids_at (cut_from Commented xs) ≡ ids_at (take n xs) ++ flat_map ids_at (cut_from Commented (drop n xs)) = rw e (first_part ids_at Commented xs refl refl l) in
     ap (λ (front : List ℕ). front ++ flat_map ids_at (cut_from Commented (drop n xs))) (g ∙ ap (λ (these : List ℕ). old ++ these) f)
     ∙ (append_assoc old (ids_at (take n xs)) (flat_map ids_at (cut_from Commented (drop n xs))) ∙ (ap (λ (these : List ℕ). old ++ these) (sym p) ∙ h))
-
-pub no_part_pushed : (xs old all : List ℕ) → (0 < length xs → ⊥) → old ++ flat_map ids_at (cut_from Commented xs) ≡ all → old ≡ all
-no_part_pushed [] old all n h = sym (append-nil old) ∙ h
-no_part_pushed (y ∷ xs) old all n h = absurd (n (omega arith))
 
 -- the ids of one line more
 pub line_pushed : (rest further line old new all : List ℕ) → lines_of rest ≡ line ∷ lines_of further → new ≡ old ++ walk_ids line

@@ -1,5 +1,5 @@
 -- A line, cut before each id.
-use Rattle.std.proofs.Common.{◌≡◌, ◌++◌, ◌∙◌, ◌<◌, ◌≤◌, ◌+◌, ◌-◌, ◌^◌, ℕ, zero, suc, List, [], ◌∷◌, Option, Some, Bool, true, false, length, take, drop, get_or, refl, sym, ap, subst, arith, append_assoc, append-nil}
+use Rattle.std.proofs.Common.{◌≡◌, ◌++◌, ◌∙◌, ◌<◌, ◌≤◌, ◌+◌, ◌-◌, ◌^◌, ℕ, zero, suc, List, [], ◌∷◌, Option, Some, Bool, true, false, length, take, drop, get_or, refl, sym, ap, subst, arith, append_assoc}
 use Rattle.std.specs.Prelude.{◌==◌, nat_lt, decimal, option_and_then}
 use Rattle.std.specs.List.{flat_map, onto_first, prefix_len}
 use Rattle.std.specs.Option.{option_to_list}
@@ -199,14 +199,6 @@ part_whole d (x ∷ t) n word rest l f e w r =
     let p : part_html d (x ∷ t) ≡ id_html o (37 ∷ digits_in t) ++ escaped (behind_digits t) = rw x37 refl in
     ap (λ z. id_html o z ++ escaped rest) v ∙ (ap (λ z. id_html o (37 ∷ digits_in t) ++ escaped z) s ∙ sym p)
 
-pub part_plain : (d : ℕ → Option ℕ) (xs out last : List ℕ) → 1 ≤ length xs → (get_or xs 0 0 ≡ 37 → ⊥) → last ≡ out ++ escaped xs → last ≡ out ++ part_html d xs
-part_plain d [] out last l n e = absurd (omega (arith, l))
-part_plain d (x ∷ t) out last l n e = by (x == 37) refl
-  where
-    by : (y : Bool) → (x == 37) ≡ y → last ≡ out ++ part_html d (x ∷ t)
-    by true f = absurd (n (eq_by x 37 f))
-    by false f = rw f e
-
 -- one part more of a line
 pub linked_more : (d : ℕ → Option ℕ) (q : Quoting) (xs goal out more : List ℕ) (n : ℕ) → base q ≡ q → 0 < length xs → n ≡ part_len q xs
     → out ++ linked d q xs ≡ goal → more ≡ out ++ part_html d (take n xs) → more ++ linked d q (drop n xs) ≡ goal
@@ -214,10 +206,6 @@ linked_more d q xs goal out more n b l e f g =
     let h = first_part (part_html d) q xs refl b l in
     let k : out ++ linked d q xs ≡ out ++ (part_html d (take n xs) ++ linked d q (drop n xs)) = rw e (ap (λ z. out ++ z) h) in
     ap (λ z. z ++ linked d q (drop n xs)) g ∙ (append_assoc out (part_html d (take n xs)) (linked d q (drop n xs)) ∙ (sym k ∙ f))
-
-pub linked_none : (d : ℕ → Option ℕ) (q : Quoting) (xs out : List ℕ) → (0 < length xs → ⊥) → out ++ linked d q xs ≡ out
-linked_none d q [] out n = append-nil out
-linked_none d q (x ∷ xs) out n = absurd (n (omega arith))
 
 -- what stands behind the first byte
 pub all_behind : (xs : List ℕ) → take (length xs - 1) (drop 1 xs) ≡ drop 1 xs

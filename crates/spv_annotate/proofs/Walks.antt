@@ -1,5 +1,5 @@
 -- The ids of a walk, kept one after another.
-use Rattle.std.proofs.Common.{◌≡◌, ◌++◌, ◌∙◌, ◌<◌, ℕ, List, [], ◌∷◌, Bool, true, false, ◌||◌, nat_eq, length, take, drop, refl, sym, ap, arith}
+use Rattle.std.proofs.Common.{◌≡◌, ◌++◌, ◌∙◌, ◌<◌, ℕ, List, ◌∷◌, Bool, true, false, ◌||◌, nat_eq, length, take, drop, refl, sym, ap}
 use Rattle.std.specs.List.{flat_map, list_any}
 use Rattle.std.proofs.lemmas.List.Folds.{list_any-append}
 use Rattle.spv_lines.specs.Text.{lines_of}
@@ -24,10 +24,6 @@ part_more x xs ids n old new all l e f g h =
     let q = ap (list_any (nat_eq x)) p ∙ list_any-append (nat_eq x) (ids_at (take n xs)) (flat_map ids_at (cut_from Commented (drop n xs))) in
     or_more (list_any (nat_eq x) (ids_at (take n xs))) (list_any (nat_eq x) (flat_map ids_at (cut_from Commented (drop n xs)))) old new all
     (g ∙ ap (λ z. list_any (nat_eq x) z || old) f) (sym (ap (λ z. z || old) q) ∙ h)
-
-pub part_none : (x : ℕ) (xs : List ℕ) (old all : Bool) → (0 < length xs → ⊥) → (list_any (nat_eq x) (flat_map ids_at (cut_from Commented xs)) || old) ≡ all → old ≡ all
-part_none x [] old all n h = h
-part_none x (y ∷ xs) old all n h = absurd (n (omega arith))
 
 -- the ids of one line more
 pub line_more : (x : ℕ) (rest further line : List ℕ) (old new all : Bool) → lines_of rest ≡ line ∷ lines_of further

@@ -60,20 +60,22 @@ impl Before {
         }
         Some(Piece::Section(section))
     }
+}
 
-    /// The OpFunction of the function that an instruction is of.
-    fn function_at(self, at: u32, code: u16) -> Option<u32>
-        ensures { (is : List PlainInst) → (inst_at is at).opcode ≡ code → self.function ≡ open_function is at
-            → result ≡ function_of is at }
-    {
-        if code == opcode::FUNCTION {
-            return Some(at);
-        }
-        self.function
+/// The OpFunction of the function that an instruction is of, by the one that is open before it.
+#[inline(always)]
+pub fn function_at(before: Option<u32>, at: u32, code: u16) -> Option<u32>
+    ensures { (is : List PlainInst) → (inst_at is at).opcode ≡ code → before ≡ open_function is at
+        → result ≡ function_of is at }
+{
+    if code == opcode::FUNCTION {
+        return Some(at);
     }
+    before
 }
 
 /// Whether what stands in a function, or in none, is asked for.
+#[inline(always)]
 pub fn is_in_asked(insts: &[Inst<'_>], asked: Option<u32>, function: Option<u32>) -> bool
     ensures { (n : ℕ) → function ≡ function_of (map plain_inst insts.now) n
         → result ≡ is_of (map plain_inst insts.now) asked n }
@@ -104,7 +106,7 @@ fn write_outlined<P: Pen>(
     ensures { OnOk result (IsWritten P.text P.writes (outlined (map plain_inst insts.now) asked at) pen.old pen.new) }
 {
     let code = insts[at as usize].opcode;
-    if !is_in_asked(insts, asked, before.function_at(at, code)) {
+    if !is_in_asked(insts, asked, function_at(before.function, at, code)) {
         return Ok(());
     }
     match before.beginning(at, code) {

@@ -5,14 +5,13 @@ ghost use Rattle.std.specs.Prelude.{drop, is_some, length, option_map, string_by
 ghost use Rattle.std.specs.List.{flat_map, list_all, range_with_len};
 ghost use Rattle.spv_words.specs.Header.{greatest_length};
 ghost use Rattle.spv_module.specs.Module.{plain_insts};
-ghost use Rattle.spv_module.specs.Operand.{PlainInst};
 ghost use Rattle.spv_layout.specs.Place.{IsShort, first_word_of, word_count};
 ghost use Rattle.spv_lines.specs.Text.{header_lines, inst_line, lines_of};
 ghost use Rattle.spv_lines.specs.Plain.{plain_of};
 ghost use Rattle.spv_annotate.specs.Document as specs;
 ghost use Rattle.spv_annotate.specs.Document.{IsSpelled, IsSubject, Subject, begun, document, entry, header_piece};
 ghost use Rattle.spv_annotate.specs.Document.{is_of, line_pieces, mark_piece, marks};
-ghost use Rattle.spv_annotate.specs.Module.{function_of, inst_at};
+ghost use Rattle.spv_annotate.specs.Module.{function_of};
 ghost use Rattle.spv_annotate.specs.Notes.{comment, gap, place_text};
 ghost use Rattle.spv_annotate.specs.Piece.{Break, Comment, IsWritten, Line};
 ghost use Rattle.spv_annotate.specs.inner.Known.{IsKnown};
@@ -24,7 +23,7 @@ ghost use Rattle.spv_annotate.specs.inner.Values.{value_in};
 use crate::comment::{PLACE, is_bare, left_out, place_in, push_comment};
 use crate::finding::Finding;
 use crate::known::Known;
-use crate::outline::is_in_asked;
+use crate::outline::{function_at, is_in_asked};
 use crate::piece::{Pen, Piece};
 use crate::section::section_of;
 use crate::standing::Standing;
@@ -264,17 +263,6 @@ fn is_asked(task: &Task<'_, '_>, function: Option<u32>) -> bool
     is_in_asked(task.module.insts.as_slice(), task.function, function)
 }
 
-/// The OpFunction of the function that an instruction is of, by what stands before it.
-fn function_at(standing: Standing, at: u32, code: u16) -> Option<u32>
-    ensures { (is : List PlainInst) → IsStanding is at standing → (inst_at is at).opcode ≡ code
-        → result ≡ function_of is at }
-{
-    if code == opcode::FUNCTION {
-        return Some(at);
-    }
-    standing.function
-}
-
 /// Writes all that belongs to an instruction, if it is asked for. `tame` is that of `write_line`.
 fn write_entry<P: Pen>(
     pen: &mut P,
@@ -293,7 +281,7 @@ fn write_entry<P: Pen>(
         (entry (subject_of task.now lines) at) pen.old pen.new) }
 {
     let code = task.module.insts[at as usize].opcode;
-    if !is_asked(task, function_at(standing, at, code)) {
+    if !is_asked(task, function_at(standing.function, at, code)) {
         return Ok(());
     }
     write_beginning(pen, at, code, standing)?;

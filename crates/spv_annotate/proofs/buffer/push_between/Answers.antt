@@ -1,4 +1,3 @@
-use Rattle.std.proofs.lemmas.Grind.{common_steps}
 use Rattle.std.proofs.Common.{◌≡◌, ◌++◌, ◌∙◌, length, drop, subst, sym, arith}
 use Rattle.std.specs.Prelude.{decimal}
 use Rattle.std.specs.Str.{IsUtf8}
@@ -28,6 +27,3 @@ from_utf8_unchecked-requires c =
     let first : drop start three ≡ begin ++ (decimal n ++ end) = before_end two three begin (decimal n ++ end) start digits (rw c.as_bytes-2.ensures.value at c.put_octets-start.ensures.text) middle in
     let r = rest_of three start 64 l3 (omega (arith, low, size, s)) in
     subst IsUtf8 (sym (r ∙ first)) (IsUtf8-append begin (decimal n ++ end) c.utf8.begin (IsUtf8-append (decimal n) end (number_utf8 n (omega arith)) c.utf8.end))
-
-pub returns : goal.returns
-returns c = grind (arith, common_steps)

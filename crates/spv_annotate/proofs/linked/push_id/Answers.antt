@@ -1,4 +1,5 @@
-use Rattle.std.proofs.Common.{◌≡◌, ◌++◌, ◌∙◌, List, ℕ, OnOk, Some, ap, option_and_then, string_bytes, subst, sym}
+use Rattle.std.proofs.Common.{◌≡◌, ◌++◌, ◌∙◌, List, ℕ, OnOk, Some, ap, arith, option_and_then, string_bytes, subst, sym}
+use Rattle.std.proofs.lemmas.Grind.{common_steps}
 use Rattle.spv_annotate.specs.Html.{escaped}
 use Rattle.spv_annotate.specs.Page.{id_html, id_of, link_to}
 use Rattle.spv_annotate.specs.inner.Numbers.{kept}
@@ -17,3 +18,9 @@ returns-then-are_short c = λ ds e.
     let t : link_to inst word ++ tail ≡ id_html (option_and_then k (id_of ds)) word ++ escaped tail =
     ap (λ z. z ++ tail) h ∙ ap (λ z. id_html (option_and_then k (id_of ds)) word ++ z) (sym (c.are_short.ensures.plain c.if-are_short.true)) in
     subst (λ (z : List ℕ). OnOk c.push_short_link.result (string_bytes c.push_short_link.new.out ≡ string_bytes c.args.out.now ++ z)) t c.push_short_link.ensures
+
+pub returns-in_default : goal.returns-in_default
+returns-in_default c = grind (arith, common_steps)
+
+pub returns : goal.returns
+returns c = grind (arith, common_steps)

@@ -1,5 +1,3 @@
-use Rattle.std.proofs.Common.{arith}
-use Rattle.std.proofs.lemmas.Grind.{common_steps}
 use Rattle.std.proofs.Common.{◌≡◌, ap, flat_map, get_or, map}
 use Rattle.std.specs.List.{range_with_len}
 use Rattle.spv_module.specs.Module.{plain_inst}
@@ -23,6 +21,3 @@ loop-at-preserved g c =
       section = c.behind-before.ensures.section is o;
       function = c.behind-before.ensures.function is o c.loop-at.invariant.function;
     }
-
-pub returns : goal.returns
-returns g c = grind (arith, common_steps)

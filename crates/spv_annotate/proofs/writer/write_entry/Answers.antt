@@ -28,7 +28,7 @@ returns g c = λ lines h.
     let p = plain_length m.insts.items in
     let e = inst_read m.insts.items at c.index.result.now (omega (arith, w, p)) c.index.ensures in
     let o = ap (λ i. i.opcode) e in
-    let fa = c.function_at.ensures is c.requires.standing o in
+    let fa = c.function_at.ensures is o c.requires.standing.function in
     let f = sym (c.is_asked.ensures at fa) ∙ c.if-not-is_asked.false in
     let st = c.requires.standing in
     let eb : begun c.index.result.now.opcode (section_behind s.before) (is_some s.function) at ≡ beginning is at =
@@ -59,7 +59,7 @@ returns-then-not-is_asked g c = λ lines h.
     let w = c.requires.within in
     let p = plain_length m.insts.items in
     let e = inst_read m.insts.items at c.index.result.now (omega (arith, w, p)) c.index.ensures in
-    let fa = c.function_at.ensures is c.requires.standing (ap (λ i. i.opcode) e) in
+    let fa = c.function_at.ensures is (ap (λ i. i.opcode) e) c.requires.standing.function in
     let f = sym (c.is_asked.ensures at fa) ∙ c.if-not-is_asked.true in
     let all = beginning is at ++ line_pieces S at (plain_of (inst_line lines at)) ++ marks c.args.task.now.finding at in
     subst (λ (z : Bool). IsWritten text writes (if z then all else []) c.args.pen.now c.args.pen.now) (sym f) (written_nothing text writes c.args.pen.now)

@@ -1,6 +1,5 @@
-use Rattle.std.proofs.Common.{arith}
+use Rattle.std.proofs.Common.{◌++◌, ◌∙◌, ap, append_assoc, arith, flat_map, rules, sym}
 use Rattle.std.proofs.lemmas.Grind.{common_steps}
-use Rattle.std.proofs.Common.{◌++◌, ◌∙◌, ap, append_assoc, flat_map, rules, sym}
 use Rattle.spv_lines.specs.Text.{lines_of}
 use Rattle.spv_annotate.specs.Document.{mark_piece}
 use Rattle.spv_annotate.proofs.Writings.{written_more}
