@@ -12,11 +12,15 @@ ghost use Rattle.spv_layout.specs.Plan.{IsPlan};
 ghost use Rattle.spv_ids.specs.Outcome.{AreIds};
 ghost use Rattle.spv_flow.specs.branches.inner.Code.{insts_of, IsCode};
 ghost use Rattle.spv_flow.specs.branches.Broken.{Broken};
-ghost use Rattle.spv_flow.specs.branches.inner.Edges.{marked};
+ghost use Rattle.spv_flow.specs.branches.inner.Edges.{IsEdges, marked};
+ghost use Rattle.spv_flow.specs.branches.inner.Graph.{AreGathered, AreEntries};
+ghost use Rattle.spv_flow.specs.branches.Target.{IsOp};
+ghost use Rattle.spv_flow.specs.branches.Target as target;
 ghost use Rattle.spv_flow.specs.branches.Found.{IsRefusal};
 
 use crate::branches::code::Code;
-use crate::branches::gather::{edges_for, survey};
+use crate::branches::edges::Edges;
+use crate::branches::gather::{Overview, edges_for, survey};
 use crate::branches::rules::broken_at;
 use spv_ids::Ids;
 use spv_layout::Plan;
@@ -40,7 +44,41 @@ fn marks_for(alloc: Global, count: usize, has_phis: bool) -> Result<Vec<bool>, A
     vec![in alloc; false; room]
 }
 
-/// The first of the rules F that is broken.
+/// The first of the rules F that is broken. No block is marked before.
+fn first_broken(
+    code: &Code<'_, '_>,
+    survey: &Overview,
+    edges: &Edges,
+    marks: &mut [bool],
+) -> Option<Found>
+    requires code { (G : Table) × IsCode G code.now }
+    requires places { length survey.now.entries.items ≡ length code.now.insts.now }
+    requires entries { AreEntries (insts_of code.now) survey.now.entries.items (length code.now.insts.now) }
+    requires phis { (n : ℕ) → n < length code.now.insts.now → IsOp (insts_of code.now) n target.is_phi
+        → IsTrue survey.now.has_phis }
+    requires edges { IsEdges edges.now }
+    requires count { IsTrue survey.now.has_phis → length edges.now.heads.items ≡ length code.now.insts.now }
+    requires gathered { IsTrue survey.now.has_phis → (G : Table) → IsCode G code.now
+        → AreGathered G (insts_of code.now) edges.now (length code.now.insts.now) }
+    requires marks { IsTrue survey.now.has_phis → length marks.old ≡ length code.now.insts.now }
+    requires clean { (p : ℕ) → marked marks.old p ≡ false }
+    ensures { (G : Table) → IsCode G code.now
+        → MatchOption result (IsUnbroken (Broken G (insts_of code.now)) of_branches)
+        (λ f. IsFirst (Broken G (insts_of code.now)) of_branches f.rule f.inst) }
+{
+    let entries = survey.entries.as_slice();
+    for at in 0..code.insts.len() {
+        if let Some(rule) = broken_at(code, edges, entries, marks, at as u32) {
+            return Some(Found {
+                rule,
+                inst: at as u32,
+            });
+        }
+    }
+    None
+}
+
+/// Surveys the instructions, and looks for the first of the rules F that is broken.
 fn first_fault(alloc: Global, code: &Code<'_, '_>) -> Result<Option<Found>, AllocError>
     requires { (G : Table) × IsCode G code.now }
     ensures { IfOk result (λ o. (G : Table) → IsCode G code.now
@@ -50,15 +88,7 @@ fn first_fault(alloc: Global, code: &Code<'_, '_>) -> Result<Option<Found>, Allo
     let survey = survey(alloc, code.insts)?;
     let edges = edges_for(alloc, code, survey.has_phis)?;
     let mut marks = marks_for(alloc, code.insts.len(), survey.has_phis)?;
-    for at in 0..code.insts.len() {
-        if let Some(rule) = broken_at(code, &edges, &survey.entries, &mut marks, at as u32) {
-            return Ok(Some(Found {
-                rule,
-                inst: at as u32,
-            }));
-        }
-    }
-    Ok(None)
+    Ok(first_broken(code, &survey, &edges, &mut marks))
 }
 
 /// Looks at the branches of a module: where they lead, and which parents each OpPhi names (SPIR-V Specification 1.6,

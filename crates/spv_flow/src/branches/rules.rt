@@ -15,7 +15,6 @@ use spv_module::Rule;
 use spv_module::opcode::{BRANCH_CONDITIONAL, PHI};
 
 /// The first rule that is broken at a merge.
-#[tactic(auto, using(crate::proofs::lemmas::branches::Firsts::merges))]
 fn merge_rule(code: &Code<'_, '_>, at: u32) -> Option<Rule>
     requires at { at < length code.now.insts.now }
     requires op { IsOp (insts_of code.now) at target.is_merge }
@@ -28,7 +27,6 @@ fn merge_rule(code: &Code<'_, '_>, at: u32) -> Option<Rule>
 }
 
 /// The first rule that is broken at a terminator with labels.
-#[tactic(auto, using(crate::proofs::lemmas::branches::Firsts::branches))]
 fn branch_rule(code: &Code<'_, '_>, entries: &[bool], at: u32) -> Option<Rule>
     requires at { at < length code.now.insts.now }
     requires op { IsOp (insts_of code.now) at target.is_branch }

@@ -1,7 +1,7 @@
 //! Calls as pairs of numbers.
 
 /// An OpFunctionCall of a definition in a definition.
-#[derive(Clone, Copy, PartialEq, Eq)]
+#[derive(Clone, Copy)]
 pub struct Call {
     /// The number of the caller's OpFunction.
     pub caller: u32,

@@ -1,7 +1,7 @@
 -- Which of the rules F can be broken at an instruction, by its opcode.
-use Rattle.std.proofs.Common.{◌≡◌, ◌≤◌, ◌<◌, ◌∙◌, inl, inr, ℕ, List, Bool, true, Option, Some, None, map, length, nat_eq, refl, sym, ap, subst, arith}
+use Rattle.std.proofs.Common.{◌≡◌, ◌≤◌, ◌<◌, ◌+◌, ◌∙◌, inl, inr, ℕ, List, Bool, true, Option, Some, None, map, length, nat_eq, refl, sym, ap, subst, arith}
 use Rattle.std.specs.Prelude.{slice_get, IsSomeAnd, IsTrue}
-use Rattle.std.proofs.lemmas.Bool.{eqb-true, cases_order}
+use Rattle.std.proofs.lemmas.Bool.{eqb-true, cases_lt, cases_order}
 use Rattle.std.proofs.lemmas.Bool.Decides.{nat_tests}
 use Rattle.std.proofs.lemmas.Option.{slice_get_within}
 use Rattle.std.proofs.lemmas.List.{length-map}
@@ -174,8 +174,6 @@ merge_fine G is n merge has = λ q s b. none_of_merge G is n q has (at_merge G i
 pub op_labelled_merge : (is : List PlainInst) (n : ℕ) → IsOp is n is_merge → IsOp is n is_labelled
 op_labelled_merge is n op = op_moved is n is_merge is_labelled merge_labelled op
 
-pub ruleset merges = (op_labelled_merge, merge_broken, merge_fine)
-
 -- at a branch F1 comes first
 first_of_branch : (G : Table) (is : List PlainInst) (n : ℕ) (q : Rule) → AtBranch G is n q → rank_of F1 ≤ rank_of q
 first_of_branch G is n _ (AtBranch.lacks l) = omega arith
@@ -216,7 +214,13 @@ branch_fine G is n branch has free apart = λ q s b. none_of_branch G is n q has
 pub op_labelled_branch : (is : List PlainInst) (n : ℕ) → IsOp is n is_branch → IsOp is n is_labelled
 op_labelled_branch is n op = op_moved is n is_branch is_labelled branch_labelled op
 
-pub ruleset branches = (op_labelled_branch, branch_lacks, branch_fine)
+-- no rule is broken at one instruction more
+pub unbroken_more : (G : Table) (is : List PlainInst) (n : ℕ) → ((q : Rule) (m : ℕ) → m < n → stage_of q ≡ of_branches → ¬ (Broken G is q m)) → IsFirstAt G is n None
+    → (q : Rule) (m : ℕ) → m < n + 1 → stage_of q ≡ of_branches → ¬ (Broken G is q m)
+unbroken_more G is n before here q m lt s b = elim (cases_lt m n) [
+  | inl less ↦ before q m less s b
+  | inr more ↦ (let e : m ≡ n = omega (arith, lt, more) in here q s (subst (λ (k : ℕ). Broken G is q k) e b))
+]
 
 -- The first instruction at which a rule is broken.
 pub first_found : (G : Table) (is : List PlainInst) (r : Rule) (n : ℕ) → ((q : Rule) (m : ℕ) → m < n → stage_of q ≡ of_branches → ¬ (Broken G is q m)) → stage_of r ≡ of_branches → Broken G is r n

@@ -1,8 +1,8 @@
 -- Laws of lists.
-use Rattle.std.proofs.Common.{◌≡◌, ◌<◌, ◌⊎◌, ◌++◌, ℕ, zero, suc, List, [], ◌∷◌, refl, ap, inl, inr, Option, Some, None, Bool, true, map, filter, length, get_or}
+use Rattle.std.proofs.Common.{◌≡◌, ◌<◌, ◌≤◌, ◌+◌, ◌⊎◌, ◌++◌, ◌∙◌, ℕ, zero, suc, List, [], ◌∷◌, refl, sym, ap, inl, inr, Option, Some, None, Bool, true, map, filter, length, get_or, arith}
 use Rattle.std.specs.Prelude.{slice_get, option_map}
-use Rattle.std.proofs.lemmas.Bool.{cases_Bool}
-use Rattle.std.proofs.lemmas.Option.{slice_get-map, slice_get_read}
+use Rattle.std.proofs.lemmas.Bool.{cases_Bool, cases_lt}
+use Rattle.std.proofs.lemmas.Option.{slice_get-map, slice_get_read, slice_get-get_or, slice_get_within, same_Some}
 
 module _ {A : Type 0} where
   -- an element of a list with one more at its end
@@ -37,6 +37,20 @@ module _ {A : Type 0} where
 -- an element that was read
 pub found : {A : Type 0} (xs : List A) (k : ℕ) (x : A) → k < length xs → x ≡ get_or xs k x → slice_get xs k ≡ Some x
 found xs k x l e = slice_get_read xs (length xs) k x refl l e
+
+-- what holds of each element so far, and of one more
+pub each_more : {A : Type 0} (P : ℕ → A → Type 0) (xs : List A) (i : ℕ) (d : A) → i < length xs → ((k : ℕ) (x : A) → k < i → slice_get xs k ≡ Some x → P k x) → P i (get_or xs i d)
+    → (k : ℕ) (x : A) → k < i + 1 → slice_get xs k ≡ Some x → P k x
+each_more P xs i d within before here k x lt there = elim (cases_lt k i) [
+  | inl less ↦ before k x less there
+  | inr more ↦ (
+      let e : k ≡ i = omega (arith, lt, more) in
+      let s : get_or xs i d ≡ x = same_Some (get_or xs i d) x (sym (slice_get-get_or xs i d within) ∙ rw e at there) in
+      rw (e, ← s) here)
+]
+
+pub each_all : {A : Type 0} (P : ℕ → A → Type 0) (xs : List A) (i : ℕ) → length xs ≤ i → ((k : ℕ) (x : A) → k < i → slice_get xs k ≡ Some x → P k x) → (k : ℕ) (x : A) → slice_get xs k ≡ Some x → P k x
+each_all P xs i end before k x there = let w = slice_get_within xs k x there in before k x (omega (arith, w, end)) there
 
 -- an element that was mapped
 option_mapped : {A B : Type 0} (v : A → B) (o : Option A) (y : B) → option_map v o ≡ Some y → (x : A) × (o ≡ Some x) × (v x ≡ y)

@@ -1,8 +1,10 @@
 -- The examples, worked out.
-use Rattle.std.proofs.Common.{◌≡◌, ◌<◌, ◌≤◌, ◌⊎◌, ℕ, zero, suc, [], ◌∷◌, refl, inl, inr, arith}
+use Rattle.std.proofs.Common.{◌≡◌, ◌≤◌, ◌⊎◌, ℕ, zero, suc, List, [], ◌∷◌, refl, sym, subst, inl, inr, arith}
 use Rattle.spv_module.specs.declared.fault.Rule.{Rule}
 use Rattle.spv_module.specs.declared.fault.Rule.TheVariants.{G1}
-use Rattle.spv_layout.specs.declared.class.Class.TheVariants.{Function, FunctionEnd}
+use Rattle.spv_layout.specs.declared.class.Class.{Class}
+use Rattle.spv_layout.specs.declared.class.Class.TheVariants.{EntryPoint, Function, Label, Body, Return, FunctionEnd}
+use Rattle.spv_layout.specs.Layout.{classes}
 use Rattle.spv_layout.specs.Rows.{rows}
 use Rattle.spv_layout.specs.Place.{IsAt, IsOfFunction, IsDefinition}
 use Rattle.spv_layout.proofs.Places.{function_same}
@@ -11,80 +13,34 @@ use Rattle.spv_flow.specs.calls.Chain.{Chain, alone}
 use Rattle.spv_flow.specs.calls.Calls.{IsCall, Calls, IsEntryFunction}
 use Rattle.spv_flow.specs.calls.Broken.{Broken, on_cycle}
 use Rattle.spv_flow.specs.calls.Example.{entry, function, label, call, return_op, end, functions, looped}
+use Rattle.spv_flow.proofs.lemmas.branches.Laid.{StandsAt, within_by}
 use Rattle.spv_flow.proofs.lemmas.calls.Chains.{single, keeps}
 
--- no OpFunction after 1 and up to 3, nor after 6 and up to 8, and no OpFunctionEnd before those
-no_function_1 : (k : ℕ) → 1 < k → k ≤ 3 → ¬ (IsAt looped k (Function ∷ []))
-unfolding rows
-no_function_1 zero l h a = absurd (omega (arith, l))
-no_function_1 (suc zero) l h a = absurd (omega (arith, l))
-no_function_1 (suc (suc (suc (suc k)))) l h a = absurd (omega (arith, h))
-no_function_1 _ l h a = cc
+-- The functions stand at 1 to 5 and at 6 to 10.
+abbrev laid : List Class
+laid = EntryPoint ∷ Function ∷ Label ∷ Body ∷ Return ∷ FunctionEnd ∷ Function ∷ Label ∷ Body ∷ Return ∷ FunctionEnd ∷ []
 
-no_end_1 : (k : ℕ) → 1 ≤ k → k < 3 → ¬ (IsAt looped k (FunctionEnd ∷ []))
+looped_classes : classes looped ≡ laid
 unfolding rows
-no_end_1 zero l h a = absurd (omega (arith, l))
-no_end_1 (suc (suc (suc k))) l h a = absurd (omega (arith, h))
-no_end_1 _ l h a = cc
+looped_classes = refl
 
-no_function_6 : (k : ℕ) → 6 < k → k ≤ 8 → ¬ (IsAt looped k (Function ∷ []))
-unfolding rows
-no_function_6 zero l h a = absurd (omega (arith, l))
-no_function_6 (suc zero) l h a = absurd (omega (arith, l))
-no_function_6 (suc (suc zero)) l h a = absurd (omega (arith, l))
-no_function_6 (suc (suc (suc zero))) l h a = absurd (omega (arith, l))
-no_function_6 (suc (suc (suc (suc zero)))) l h a = absurd (omega (arith, l))
-no_function_6 (suc (suc (suc (suc (suc zero))))) l h a = absurd (omega (arith, l))
-no_function_6 (suc (suc (suc (suc (suc (suc zero)))))) l h a = absurd (omega (arith, l))
-no_function_6 (suc (suc (suc (suc (suc (suc (suc (suc (suc k))))))))) l h a = absurd (omega (arith, h))
-no_function_6 _ l h a = cc
+of_1 : (n : ℕ) → 1 ≤ n → n ≤ 3 → IsOfFunction looped n 1
+of_1 n from to = within_by looped laid Function (FunctionEnd ∷ []) n 1 4 3 looped_classes (omega (arith, to)) (omega arith) to from refl refl refl
 
-no_end_6 : (k : ℕ) → 6 ≤ k → k < 8 → ¬ (IsAt looped k (FunctionEnd ∷ []))
-unfolding rows
-no_end_6 zero l h a = absurd (omega (arith, l))
-no_end_6 (suc zero) l h a = absurd (omega (arith, l))
-no_end_6 (suc (suc zero)) l h a = absurd (omega (arith, l))
-no_end_6 (suc (suc (suc zero))) l h a = absurd (omega (arith, l))
-no_end_6 (suc (suc (suc (suc zero)))) l h a = absurd (omega (arith, l))
-no_end_6 (suc (suc (suc (suc (suc zero))))) l h a = absurd (omega (arith, l))
-no_end_6 (suc (suc (suc (suc (suc (suc (suc (suc k)))))))) l h a = absurd (omega (arith, h))
-no_end_6 _ l h a = cc
-
-label_1 : IsOfFunction looped 2 1
-unfolding rows
-label_1 = record {
-  begun = record { within = omega arith; up_to = omega arith; there = refl; last = λ k l h. no_function_1 k l (omega (arith, h)) };
-  not_ended = λ k l h. no_end_1 k l (omega (arith, h));
-}
+of_6 : (n : ℕ) → 6 ≤ n → n ≤ 8 → IsOfFunction looped n 6
+of_6 n from to = within_by looped laid Function (FunctionEnd ∷ []) n 6 9 8 looped_classes (omega (arith, to)) (omega arith) to from refl refl refl
 
 call_1 : IsOfFunction looped 3 1
-unfolding rows
-call_1 = record {
-  begun = record { within = omega arith; up_to = omega arith; there = refl; last = λ k l h. no_function_1 k l (omega (arith, h)) };
-  not_ended = λ k l h. no_end_1 k l (omega (arith, h));
-}
+call_1 = of_1 3 (omega arith) (omega arith)
 
-label_6 : IsOfFunction looped 7 6
-unfolding rows
-label_6 = record {
-  begun = record { within = omega arith; up_to = omega arith; there = refl; last = λ k l h. no_function_6 k l (omega (arith, h)) };
-  not_ended = λ k l h. no_end_6 k l (omega (arith, h));
-}
-
-call_6 : IsOfFunction looped 8 6
-unfolding rows
-call_6 = record {
-  begun = record { within = omega arith; up_to = omega arith; there = refl; last = λ k l h. no_function_6 k l (omega (arith, h)) };
-  not_ended = λ k l h. no_end_6 k l (omega (arith, h));
-}
+label_at : (n : ℕ) → StandsAt laid n (Label ∷ []) → IsAt looped n (Label ∷ [])
+label_at n s = subst (λ (l : List Class). StandsAt l n (Label ∷ [])) (sym looped_classes) s
 
 defined_1 : IsDefinition looped 1
-unfolding rows
-defined_1 = record { label = 2; there = refl; of = label_1 }
+defined_1 = record { label = 2; there = label_at 2 refl; of = of_1 2 (omega arith) (omega arith) }
 
 defined_6 : IsDefinition looped 6
-unfolding rows
-defined_6 = record { label = 7; there = refl; of = label_6 }
+defined_6 = record { label = 7; there = label_at 7 refl; of = of_6 7 (omega arith) (omega arith) }
 
 pub called_3 : IsCall looped 3 1 6
 called_3 = record {
@@ -106,7 +62,7 @@ called_8 = record {
   opcode = refl;
   callee = 4;
   named = refl;
-  of = call_6;
+  of = of_6 8 (omega arith) (omega arith);
   caller = defined_6;
   function = record { inst = function 4; there = refl; result = refl };
   called = defined_6;

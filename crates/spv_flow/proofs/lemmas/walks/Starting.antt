@@ -160,6 +160,22 @@ rising_more xs y rising below j k lt within =
           omega (arith, a, b, h))
     ]
 
+-- the first block alone
+one_index : (f k : ℕ) → k < 1 → slice_index (f ∷ []) k ≡ f
+one_index f zero lt = refl
+one_index f (suc k) lt = absurd (omega (arith, lt))
+
+pub starts_first : (is : List PlainInst) (f : ℕ) (numbers : List ℕ) → f < length numbers → AreStarts is f (f + 1) (f ∷ []) (set numbers f 0)
+starts_first is f numbers within = record {
+  some = omega arith;
+  first = refl;
+  rising = λ j k lt to. absurd (omega (arith, lt, to));
+  below = λ k lt. (let e = one_index f k lt in omega (arith, e));
+  begun = λ k pos lt. absurd (omega (arith, pos, lt));
+  found = λ m after before begin. absurd (omega (arith, after, before));
+  numbered = λ k lt. ap (slice_index (set numbers f 0)) (one_index f k lt) ∙ get_or-set_same numbers f 0 0 within ∙ omega (arith, lt);
+}
+
 -- an instruction that begins no block
 pub starts_other : (is : List PlainInst) (f n : ℕ) (starts numbers : List ℕ) → AreStarts is f n starts numbers → ¬ (IsBegin is n) → AreStarts is f (n + 1) starts numbers
 starts_other is f n starts numbers s not = record {

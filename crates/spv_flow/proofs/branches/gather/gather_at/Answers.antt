@@ -1,3 +1,5 @@
+use Rattle.std.proofs.Common.{arith}
+use Rattle.std.proofs.lemmas.Grind.{elements}
 use Rattle.std.proofs.Common.{◌≡◌, ◌∙◌, Some, get_or, sym}
 use Rattle.std.specs.Prelude.{slice_get}
 use Rattle.std.proofs.lemmas.Result.{on_ok_weaker}
@@ -24,3 +26,6 @@ returns-in-Some-clause-adds c = on_ok_weaker c.add_targets.result (λ h G is. h 
 
 pub returns-in-None-clause-adds : goal.returns-in-None-clause-adds
 returns-in-None-clause-adds c = λ G is. none_added G (insts_of c.args.code.now) c.args.edges.now c.args.at (λ p b l. c.in-None.ensures.block G is c.requires.at p l.of)
+
+pub returns-then-not-is_branch-clause-adds : goal.returns-then-not-is_branch-clause-adds
+returns-then-not-is_branch-clause-adds c = grind (arith, elements)

@@ -1,3 +1,4 @@
+use Rattle.std.proofs.lemmas.Grind.{elements}
 use Rattle.std.proofs.Common.{◌-◌, map, get_or, arith}
 use Rattle.spv_module.specs.Module.{plain_inst}
 use Rattle.spv_flow.proofs.lemmas.branches.Labelled.{inst_get}
@@ -14,3 +15,6 @@ returns-else-insts-at-eq-LABEL c =
     let within = c.requires.at in
     begins_by (map plain_inst insts) at (at - 1) (plain_inst (get_or insts at d)) (plain_inst (get_or insts (at - 1) e)) c.is_terminator.result (inst_get insts at d within) c.if-insts-at-eq-LABEL.false
     (omega (arith, some)) (inst_get insts (at - 1) e (omega (arith, within))) c.is_terminator.ensures
+
+pub returns-then-insts-at-eq-LABEL : goal.returns-then-insts-at-eq-LABEL
+returns-then-insts-at-eq-LABEL c = grind (arith, elements)

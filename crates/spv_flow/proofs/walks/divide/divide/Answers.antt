@@ -1,9 +1,10 @@
+use Rattle.std.proofs.lemmas.Grind.{common_steps}
 use Rattle.std.proofs.Common.{◌≡◌, ◌+◌, ◌++◌, ◌∙◌, ℕ, List, [], ◌∷◌, length, set, sym, subst, arith}
 use Rattle.std.proofs.lemmas.List.{length-set, length-map}
 use Rattle.spv_module.specs.Module.{plain_inst}
 use Rattle.spv_flow.specs.walks.inner.Code.{insts_of}
 use Rattle.spv_flow.specs.walks.inner.Starts.{AreStarts, IsLaid}
-use Rattle.spv_flow.proofs.lemmas.walks.Starting.{few_starts, starts_more, starts_other, starts_all}
+use Rattle.spv_flow.proofs.lemmas.walks.Starting.{few_starts, starts_first, starts_more, starts_other, starts_all}
 use Rattle.spv_flow.proofs.walks.divide.divide.Goals as goal
 use Rattle.spv_flow.proofs.walks.divide.divide.Goals.{then-begins+in_ok-push-2, else-begins}
 
@@ -49,3 +50,24 @@ returns c =
     let e : c.loop-at.at ≡ c.args.end = omega (arith, last, to) in
     let s = subst (λ (n : ℕ). AreStarts is f n c.loop-at.starts.items c.loop-at.numbers) e c.loop-at.invariant.starts in
     subst (λ (xs : List ℕ). IsLaid is f c.args.end xs c.loop-at.numbers) (sym c.in_ok-push-3.ensures.items) (starts_all is f c.args.end c.loop-at.starts.items c.loop-at.numbers x s)
+
+pub bounds-numbers-function : goal.bounds-numbers-function
+bounds-numbers-function c = grind (arith, common_steps)
+
+pub begins-requires-clause-at : goal.begins-requires-clause-at
+begins-requires-clause-at c = grind (arith, common_steps)
+
+pub bounds-numbers-at : goal.bounds-numbers-at
+bounds-numbers-at c = grind (arith, common_steps)
+
+pub loop-at-init : goal.loop-at-init
+loop-at-init c =
+    let numbers = c.args.numbers.now in
+    let some = c.requires.extent.some in
+    let within = c.requires.extent.within in
+    let count = c.requires.count in
+    let l = length-map c.args.code.now.insts.now plain_inst in
+    record {
+      count = length-set numbers c.args.function 0 ∙ count;
+      starts = rw (c.in_ok-push.ensures.items, c.clear.ensures.items) (starts_first (insts_of c.args.code.now) c.args.function numbers (omega (arith, some, within, count, l)));
+    }

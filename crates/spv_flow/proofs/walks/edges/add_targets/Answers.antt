@@ -1,3 +1,4 @@
+use Rattle.std.proofs.lemmas.Grind.{common_steps}
 use Rattle.std.proofs.Common.{◌≡◌, ◌+◌, ◌-◌, ◌∙◌, ℕ, List, get_or, sym, subst, arith}
 use Rattle.std.specs.Prelude.{slice_index}
 use Rattle.std.proofs.lemmas.List.{length-map}
@@ -104,3 +105,12 @@ returns-else-not-is_terminator c =
           let ended = op_holds (insts_of code) last i is_terminator there (sym c.is_terminator.ensures ∙ w.if-not-is_terminator.false) in
           none_after code b.starts.now c.args.block last c.args.targets.now.items plain ended e)
     ]
+
+pub overflow_sub-last : goal.overflow_sub-last
+overflow_sub-last c = grind (arith, common_steps)
+
+pub bounds-code-last : goal.bounds-code-last
+bounds-code-last c = grind (arith, common_steps)
+
+pub add_labels-requires-clause-at : goal.add_labels-requires-clause-at
+add_labels-requires-clause-at c = grind (arith, common_steps)

@@ -1,3 +1,5 @@
+use Rattle.std.proofs.Common.{arith}
+use Rattle.std.proofs.lemmas.Grind.{common_steps}
 use Rattle.std.proofs.Common.{get_or}
 use Rattle.spv_module.specs.Module.{plain_inst}
 use Rattle.spv_flow.proofs.lemmas.branches.Labelled.{inst_get}
@@ -27,3 +29,6 @@ returns c = λ G is.
     let label = c.in_ok-place.ensures.label G is in
     target_by G code c.args.blocks.now c.args.at c.args.n c.in_ok-id.id c.in_ok-place.place i is c.requires.blocks there (c.in_ok-id.ensures G (is.plan.fits c.args.at i there)) label c.at_label.result
     (c.at_label.ensures (insts_of code) c.requires.blocks label.label)
+
+pub at_label-requires : goal.at_label-requires
+at_label-requires c = grind (arith, common_steps)

@@ -1,3 +1,4 @@
+use Rattle.std.proofs.lemmas.Grind.{common_steps}
 use Rattle.std.proofs.Common.{ℕ, arith}
 use Rattle.spv_table.specs.Table.{Table}
 use Rattle.spv_graphs.specs.declared.queries.Query.{Query}
@@ -30,3 +31,6 @@ returns c =
     let all = adds_end code P c.loop-at.at c.args.queries.now.items c.loop-at.queries.items c.loop-at.invariant (λ G is j a k. let to = k.0.to in omega (arith, to, end)) in
     adds_as code (λ (G : Table) (a : Query). (j : ℕ) × P G j a) (λ (G : Table) (a : Query). IsQueryIn G (insts_of code) starts c.args.block a) c.args.queries.now.items c.loop-at.queries.items all
     (λ G is a k. (k.0, k.1.0, k.1.1)) (λ G is a k. (k.0, (k.1, k.2)))
+
+pub add_queries-requires-clause-at : goal.add_queries-requires-clause-at
+add_queries-requires-clause-at c = grind (arith, common_steps)

@@ -1,3 +1,4 @@
+use Rattle.std.proofs.lemmas.Grind.{common_steps}
 use Rattle.std.proofs.Common.{◌<◌, ◌∙◌, inl, inr, ℕ, length, nat_le, ◌&&◌, get_or, sym, subst, eq-eqb, arith}
 use Rattle.std.proofs.lemmas.Bool.{eqb-true}
 use Rattle.std.proofs.lemmas.Result.{on_ok_weaker}
@@ -82,3 +83,6 @@ returns c =
       | inl u ↦ u.0 phi
       | inr p ↦ c.if-code-start-eq-LABEL.false (eqb-true j.opcode opcode.LABEL (op_tells (insts_of code) s j is_label here (subst (λ (n : ℕ). IsOp (insts_of code) n is_label) (sym c.requires.start) p.1)))
     ])
+
+pub bounds-code-start : goal.bounds-code-start
+bounds-code-start c = grind (arith, common_steps)

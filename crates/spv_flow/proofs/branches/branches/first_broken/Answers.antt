@@ -1,23 +1,29 @@
-use Rattle.std.proofs.Common.{◌∙◌, length, ap, arith}
+use Rattle.std.proofs.Common.{◌∙◌, arith}
 use Rattle.std.proofs.lemmas.List.{length-map}
 use Rattle.spv_module.specs.Module.{plain_inst}
 use Rattle.spv_flow.specs.branches.inner.Code.{insts_of}
-use Rattle.spv_flow.proofs.lemmas.branches.Firsts.{broken_within, first_found}
-use Rattle.spv_flow.proofs.branches.branches.first_fault.Goals as goal
+use Rattle.spv_flow.proofs.lemmas.branches.Firsts.{broken_within, first_found, unbroken_more}
+use Rattle.spv_flow.proofs.branches.branches.first_broken.Goals as goal
 
 pub broken_at-requires-clause-gathered : goal.broken_at-requires-clause-gathered
-broken_at-requires-clause-gathered c = λ G is phi. c.in_ok-edges.ensures.gathered (c.in_ok-survey.ensures.phis c.loop-at.at (omega arith) phi) G is
+broken_at-requires-clause-gathered c = λ G is phi. c.requires.gathered (c.requires.phis c.loop-at.at (omega arith) phi) G is
 
 pub broken_at-requires-clause-count : goal.broken_at-requires-clause-count
-broken_at-requires-clause-count c = λ phi. c.in_ok-edges.ensures.count (c.in_ok-survey.ensures.phis c.loop-at.at (omega arith) phi)
+broken_at-requires-clause-count c = λ phi. c.requires.count (c.requires.phis c.loop-at.at (omega arith) phi)
 
 pub broken_at-requires-clause-marks : goal.broken_at-requires-clause-marks
-broken_at-requires-clause-marks c = λ phi. ap length c.deref_mut.ensures.value ∙ c.loop-at.invariant.count (c.in_ok-survey.ensures.phis c.loop-at.at (omega arith) phi)
+broken_at-requires-clause-marks c = λ phi. c.loop-at.auto.marks ∙ c.requires.marks (c.requires.phis c.loop-at.at (omega arith) phi)
 
 pub returns-in-Some : goal.returns-in-Some
 returns-in-Some c = λ G is.
     let h = c.in-Some.ensures.rule G is in
     first_found G (insts_of c.args.code.now) c.in-Some.rule c.loop-at.at (c.loop-at.invariant.unbroken G is) h.0 h.1 h.2
+
+pub loop-at-preserved : goal.loop-at-preserved
+loop-at-preserved c = record {
+  clean = c.in_default.ensures.clean;
+  unbroken = λ G is. unbroken_more G (insts_of c.args.code.now) c.loop-at.at (c.loop-at.invariant.unbroken G is) (c.in_default.ensures.rule G is);
+}
 
 pub returns : goal.returns
 returns c = λ G is q n s b.
