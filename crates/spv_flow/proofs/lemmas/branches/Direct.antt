@@ -1,5 +1,5 @@
 -- The labels of an OpBranch and of an OpBranchConditional, which are read at their places.
-use Rattle.std.proofs.Common.{◌≡◌, ◌≤◌, ◌∙◌, ◌⊎◌, inl, inr, ℕ, List, true, Some, None, nat_le, ◌&&◌, refl, sym, ap, subst, arith}
+use Rattle.std.proofs.Common.{◌≡◌, ◌≤◌, ◌∙◌, ◌⊎◌, inl, inr, ℕ, List, true, Some, nat_le, ◌&&◌, refl, sym, ap, subst, arith}
 use Rattle.std.specs.Prelude.{slice_get, option_and_then}
 use Rattle.std.proofs.lemmas.Bool.{cases_Bool, cases_lt, eqb-true}
 use Rattle.std.proofs.lemmas.Bool.Decides.{nat_tests}
@@ -28,10 +28,6 @@ jump_labelled x h = ap is_labelled (eqb-true x opcode.BRANCH h)
 -- the id at a label's place
 pub used_by : (G : Table) (is : List PlainInst) (at n x k : ℕ) (i : PlainInst) → slice_get is at ≡ Some i → i.opcode ≡ k → is_labelled k ≡ true → is_label_at k n ≡ true → FitsShape G i → Some x ≡ option_and_then id_of (slice_get i.operands n) → IsUsedAt G is at n x Label
 used_by G is at n x k i there e h t fits g = use_at G is at n x Label i there (label_told G i n (Some x) (ap is_labelled e ∙ h) (ap (λ (o : ℕ). is_label_at o n) e ∙ t) g fits)
-
--- where none is there, none is used
-pub unused_by : (G : Table) (is : List PlainInst) (at n x k : ℕ) (i : PlainInst) → slice_get is at ≡ Some i → i.opcode ≡ k → is_labelled k ≡ true → is_label_at k n ≡ true → FitsShape G i → None ≡ option_and_then id_of (slice_get i.operands n) → ¬ (IsUsedAt G is at n x Label)
-unused_by G is at n x k i there e h t fits g u = label_told G i n None (ap is_labelled e ∙ h) (ap (λ (o : ℕ). is_label_at o n) e ∙ t) g fits x (use_in G is at n x Label i there u)
 
 -- a label is at a label's place
 pub placed_at : (G : Table) (is : List PlainInst) (at n x k : ℕ) (i : PlainInst) → slice_get is at ≡ Some i → i.opcode ≡ k → is_labelled k ≡ true → FitsShape G i → IsUsedAt G is at n x Label → is_label_at k n ≡ true

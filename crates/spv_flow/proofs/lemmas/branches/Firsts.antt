@@ -23,9 +23,7 @@ use Rattle.spv_flow.specs.branches.Found.{IsRefusal}
 use Rattle.spv_flow.specs.branches.Target.{is_phi, is_merge, is_branch, is_conditional, IsOp, HasParents}
 use Rattle.spv_flow.specs.branches.Broken.{Broken}
 use Rattle.spv_flow.specs.branches.inner.Graph.{HasLabels, LacksLabel, LeadsToEntry, HasSameLabels, IsFirstAt}
-use Rattle.spv_flow.specs.branches.inner.Labels.{is_labelled}
 use Rattle.spv_flow.proofs.lemmas.branches.Labelled.{op_tells, op_holds}
-use Rattle.spv_flow.proofs.lemmas.branches.Places.{branch_labelled, merge_labelled}
 
 -- an instruction with an opcode is there
 pub record Holds (is : List PlainInst) (n : ℕ) (test : ℕ → Bool) : Type 0 where
@@ -171,9 +169,6 @@ merge_broken G is n merge l = (refl, Broken.no_label n l.operand l.id (inr merge
 pub merge_fine : (G : Table) (is : List PlainInst) (n : ℕ) → IsOp is n is_merge → HasLabels G is n → IsFirstAt G is n None
 merge_fine G is n merge has = λ q s b. none_of_merge G is n q has (at_merge G is q n merge s b)
 
-pub op_labelled_merge : (is : List PlainInst) (n : ℕ) → IsOp is n is_merge → IsOp is n is_labelled
-op_labelled_merge is n op = op_moved is n is_merge is_labelled merge_labelled op
-
 -- at a branch F1 comes first
 first_of_branch : (G : Table) (is : List PlainInst) (n : ℕ) (q : Rule) → AtBranch G is n q → rank_of F1 ≤ rank_of q
 first_of_branch G is n _ (AtBranch.lacks l) = omega arith
@@ -210,9 +205,6 @@ branch_same G is n branch op has free h = (refl, Broken.same_labels n h.id op h.
 
 pub branch_fine : (G : Table) (is : List PlainInst) (n : ℕ) → IsOp is n is_branch → HasLabels G is n → ¬ (LeadsToEntry G is n) → (IsOp is n is_conditional → ¬ (HasSameLabels G is n 1 2)) → IsFirstAt G is n None
 branch_fine G is n branch has free apart = λ q s b. none_of_branch G is n q has free apart (at_branch G is q n branch s b)
-
-pub op_labelled_branch : (is : List PlainInst) (n : ℕ) → IsOp is n is_branch → IsOp is n is_labelled
-op_labelled_branch is n op = op_moved is n is_branch is_labelled branch_labelled op
 
 -- no rule is broken at one instruction more
 pub unbroken_more : (G : Table) (is : List PlainInst) (n : ℕ) → ((q : Rule) (m : ℕ) → m < n → stage_of q ≡ of_branches → ¬ (Broken G is q m)) → IsFirstAt G is n None

@@ -23,7 +23,7 @@ use Rattle.spv_layout.specs.inner.Test.{form_in, form_at}
 use Rattle.spv_layout.proofs.Shapes.{use_same}
 use Rattle.spv_layout.proofs.Uses.{role_by}
 use Rattle.spv_flow.specs.branches.inner.Labels.{is_labelled, is_label_at, AreSameCases}
-use Rattle.spv_flow.specs.branches.Target.{is_merge, is_branch}
+use Rattle.spv_flow.specs.branches.Target.{is_branch}
 use Rattle.spv_flow.proofs.lemmas.branches.Labelled.{label_some}
 
 lt_true : (a b : ℕ) → a < b → nat_lt a b ≡ true
@@ -377,9 +377,6 @@ same_case G i n to y k x s w same fits low high u = by_test (is_label_at opcode.
 
 pub branch_labelled : (x : ℕ) → is_branch x ≡ true → is_labelled x ≡ true
 branch_labelled x h = grind (arith, nat_tests)
-
-pub merge_labelled : (x : ℕ) → is_merge x ≡ true → is_labelled x ≡ true
-merge_labelled x h = grind (arith, nat_tests)
 
 -- A branch uses its labels, and beside them its first operand at most: that of OpBranch is a label.
 

@@ -9,14 +9,13 @@ use Rattle.spv_layout.specs.Place.{IsDefinition}
 use Rattle.spv_layout.proofs.Places.{function_same}
 use Rattle.spv_ids.specs.declared.ids.Ids.{Ids}
 use Rattle.spv_ids.specs.Definition.{IsDefinedAt}
-use Rattle.spv_ids.specs.Outcome.{IsDefinitionOf, IsOnly, definition_in}
+use Rattle.spv_ids.specs.Outcome.{IsDefinitionOf, IsOnly, definition_in, AreNumbered}
 use Rattle.spv_layout.proofs.Spans.{below_or}
 use Rattle.spv_flow.proofs.lemmas.calls.Insts.{same_inst}
 use Rattle.spv_flow.specs.declared.calls.graph.Call.{Call}
 use Rattle.spv_flow.specs.calls.Calls.{IsCall, IsEntryFunction}
 use Rattle.spv_ids.specs.inner.Test.{id_in}
 use Rattle.spv_flow.specs.calls.inner.Found.{callee_in, entry_in, IsLate, IsOfDefinition, IsThatCall, AreCalls, AreEntries}
-use Rattle.spv_ids.specs.Outcome.{AreNumbered}
 use Rattle.spv_flow.proofs.lemmas.calls.Lists.{pushed_cases, pushed_keeps, pushed_last}
 use Rattle.spv_flow.proofs.lemmas.calls.Placed.{call_late}
 
@@ -35,6 +34,10 @@ entry_told i x h = elim (cases_Bool (nat_eq i.opcode opcode.ENTRY_POINT)) [
   | inl t ↦ (eqb-true i.opcode opcode.ENTRY_POINT t, id_in_some (slice_get i.operands 1) x (rw t at h))
   | inr n ↦ (let h' = rw n at h in cc)
 ]
+
+-- no call stands before the first instruction
+pub calls_none : (is : List PlainInst) → AreCalls is 0 []
+calls_none is = record { sound = λ k c h. cc; complete = λ m f g lt k. absurd (omega (arith, lt)); rising = λ j k c d lt h i. cc }
 
 -- the callee of a call
 call_callee : (is : List PlainInst) (n f g : ℕ) (i : PlainInst) → slice_get is n ≡ Some i → (k : IsCall is n f g) → callee_in i ≡ Some k.callee

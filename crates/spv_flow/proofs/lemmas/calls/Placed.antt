@@ -1,15 +1,13 @@
 -- Definitions, by where instructions stand.
-use Rattle.std.proofs.Common.{◌≡◌, ◌∙◌, ℕ, List, [], ◌∷◌, refl, ap, Option, Some, None, IsTrue, arith}
-use Rattle.std.specs.Prelude.{slice_get, IsSomeAnd, option_map, MatchOption}
+use Rattle.std.proofs.Common.{◌≡◌, ◌∙◌, ℕ, List, [], refl, ap, Option, Some, None, arith}
+use Rattle.std.specs.Prelude.{slice_get, option_map, MatchOption}
 use Rattle.std.proofs.lemmas.Option.{slice_get-map}
 use Rattle.spv_module.specs.declared.opcode.TheConstants as opcode
 use Rattle.spv_module.specs.Operand.{PlainInst}
 use Rattle.spv_layout.specs.declared.class.Class.{Class}
 use Rattle.spv_layout.specs.declared.class.Class.TheVariants.{Capability, Extension, Import, MemoryModel, EntryPoint, ExecutionMode, Source, Name, Processed, Decoration, Function}
 use Rattle.spv_layout.specs.declared.place.Place.{Place}
-use Rattle.spv_layout.specs.Class.{is_among}
 use Rattle.spv_layout.specs.Rows.{rows, class_of}
-use Rattle.spv_layout.specs.Layout.{classes}
 use Rattle.spv_layout.specs.Place.{IsOfFunction, IsOfSection, IsDefinition, section_of}
 use Rattle.spv_layout.proofs.Places.{last_same, section_same}
 use Rattle.spv_flow.specs.calls.inner.Found.{ArePlaces, IsLate, IsOfDefinition}
@@ -24,26 +22,6 @@ of_itself is f d =
       begun = record { within = omega arith; up_to = omega arith; there = b.there; last = λ k l h. absurd (omega (arith, l, h)) };
       not_ended = λ k l h. absurd (omega (arith, l, h));
     }
-
-among_late : (c : Class) → IsTrue (is_among c (Function ∷ [])) → section_of c ≡ None
-among_late Capability h = cc
-among_late Extension h = cc
-among_late Import h = cc
-among_late MemoryModel h = cc
-among_late EntryPoint h = cc
-among_late ExecutionMode h = cc
-among_late Source h = cc
-among_late Name h = cc
-among_late Processed h = cc
-among_late Decoration h = cc
-among_late _ h = refl
-
-at_late : (o : Option Class) → IsSomeAnd o (λ c. IsTrue (is_among c (Function ∷ []))) → (c : Class) × (o ≡ Some c) × (section_of c ≡ None)
-at_late None h = absurd h
-at_late (Some c) h = (c, refl, among_late c h)
-
-pub function_late : (is : List PlainInst) (f : ℕ) → IsDefinition is f → IsLate is f
-function_late is f d = let r = at_late (slice_get (classes is) f) d.of.begun.there in record { class = r.0; there = r.1; late = r.2 }
 
 call_late_class : section_of (class_of opcode.FUNCTION_CALL) ≡ None
 unfolding rows

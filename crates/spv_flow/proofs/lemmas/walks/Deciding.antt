@@ -1,6 +1,6 @@
 -- What the queries of a function's graph tell of the walks of the function.
 use Rattle.std.proofs.Common.{◌≡◌, ◌==◌, ◌<◌, ◌≤◌, ◌⊎◌, ◌+◌, ◌-◌, ◌∙◌, ℕ, List, [], ◌∷◌, Bool, true, refl, sym, ap, subst, inl, inr, length, Option, Some, None, arith}
-use Rattle.std.specs.Prelude.{Contains, Result, Ok, Err, IfOk, ◌++◌, slice_get, slice_index, slice_index_or, slice_range}
+use Rattle.std.specs.Prelude.{Contains, ◌++◌, slice_get, slice_index, slice_index_or, slice_range}
 use Rattle.std.proofs.lemmas.Bool.{cases_lt, eqb-true}
 use Rattle.std.proofs.lemmas.Option.{slice_get_within, slice_get_read, slice_get-get_or, get_or_from_slice_get}
 use Rattle.std.proofs.lemmas.List.{length-map}
@@ -250,10 +250,6 @@ all_by G c starts none queries is empty adds =
       sound = λ a k. adds.sound a (subst (λ (xs : List Query). Contains xs a) e k) G is;
       complete = λ a k. subst (λ (xs : List Query). Contains xs a) (sym e) (adds.complete a (G, is, k));
     }
-
-pub if_first : {E : Type 0} (r : Result (Option ℕ) E) (P Q : Option ℕ → Type 0) → ((o : Option ℕ) → P o → Q o) → IfOk r P → IfOk r Q
-if_first (Ok o) P Q f h = f o h
-if_first (Err e) P Q f h = h
 
 -- Where nothing is asked of a function that has no OpPhi, nothing is unavailable.
 

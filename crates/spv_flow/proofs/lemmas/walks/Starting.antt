@@ -2,7 +2,7 @@
 use Rattle.std.proofs.Common.{◌≡◌, ◌≢◌, ◌≤◌, ◌<◌, ◌+◌, ◌-◌, ◌++◌, ◌∙◌, inl, inr, ℕ, zero, suc, List, [], ◌∷◌, Bool, true, false, Some, length, set, refl, sym, ap, subst, arith}
 use Rattle.std.specs.Prelude.{slice_get, slice_index, MatchBool}
 use Rattle.std.proofs.lemmas.Bool.{cases_lt, cases_order, eqb-true}
-use Rattle.std.proofs.lemmas.List.{get_or-set_same, get_or-set_other, length-append, get_or_append_left}
+use Rattle.std.proofs.lemmas.List.{get_or-set_same, get_or-set_other, length-append, get_or_append_left, length-map}
 use Rattle.spv_module.specs.declared.opcode.TheConstants as opcode
 use Rattle.spv_module.specs.Operand.{PlainInst}
 use Rattle.spv_layout.specs.declared.class.Class.TheVariants.{Function, FunctionEnd}
@@ -11,7 +11,6 @@ use Rattle.spv_flow.specs.branches.Target.{is_phi, is_label, IsOp}
 use Rattle.spv_flow.specs.branches.inner.Target.{is_function, is_terminator}
 use Rattle.spv_flow.proofs.lemmas.branches.Firsts.{holds}
 use Rattle.spv_flow.proofs.lemmas.branches.Labelled.{op_tells, op_holds}
-use Rattle.std.proofs.lemmas.List.{length-map}
 use Rattle.std.proofs.lemmas.Option.{slice_get_within}
 use Rattle.spv_module.specs.Module.{plain_inst}
 use Rattle.spv_flow.specs.declared.walks.code.Code.{Code}
@@ -367,3 +366,11 @@ start_within c b are k lt =
     let h = end_within c b are (k + 1) lt in
     let r = are.laid.divided.order k (k + 1) (omega arith) lt in
     omega (arith, h, r)
+
+-- the last instruction of a block
+pub block_last : (c : Code) (b : Blocks) → AreBlocks (insts_of c) b → (k : ℕ) → k + 1 < length b.starts.now
+    → (1 ≤ slice_index b.starts.now (k + 1)) × (slice_index b.starts.now (k + 1) - 1 + 1 ≡ slice_index b.starts.now (k + 1)) × (slice_index b.starts.now (k + 1) - 1 < length c.insts.now)
+block_last c b are k lt =
+    let h = end_within c b are (k + 1) lt in
+    let r = are.laid.divided.order k (k + 1) (omega arith) lt in
+    (omega (arith, r), omega (arith, r), omega (arith, r, h))

@@ -1,7 +1,8 @@
-use Rattle.std.proofs.Common.{map}
+use Rattle.std.proofs.Common.{◌≡◌, ℕ, length, map, subst, arith}
 use Rattle.spv_module.specs.Module.{plain_inst}
 use Rattle.spv_layout.proofs.Misfits.{inst_there}
-use Rattle.spv_flow.proofs.lemmas.calls.Gathering.{calls_more, calls_past}
+use Rattle.spv_flow.specs.calls.inner.Found.{AreCalls}
+use Rattle.spv_flow.proofs.lemmas.calls.Gathering.{calls_none, calls_more, calls_past}
 use Rattle.spv_flow.proofs.calls.gather.calls_of.Goals.{in-Some+in_ok-push, in_default}
 use Rattle.spv_flow.proofs.calls.gather.calls_of.Goals as goal
 
@@ -15,3 +16,13 @@ loop-i-preserved c =
           (calls_more is c.args.ids.now c.loop-i.i c.loop-i.calls.items w.in-Some.call c.requires.ids c.loop-i.invariant (w.in-Some.ensures is c.requires.places c.requires.ids h))
       | in_default w ↦ rw w.calls-is (calls_past is c.loop-i.i c.loop-i.calls.items c.loop-i.invariant (w.in_default.ensures is c.requires.places c.requires.ids h))
     ]
+
+pub loop-i-init : goal.loop-i-init
+loop-i-init c = rw c.new-calls.ensures.items (calls_none (map plain_inst c.args.insts.now))
+
+pub returns : goal.returns
+returns c =
+    let last = c.loop-i-test.false in
+    let to = c.loop-i.auto.i-end in
+    let e : c.loop-i.i ≡ length c.args.insts.now = omega (arith, last, to) in
+    subst (λ (n : ℕ). AreCalls (map plain_inst c.args.insts.now) n c.loop-i.calls.items) e c.loop-i.invariant

@@ -1,6 +1,5 @@
-use Rattle.std.proofs.Common.{arith}
+use Rattle.std.proofs.Common.{◌∙◌, sym, arith}
 use Rattle.std.proofs.lemmas.Grind.{elements}
-use Rattle.std.proofs.Common.{◌∙◌, sym}
 use Rattle.spv_flow.proofs.lemmas.calls.Placed.{told_definition, told_no_definition}
 use Rattle.spv_flow.proofs.calls.gather.definition_of.Goals as goal
 

@@ -1,5 +1,4 @@
-use Rattle.std.proofs.lemmas.Grind.{common_steps}
-use Rattle.std.proofs.Common.{◌≡◌, ◌+◌, ◌-◌, ◌∙◌, ℕ, List, get_or, sym, subst, arith}
+use Rattle.std.proofs.Common.{◌+◌, ◌-◌, ◌∙◌, ℕ, List, get_or, sym, subst, arith}
 use Rattle.std.specs.Prelude.{slice_index}
 use Rattle.std.proofs.lemmas.List.{length-map}
 use Rattle.std.proofs.lemmas.Result.{on_ok_weaker}
@@ -11,7 +10,7 @@ use Rattle.spv_flow.proofs.lemmas.branches.Labelled.{inst_get, op_tells, op_hold
 use Rattle.spv_flow.specs.walks.inner.Adds.{AddsBy}
 use Rattle.spv_flow.specs.walks.inner.Code.{insts_of}
 use Rattle.spv_flow.specs.walks.inner.Leading.{LeadsTo}
-use Rattle.spv_flow.proofs.lemmas.walks.Starting.{few_blocks, end_within}
+use Rattle.spv_flow.proofs.lemmas.walks.Starting.{few_blocks, block_last}
 use Rattle.spv_flow.proofs.lemmas.walks.Targets.{labels_lead, next_leads, none_next, none_after}
 use Rattle.spv_flow.proofs.walks.edges.add_targets.Goals as goal
 use Rattle.spv_flow.proofs.walks.edges.add_targets.Goals.{else-not-is_terminator-via-then-not-is_terminator+else-block-blocks, else-not-is_terminator-via-else-not-is_terminator}
@@ -21,10 +20,9 @@ add_labels-requires-clause-op c =
     let code = c.args.code.now in
     let b = c.args.blocks.now in
     let last : ℕ = slice_index b.starts.now (c.args.block + 1) - 1 in
-    let r = c.requires.blocks.laid.divided.order c.args.block (c.args.block + 1) (omega arith) c.requires.block in
-    let w = end_within code b c.requires.blocks (c.args.block + 1) c.requires.block in
+    let h = block_last code b c.requires.blocks c.args.block c.requires.block in
     let i = plain_inst (get_or code.insts.now last c.index-code-last.result) in
-    let there = inst_get code.insts.now last c.index-code-last.result (omega (arith, r, w)) in
+    let there = inst_get code.insts.now last c.index-code-last.result h.2 in
     op_holds (insts_of code) last i is_branch there (sym c.is_branch.ensures ∙ c.if-is_branch.true)
 
 pub returns-then-is_branch : goal.returns-then-is_branch
@@ -32,13 +30,11 @@ returns-then-is_branch c =
     let code = c.args.code.now in
     let b = c.args.blocks.now in
     let last : ℕ = slice_index b.starts.now (c.args.block + 1) - 1 in
-    let r = c.requires.blocks.laid.divided.order c.args.block (c.args.block + 1) (omega arith) c.requires.block in
-    let w = end_within code b c.requires.blocks (c.args.block + 1) c.requires.block in
-    let e : last + 1 ≡ slice_index b.starts.now (c.args.block + 1) = omega (arith, r) in
+    let h = block_last code b c.requires.blocks c.args.block c.requires.block in
     let i = plain_inst (get_or code.insts.now last c.index-code-last.result) in
-    let there = inst_get code.insts.now last c.index-code-last.result (omega (arith, r, w)) in
+    let there = inst_get code.insts.now last c.index-code-last.result h.2 in
     let branch = op_holds (insts_of code) last i is_branch there (sym c.is_branch.ensures ∙ c.if-is_branch.true) in
-    on_ok_weaker c.add_labels.result (λ h. labels_lead code b.starts.now c.args.block last c.args.targets.now.items c.add_labels.new.targets.items branch e h) c.add_labels.ensures
+    on_ok_weaker c.add_labels.result (λ g. labels_lead code b.starts.now c.args.block last c.args.targets.now.items c.add_labels.new.targets.items branch h.1 g) c.add_labels.ensures
 
 pub overflow_cast-block : goal.overflow_cast-block
 overflow_cast-block c =
@@ -67,11 +63,9 @@ returns-in_ok-push c =
     let code = c.args.code.now in
     let b = c.args.blocks.now in
     let last : ℕ = slice_index b.starts.now (c.args.block + 1) - 1 in
-    let r = c.requires.blocks.laid.divided.order c.args.block (c.args.block + 1) (omega arith) c.requires.block in
-    let w = end_within code b c.requires.blocks (c.args.block + 1) c.requires.block in
-    let e : last + 1 ≡ slice_index b.starts.now (c.args.block + 1) = omega (arith, r) in
+    let h = block_last code b c.requires.blocks c.args.block c.requires.block in
     let i = plain_inst (get_or code.insts.now last c.index-code-last.result) in
-    let there = inst_get code.insts.now last c.index-code-last.result (omega (arith, r, w)) in
+    let there = inst_get code.insts.now last c.index-code-last.result h.2 in
     let plain : ¬ (IsOp (insts_of code) last is_branch) = λ o. (
     let t = op_tells (insts_of code) last i is_branch there o in
     let f = sym c.is_branch.ensures ∙ c.if-is_branch.false in
@@ -81,18 +75,16 @@ returns-in_ok-push c =
     let f = sym c.is_terminator.ensures ∙ c.if-not-is_terminator.true in
     cc) in
     subst (λ (xs : List ℕ). AddsBy code (λ (G : Table) (t : ℕ). LeadsTo G (insts_of code) b.starts.now c.args.block t) c.args.targets.now.items xs) (sym c.in_ok-push.ensures.items)
-    (next_leads code b.function b.starts.now c.args.block last c.args.targets.now.items c.requires.blocks.laid.divided plain open_end e c.if-block-blocks.true)
+    (next_leads code b.function b.starts.now c.args.block last c.args.targets.now.items c.requires.blocks.laid.divided plain open_end h.1 c.if-block-blocks.true)
 
 pub returns-else-not-is_terminator : goal.returns-else-not-is_terminator
 returns-else-not-is_terminator c =
     let code = c.args.code.now in
     let b = c.args.blocks.now in
     let last : ℕ = slice_index b.starts.now (c.args.block + 1) - 1 in
-    let r = c.requires.blocks.laid.divided.order c.args.block (c.args.block + 1) (omega arith) c.requires.block in
-    let w' = end_within code b c.requires.blocks (c.args.block + 1) c.requires.block in
-    let e : last + 1 ≡ slice_index b.starts.now (c.args.block + 1) = omega (arith, r) in
+    let h = block_last code b c.requires.blocks c.args.block c.requires.block in
     let i = plain_inst (get_or code.insts.now last c.index-code-last.result) in
-    let there = inst_get code.insts.now last c.index-code-last.result (omega (arith, r, w')) in
+    let there = inst_get code.insts.now last c.index-code-last.result h.2 in
     let plain : ¬ (IsOp (insts_of code) last is_branch) = λ o. (
     let t = op_tells (insts_of code) last i is_branch there o in
     let f = sym c.is_branch.ensures ∙ c.if-is_branch.false in
@@ -100,17 +92,17 @@ returns-else-not-is_terminator c =
     elim c.else-not-is_terminator.branch [
       | else-not-is_terminator-via-then-not-is_terminator+else-block-blocks w ↦ (
           let f = w.if-block-blocks.false in
-          none_next code b.function b.starts.now c.args.block last c.args.targets.now.items c.requires.blocks.laid.divided plain e c.requires.block (omega (arith, f)))
+          none_next code b.function b.starts.now c.args.block last c.args.targets.now.items c.requires.blocks.laid.divided plain h.1 c.requires.block (omega (arith, f)))
       | else-not-is_terminator-via-else-not-is_terminator w ↦ (
           let ended = op_holds (insts_of code) last i is_terminator there (sym c.is_terminator.ensures ∙ w.if-not-is_terminator.false) in
-          none_after code b.starts.now c.args.block last c.args.targets.now.items plain ended e)
+          none_after code b.starts.now c.args.block last c.args.targets.now.items plain ended h.1)
     ]
 
 pub overflow_sub-last : goal.overflow_sub-last
-overflow_sub-last c = grind (arith, common_steps)
+overflow_sub-last c = (block_last c.args.code.now c.args.blocks.now c.requires.blocks c.args.block c.requires.block).0
 
 pub bounds-code-last : goal.bounds-code-last
-bounds-code-last c = grind (arith, common_steps)
+bounds-code-last c = (block_last c.args.code.now c.args.blocks.now c.requires.blocks c.args.block c.requires.block).2
 
 pub add_labels-requires-clause-at : goal.add_labels-requires-clause-at
-add_labels-requires-clause-at c = grind (arith, common_steps)
+add_labels-requires-clause-at c = (block_last c.args.code.now c.args.blocks.now c.requires.blocks c.args.block c.requires.block).2

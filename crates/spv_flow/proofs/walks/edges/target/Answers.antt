@@ -1,6 +1,5 @@
-use Rattle.std.proofs.Common.{arith}
+use Rattle.std.proofs.Common.{get_or, arith}
 use Rattle.std.proofs.lemmas.Grind.{common_steps}
-use Rattle.std.proofs.Common.{get_or}
 use Rattle.spv_module.specs.Module.{plain_inst}
 use Rattle.spv_flow.proofs.lemmas.branches.Labelled.{inst_get}
 use Rattle.spv_flow.specs.walks.inner.Code.{insts_of}

@@ -1,11 +1,11 @@
-use Rattle.std.proofs.lemmas.Grind.{common_steps}
-use Rattle.std.proofs.Common.{ℕ, arith}
+use Rattle.std.proofs.Common.{◌+◌, ℕ, arith}
 use Rattle.spv_table.specs.Table.{Table}
 use Rattle.spv_graphs.specs.declared.queries.Query.{Query}
 use Rattle.spv_flow.specs.walks.inner.Code.{insts_of}
 use Rattle.spv_flow.specs.walks.inner.Divided.{IsIn}
 use Rattle.spv_flow.specs.walks.inner.Due.{IsQueryAt, IsQueryIn}
 use Rattle.spv_flow.proofs.lemmas.walks.Adding.{adds_as, adds_step, adds_end}
+use Rattle.spv_flow.proofs.lemmas.walks.Starting.{end_within}
 use Rattle.spv_flow.proofs.walks.queries.add_block.Goals as goal
 
 pub loop-at-preserved : goal.loop-at-preserved
@@ -33,4 +33,7 @@ returns c =
     (λ G is a k. (k.0, k.1.0, k.1.1)) (λ G is a k. (k.0, (k.1, k.2)))
 
 pub add_queries-requires-clause-at : goal.add_queries-requires-clause-at
-add_queries-requires-clause-at c = grind (arith, common_steps)
+add_queries-requires-clause-at c =
+    let w = end_within c.args.code.now c.args.blocks.now c.requires.blocks (c.args.block + 1) c.requires.block in
+    let to = c.loop-at-test.true in
+    omega (arith, w, to)

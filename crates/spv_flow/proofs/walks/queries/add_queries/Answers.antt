@@ -1,4 +1,3 @@
-use Rattle.std.proofs.lemmas.Grind.{common_steps}
 use Rattle.std.proofs.Common.{◌<◌, ◌∙◌, inl, inr, ℕ, length, nat_le, ◌&&◌, get_or, sym, subst, eq-eqb, arith}
 use Rattle.std.proofs.lemmas.Bool.{eqb-true}
 use Rattle.std.proofs.lemmas.Result.{on_ok_weaker}
@@ -85,4 +84,4 @@ returns c =
     ])
 
 pub bounds-code-start : goal.bounds-code-start
-bounds-code-start c = grind (arith, common_steps)
+bounds-code-start c = rw c.requires.start (start_within c.args.code.now c.args.blocks.now c.requires.blocks c.args.block c.requires.block)
