@@ -38,8 +38,8 @@ pub fn count_globals(insts: &[Inst<'_>]) -> u32
     insts.len() as u32
 }
 
-/// The first instruction at which a walk misses a value that is used there, function by function. `buffers` are lists to
-/// be used; what they hold is of no account.
+/// The first instruction at which a walk of some function misses a value that is used there. `buffers` are lists to be
+/// used; what they hold is of no account.
 fn first_in_functions(
     alloc: Global,
     code: &Code<'_, '_>,

@@ -1,4 +1,3 @@
-use Rattle.std.proofs.lemmas.Grind.{common_steps}
 use Rattle.std.proofs.Common.{◌≡◌, ◌<◌, ◌+◌, ◌∙◌, inl, inr, ℕ, Bool, List, Some, map, get_or, subst, refl, arith}
 use Rattle.std.specs.Prelude.{slice_get, IsTrue}
 use Rattle.std.proofs.lemmas.Bool.{cases_lt, eqb-true}
@@ -58,6 +57,3 @@ loop-at-preserved c =
         phis = phis w.if-opcode-eq-PHI.false c.loop-at.invariant.phis;
       }))
     ]
-
-pub loop-at-init : goal.loop-at-init
-loop-at-init c = grind (arith, common_steps)

@@ -1,4 +1,3 @@
-use Rattle.std.proofs.lemmas.Grind.{elements}
 use Rattle.std.proofs.Common.{ℕ, length, get_or, eq-eqb, arith}
 use Rattle.std.proofs.lemmas.List.{length-map}
 use Rattle.spv_module.specs.declared.opcode.TheConstants as opcode
@@ -69,6 +68,3 @@ returns-clause-extent c =
 
 pub returns-clause-phis : goal.returns-clause-phis
 returns-clause-phis c = λ none n from to. (let e = c.loop-at-test.false in c.loop-at.invariant.phis none n from (omega (arith, e, to)))
-
-pub overflow_step-at : goal.overflow_step-at
-overflow_step-at c = grind (arith, elements)

@@ -1,4 +1,3 @@
-use Rattle.std.proofs.lemmas.Grind.{elements}
 use Rattle.std.proofs.Common.{◌≡◌, ◌<◌, ◌-◌, Some, length, refl, arith}
 use Rattle.std.specs.Prelude.{slice_get}
 use Rattle.std.proofs.lemmas.Option.{slice_get_read}
@@ -14,12 +13,3 @@ loop-head-preserved c =
     let lt : h - 1 < length links = omega arith in
     let at : slice_get links (h - 1) ≡ Some c.index-link.result.now = slice_get_read links (length links) (h - 1) c.index-link.result.now refl lt c.index-link.ensures in
     marking_more links s.heads.items c.args.target c.args.marks.now c.loop-head.marks h c.index-link.result.now c.requires.edges (omega (arith, c.requires.marks, c.loop-head.auto.marks)) (omega arith) at c.loop-head.invariant
-
-pub loop-head-init : goal.loop-head-init
-loop-head-init c = grind (arith, elements)
-
-pub bounds-marks-link : goal.bounds-marks-link
-bounds-marks-link c = grind (arith, elements)
-
-pub loop-head-smaller : goal.loop-head-smaller
-loop-head-smaller c = grind (arith, elements)
