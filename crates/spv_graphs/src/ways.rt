@@ -115,6 +115,25 @@ fn find_shorter(edges: &[Edge], closed: &[bool], steps: &[Step]) -> Option<Edge>
     None
 }
 
+/// Comes to what the nodes that wait lead to, until no edge makes a shorter way than is known.
+fn settle(
+    edges: &[Edge],
+    closed: &[bool],
+    rows: &Rows,
+    steps: &mut Vec<Step>,
+    waiting: &mut VecDeque<u32>,
+) -> Result<(), AllocError>
+    requires { AreWithin (length steps.old.items) edges.now }
+    ensures keeps { OnOk result (Keeps edges.now closed.now steps.old.items steps.new.items) }
+    ensures settled { OnOk result (AreSettled edges.now closed.now steps.new.items) }
+{
+    spread(edges, closed, rows, steps, waiting)?;
+    while let Some(edge) = find_shorter(edges, closed, steps) {
+        step_along(edge, steps);
+    }
+    Ok(())
+}
+
 /// The nodes of the way that is known to a node, from the first on.
 fn trace(alloc: Global, steps: &[Step], goal: u32) -> Result<Vec<u32>, AllocError>
     requires falling { AreFalling steps.now }
@@ -156,10 +175,7 @@ pub fn shortest_way(
     let rows = Rows::of(alloc, closed.len(), edges)?;
     let mut waiting = VecDeque::new(alloc);
     let mut steps = first_steps(alloc, closed.len(), starts, &mut waiting)?;
-    spread(edges, closed, &rows, &mut steps, &mut waiting)?;
-    while let Some(edge) = find_shorter(edges, closed, &steps) {
-        step_along(edge, &mut steps);
-    }
+    settle(edges, closed, &rows, &mut steps, &mut waiting)?;
     if step_at(&steps, goal).level < UNKNOWN {
         Ok(Some(trace(alloc, &steps, goal)?))
     } else {
