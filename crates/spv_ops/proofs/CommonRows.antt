@@ -1,6 +1,7 @@
 -- The rows that most instructions have, of operands as they mostly stand.
 use Rattle.std.proofs.Common.{◌≡◌, ◌↔◌, inl, ℕ, List, [], ◌∷◌, Option, Some, None, Bool, refl, sym, subst}
 use Rattle.std.specs.Prelude.{IsTrue, IsSomeAnd, option_and_then, option_map}
+use Rattle.std.proofs.lemmas.Option.{none-some, same_Some}
 use Rattle.spv_module.specs.Operand.{Plain, OfType, Result, Id, Mask, PlainInst}
 use Rattle.spv_module.specs.Width.{type_of}
 use Rattle.spv_type_forms.specs.declared.form.Sort.{Sort}
@@ -28,9 +29,9 @@ pub binary_typed : (is : List PlainInst) (n : ℕ) (i : PlainInst) (s : Sort) (i
     → binary_in os ≡ Some ids
     → (IsTrue holds ↔ IsSomeAnd (types_of is (ids.first ∷ ids.second ∷ [])) (λ types. Calculates is (calculation.Binary s) ids.result_type types)) → IsTrue holds ↔ IsTypedIn is n i
 binary_typed is n i s ids holds (OfType r ∷ Result x ∷ Id a ∷ Id b ∷ []) o e f h =
-    let same : record { result_type = r; first = a; second = b } ≡ ids = cc in
+    let same : record { result_type = r; first = a; second = b } ≡ ids = same_Some _ _ f in
     binary_of is n i s r x a b holds e o (subst (λ (d : Ids). IsTrue holds ↔ IsSomeAnd (types_of is (d.first ∷ d.second ∷ [])) (λ types. Calculates is (calculation.Binary s) d.result_type types)) (sym same) h)
-binary_typed is n i s ids holds os o e f h = cc
+binary_typed is n i s ids holds os o e f h = absurd (none-some ids f)
 
 load_of : (is : List PlainInst) (n : ℕ) (i : PlainInst) (r x p : ℕ) (os : List Plain) (holds : Bool) → row_of i.opcode ≡ row.Access access.Load
     → i.operands ≡ OfType r ∷ Result x ∷ Id p ∷ os → ids_in os ≡ []
@@ -43,12 +44,12 @@ Loads is holds d = IsTrue holds ↔ IsSomeAnd (types_of is (d.second ∷ [])) (�
 pub load_typed : (is : List PlainInst) (n : ℕ) (i : PlainInst) (ids : Two) (holds : Bool) (os : List Plain) → i.operands ≡ os → row_of i.opcode ≡ row.Access access.Load → load_in os ≡ Some ids
     → (IsTrue holds ↔ IsSomeAnd (types_of is (ids.second ∷ [])) (λ types. Accesses is access.Load (Some ids.first) types)) → IsTrue holds ↔ IsTypedIn is n i
 load_typed is n i ids holds (OfType r ∷ Result x ∷ Id p ∷ []) o e f h =
-    let same : record { first = r; second = p } ≡ ids = cc in
+    let same : record { first = r; second = p } ≡ ids = same_Some _ _ f in
     load_of is n i r x p [] holds e o refl (subst (Loads is holds) (sym same) h)
 load_typed is n i ids holds (OfType r ∷ Result x ∷ Id p ∷ Mask k m ∷ os) o e f h =
-    let same : record { first = r; second = p } ≡ ids = cc in
+    let same : record { first = r; second = p } ≡ ids = same_Some _ _ f in
     load_of is n i r x p (Mask k m ∷ os) holds e o refl (subst (Loads is holds) (sym same) h)
-load_typed is n i ids holds os o e f h = cc
+load_typed is n i ids holds os o e f h = absurd (none-some ids f)
 
 store_of : (is : List PlainInst) (n : ℕ) (i : PlainInst) (p x : ℕ) (os : List Plain) (holds : Bool) → row_of i.opcode ≡ row.Access access.Store
     → i.operands ≡ Id p ∷ Id x ∷ os → ids_in os ≡ []
@@ -61,12 +62,12 @@ Stores is holds d = IsTrue holds ↔ IsSomeAnd (types_of is (d.first ∷ d.secon
 pub store_typed : (is : List PlainInst) (n : ℕ) (i : PlainInst) (ids : Two) (holds : Bool) (os : List Plain) → i.operands ≡ os → row_of i.opcode ≡ row.Access access.Store → store_in os ≡ Some ids
     → (IsTrue holds ↔ IsSomeAnd (types_of is (ids.first ∷ ids.second ∷ [])) (λ types. Accesses is access.Store None types)) → IsTrue holds ↔ IsTypedIn is n i
 store_typed is n i ids holds (Id p ∷ Id x ∷ []) o e f h =
-    let same : record { first = p; second = x } ≡ ids = cc in
+    let same : record { first = p; second = x } ≡ ids = same_Some _ _ f in
     store_of is n i p x [] holds e o refl (subst (Stores is holds) (sym same) h)
 store_typed is n i ids holds (Id p ∷ Id x ∷ Mask k m ∷ os) o e f h =
-    let same : record { first = p; second = x } ≡ ids = cc in
+    let same : record { first = p; second = x } ≡ ids = same_Some _ _ f in
     store_of is n i p x (Mask k m ∷ os) holds e o refl (subst (Stores is holds) (sym same) h)
-store_typed is n i ids holds os o e f h = cc
+store_typed is n i ids holds os o e f h = absurd (none-some ids f)
 
 abbrev one_of : Option ℕ → Option (List ℕ)
 one_of o = option_and_then (λ t. option_map (λ ts. t ∷ ts) (Some [])) o
@@ -87,9 +88,9 @@ branch_of is n i x l m holds e o h =
 pub branch_typed : (is : List PlainInst) (n : ℕ) (i : PlainInst) (x : ℕ) (holds : Bool) (os : List Plain) → i.operands ≡ os → row_of i.opcode ≡ row.BranchConditional → condition_in os ≡ Some x
     → (IsTrue holds ↔ IsSomeAnd (types_of is (x ∷ [])) (IsCondition is)) → IsTrue holds ↔ IsTypedIn is n i
 branch_typed is n i x holds (Id y ∷ Id l ∷ Id m ∷ []) o e f h =
-    let same : y ≡ x = cc in
+    let same : y ≡ x = same_Some y x f in
     branch_of is n i y l m holds e o (subst (λ (z : ℕ). IsTrue holds ↔ IsSomeAnd (types_of is (z ∷ [])) (IsCondition is)) (sym same) h)
-branch_typed is n i x holds os o e f h = cc
+branch_typed is n i x holds os o e f h = absurd (none-some x f)
 
 -- nothing is asked of an instruction that has no row
 pub free_typed : (is : List PlainInst) (n : ℕ) (i : PlainInst) → row_of i.opcode ≡ row.Free → IsTypedIn is n i

@@ -53,42 +53,63 @@ fn are_scopes(definitions: &Definitions, c: u32, m: u32) -> bool
     is_scope(definitions, c) && is_scope(definitions, m)
 }
 
+fn atomic_load(definitions: &Definitions, r: u32, o: u32, c: u32, m: u32) -> bool
+    ensures { IsTrue result ↔ Accesses definitions.now AtomicLoad (Some r) (o ∷ c ∷ m ∷ []) }
+{
+    points_to(definitions, o, r) && are_scopes(definitions, c, m) && is_number(definitions, r)
+}
+
+fn atomic_store(definitions: &Definitions, o: u32, c: u32, m: u32, p: u32) -> bool
+    ensures { IsTrue result ↔ Accesses definitions.now AtomicStore None (o ∷ c ∷ m ∷ p ∷ []) }
+{
+    atomic_load(definitions, p, o, c, m)
+}
+
+fn atomic_exchange(definitions: &Definitions, r: u32, o: u32, c: u32, m: u32, p: u32) -> bool
+    ensures { IsTrue result ↔ Accesses definitions.now AtomicExchange (Some r) (o ∷ c ∷ m ∷ p ∷ []) }
+{
+    p == r && atomic_load(definitions, r, o, c, m)
+}
+
+fn atomic_step(definitions: &Definitions, r: u32, o: u32, c: u32, m: u32) -> bool
+    ensures { IsTrue result ↔ Accesses definitions.now AtomicStep (Some r) (o ∷ c ∷ m ∷ []) }
+{
+    points_to(definitions, o, r) && are_scopes(definitions, c, m) && is_int(definitions, r)
+}
+
+fn atomic_update(definitions: &Definitions, r: u32, o: u32, c: u32, m: u32, p: u32) -> bool
+    ensures { IsTrue result ↔ Accesses definitions.now AtomicUpdate (Some r) (o ∷ c ∷ m ∷ p ∷ []) }
+{
+    p == r && atomic_step(definitions, r, o, c, m)
+}
+
 /// Whether a row with a result holds of the result type and the types of the value operands in order.
 fn accesses_with_result(definitions: &Definitions, row: Access, r: u32, types: &[u32]) -> bool
     ensures { IsTrue result ↔ Accesses definitions.now row (Some r) types.now }
 {
-    match (row, types) {
-        (Access::Load, [o]) => points_to(definitions, *o, r) && is_data(definitions, r),
-        (Access::AtomicLoad, [o, c, m]) => {
-            points_to(definitions, *o, r)
-                && are_scopes(definitions, *c, *m)
-                && is_number(definitions, r)
-        }
-        (Access::AtomicExchange, [o, c, m, p]) => {
-            points_to(definitions, *o, r)
-                && are_scopes(definitions, *c, *m)
-                && *p == r
-                && is_number(definitions, r)
-        }
-        (Access::AtomicCompareExchange, [o, c, m, n, p, q]) => {
-            points_to(definitions, *o, r)
-                && are_scopes(definitions, *c, *m)
-                && is_scope(definitions, *n)
-                && *p == r
-                && *q == r
-                && is_int(definitions, r)
-        }
-        (Access::AtomicStep, [o, c, m]) => {
-            points_to(definitions, *o, r)
-                && are_scopes(definitions, *c, *m)
-                && is_int(definitions, r)
-        }
-        (Access::AtomicUpdate, [o, c, m, p]) => {
-            points_to(definitions, *o, r)
-                && are_scopes(definitions, *c, *m)
-                && *p == r
-                && is_int(definitions, r)
-        }
+    match types {
+        [o] => match row {
+            Access::Load => points_to(definitions, *o, r) && is_data(definitions, r),
+            _ => false,
+        },
+        [o, c, m] => match row {
+            Access::AtomicLoad => atomic_load(definitions, r, *o, *c, *m),
+            Access::AtomicStep => atomic_step(definitions, r, *o, *c, *m),
+            _ => false,
+        },
+        [o, c, m, p] => match row {
+            Access::AtomicExchange => atomic_exchange(definitions, r, *o, *c, *m, *p),
+            Access::AtomicUpdate => atomic_update(definitions, r, *o, *c, *m, *p),
+            _ => false,
+        },
+        [o, c, m, n, p, q] => match row {
+            Access::AtomicCompareExchange => {
+                is_scope(definitions, *n)
+                    && *q == r
+                    && atomic_update(definitions, r, *o, *c, *m, *p)
+            }
+            _ => false,
+        },
         _ => false,
     }
 }
@@ -114,11 +135,7 @@ fn accesses_without_result(definitions: &Definitions, row: Access, types: &[u32]
             _ => false,
         },
         [o, c, m, p] => match row {
-            Access::AtomicStore => {
-                points_to(definitions, *o, *p)
-                    && are_scopes(definitions, *c, *m)
-                    && is_number(definitions, *p)
-            }
+            Access::AtomicStore => atomic_store(definitions, *o, *c, *m, *p),
             _ => false,
         },
         _ => false,

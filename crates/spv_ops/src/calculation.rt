@@ -1,6 +1,3 @@
-// Where a lemma is named the prover tries `grind` before it searches, which is quicker for the functions here.
-#![tactic(auto, using(crate::proofs::Counts::no_calculation))]
-
 ghost use Rattle.std.specs.Prelude.{◌≡◌, ◌↔◌, ◌⊎◌, ℕ, [], ◌∷◌, IsTrue};
 ghost use Rattle.spv_type_forms.specs.Types.{IsBool, IsVector};
 ghost use Rattle.spv_type_forms.specs.inner.Types.{IsB};

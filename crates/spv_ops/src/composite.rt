@@ -96,7 +96,6 @@ fn shuffle(definitions: &Definitions, r: u32, o: u32, p: u32, operands: &[Operan
 
 /// Whether a row of composites holds of the result type, the types of the value operands in order and the literals
 /// among the operands.
-#[tactic(auto, using(crate::proofs::Counts::no_composite))]
 pub fn composes(
     definitions: &Definitions,
     row: Composite,

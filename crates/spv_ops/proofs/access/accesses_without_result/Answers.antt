@@ -48,9 +48,6 @@ returns-else-is_scope c = grind (arith, common_steps)
 pub returns-in_default-row-3 : goal.returns-in_default-row-3
 returns-in_default-row-3 c = grind (arith, common_steps)
 
-pub returns-else-are_scopes : goal.returns-else-are_scopes
-returns-else-are_scopes c = grind (arith, common_steps)
-
 pub returns-in_default-row-4 : goal.returns-in_default-row-4
 returns-in_default-row-4 c = grind (arith, common_steps)
 
@@ -59,3 +56,6 @@ returns-in_default c = grind (arith, no_access)
 
 pub returns-in_default-2 : goal.returns-in_default-2
 returns-in_default-2 c = grind (arith, no_access)
+
+pub returns-in-CopyMemorySized : goal.returns-in-CopyMemorySized
+returns-in-CopyMemorySized c = grind (arith, common_steps)

@@ -35,3 +35,24 @@ returns-in_default c = grind (arith, no_calculation)
 
 pub returns-in_default-2 : goal.returns-in_default-2
 returns-in_default-2 c = grind (arith, no_calculation)
+
+pub returns-in-FloatToInt : goal.returns-in-FloatToInt
+returns-in-FloatToInt c = grind (arith, common_steps)
+
+pub returns-in-IntToFloat : goal.returns-in-IntToFloat
+returns-in-IntToFloat c = grind (arith, common_steps)
+
+pub returns-in-ResizeInt : goal.returns-in-ResizeInt
+returns-in-ResizeInt c = grind (arith, common_steps)
+
+pub returns-in-ResizeFloat : goal.returns-in-ResizeFloat
+returns-in-ResizeFloat c = grind (arith, common_steps)
+
+pub returns-in-PointerToInt : goal.returns-in-PointerToInt
+returns-in-PointerToInt c = grind (arith, common_steps)
+
+pub returns-in-Bitcast : goal.returns-in-Bitcast
+returns-in-Bitcast c = grind (arith, common_steps)
+
+pub returns-in-Shift : goal.returns-in-Shift
+returns-in-Shift c = grind (arith, common_steps)

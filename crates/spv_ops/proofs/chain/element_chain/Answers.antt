@@ -7,3 +7,6 @@ returns-in_default c = grind (arith, common_steps)
 
 pub returns-in_default-2 : goal.returns-in_default-2
 returns-in_default-2 c = grind (arith, common_steps)
+
+pub returns-in-Id : goal.returns-in-Id
+returns-in-Id c = grind (arith, common_steps)

@@ -41,3 +41,12 @@ returns-in_default c = grind (arith, no_composite)
 
 pub returns-in_default-2 : goal.returns-in_default-2
 returns-in_default-2 c = grind (arith, no_composite)
+
+pub returns-in-ExtractDynamic : goal.returns-in-ExtractDynamic
+returns-in-ExtractDynamic c = grind (arith, common_steps)
+
+pub returns-in-Shuffle : goal.returns-in-Shuffle
+returns-in-Shuffle c = grind (arith, common_steps)
+
+pub returns-in-InsertDynamic : goal.returns-in-InsertDynamic
+returns-in-InsertDynamic c = grind (arith, common_steps)
