@@ -3,24 +3,6 @@ use Rattle.std.proofs.lemmas.Grind.{common_steps}
 use Rattle.spv_ops.proofs.Counts.{no_calculation}
 use Rattle.spv_ops.proofs.calculation.calculates.Goals as goal
 
-pub bounds-types-0 : goal.bounds-types-0
-bounds-types-0 c = omega arith
-
-pub bounds-types-0-then-types-lt3 : goal.bounds-types-0-then-types-lt3
-bounds-types-0-then-types-lt3 c = omega arith
-
-pub bounds-types-1 : goal.bounds-types-1
-bounds-types-1 c = omega arith
-
-pub bounds-types-0-then-types-lt4 : goal.bounds-types-0-then-types-lt4
-bounds-types-0-then-types-lt4 c = omega arith
-
-pub bounds-types-1-then-types-lt4 : goal.bounds-types-1-then-types-lt4
-bounds-types-1-then-types-lt4 c = omega arith
-
-pub bounds-types-2 : goal.bounds-types-2
-bounds-types-2 c = omega arith
-
 pub returns-in_default-row : goal.returns-in_default-row
 returns-in_default-row c = grind (arith, common_steps)
 

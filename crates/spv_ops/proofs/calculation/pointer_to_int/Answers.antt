@@ -4,3 +4,18 @@ use Rattle.spv_ops.proofs.calculation.pointer_to_int.Goals as goal
 
 pub returns-in-Some-Pointer-Some-Scalar-Int : goal.returns-in-Some-Pointer-Some-Scalar-Int
 returns-in-Some-Pointer-Some-Scalar-Int c = grind (arith, common_steps)
+
+pub returns-in_default : goal.returns-in_default
+returns-in_default c = grind (arith, common_steps)
+
+pub returns-in_default-2 : goal.returns-in_default-2
+returns-in_default-2 c = grind (arith, common_steps)
+
+pub returns-in_default-3 : goal.returns-in_default-3
+returns-in_default-3 c = grind (arith, common_steps)
+
+pub returns-in_default-4 : goal.returns-in_default-4
+returns-in_default-4 c = grind (arith, common_steps)
+
+pub returns-in_default-5 : goal.returns-in_default-5
+returns-in_default-5 c = grind (arith, common_steps)

@@ -3,24 +3,6 @@ use Rattle.std.proofs.lemmas.Grind.{common_steps}
 use Rattle.spv_ops.proofs.Counts.{no_composite}
 use Rattle.spv_ops.proofs.composite.composes.Goals as goal
 
-pub bounds-types-0 : goal.bounds-types-0
-bounds-types-0 c = omega arith
-
-pub bounds-types-0-then-types-lt3 : goal.bounds-types-0-then-types-lt3
-bounds-types-0-then-types-lt3 c = omega arith
-
-pub bounds-types-1 : goal.bounds-types-1
-bounds-types-1 c = omega arith
-
-pub bounds-types-0-then-types-lt4 : goal.bounds-types-0-then-types-lt4
-bounds-types-0-then-types-lt4 c = omega arith
-
-pub bounds-types-1-then-types-lt4 : goal.bounds-types-1-then-types-lt4
-bounds-types-1-then-types-lt4 c = omega arith
-
-pub bounds-types-2 : goal.bounds-types-2
-bounds-types-2 c = omega arith
-
 pub returns-then-o-r : goal.returns-then-o-r
 returns-then-o-r c = grind (arith, common_steps)
 

@@ -4,3 +4,24 @@ use Rattle.spv_ops.proofs.composite.shuffle.Goals as goal
 
 pub returns-else-count-word_count : goal.returns-else-count-word_count
 returns-else-count-word_count c = grind (arith, common_steps)
+
+pub returns-then-count-word_count : goal.returns-then-count-word_count
+returns-then-count-word_count c = grind (arith, common_steps)
+
+pub returns-in_default : goal.returns-in_default
+returns-in_default c = grind (arith, common_steps)
+
+pub returns-in_default-2 : goal.returns-in_default-2
+returns-in_default-2 c = grind (arith, common_steps)
+
+pub returns-in_default-3 : goal.returns-in_default-3
+returns-in_default-3 c = grind (arith, common_steps)
+
+pub returns-in_default-4 : goal.returns-in_default-4
+returns-in_default-4 c = grind (arith, common_steps)
+
+pub returns-in_default-5 : goal.returns-in_default-5
+returns-in_default-5 c = grind (arith, common_steps)
+
+pub returns-in_default-6 : goal.returns-in_default-6
+returns-in_default-6 c = grind (arith, common_steps)
