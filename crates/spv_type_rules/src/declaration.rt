@@ -74,6 +74,7 @@ pub fn is_vector_count(count: u32) -> bool
 }
 
 /// Whether a constant may be the length of an array.
+#[inline(always)]
 pub fn is_length(definitions: &Definitions, x: u32) -> bool
     ensures { IsTrue result ↔ IsLength definitions.now x }
 {
@@ -87,8 +88,8 @@ pub fn is_pointee(definitions: &Definitions, t: u32) -> bool
     ensures { IsTrue result ↔ IsPointee definitions.now t }
 {
     match definitions.form(t) {
-        Some(Form::Opaque) => true,
-        _ => is_data(definitions, t),
+        None | Some(Form::Void | Form::Function) => false,
+        Some(_) => true,
     }
 }
 
@@ -96,8 +97,8 @@ pub fn is_returned(definitions: &Definitions, t: u32) -> bool
     ensures { IsTrue result ↔ IsReturned definitions.now t }
 {
     match definitions.form(t) {
-        Some(Form::Void) => true,
-        _ => is_data(definitions, t),
+        None | Some(Form::Opaque | Form::Function) => false,
+        Some(_) => true,
     }
 }
 
