@@ -48,7 +48,7 @@ fn are_named(numbers: &Numbers<'_>, operands: &[FileOperand<'_>]) -> bool
 {
     operands
         .iter()
-        .all(move |o| numbers.number(o.kind.as_str()).is_some())
+        .all(|o| numbers.number(o.kind.as_str()).is_some())
 }
 
 /// Whether each parameter of the enumerants names a kind.
@@ -57,7 +57,7 @@ fn have_named(numbers: &Numbers<'_>, enumerants: &[FileEnumerant<'_>]) -> bool
 {
     enumerants
         .iter()
-        .all(move |e| are_named(numbers, e.parameters.as_slice()))
+        .all(|e| are_named(numbers, e.parameters.as_slice()))
 }
 
 /// Whether each name is that of a kind.
@@ -66,7 +66,7 @@ fn are_kinds(numbers: &Numbers<'_>, names: &[LentName<'_>]) -> bool
 {
     names
         .iter()
-        .all(move |name| numbers.number(name.as_str()).is_some())
+        .all(|name| numbers.number(name.as_str()).is_some())
 }
 
 /// Whether the parameters and the bases of a kind name kinds.
@@ -82,14 +82,14 @@ fn instructions_name_kinds(numbers: &Numbers<'_>, instructions: &[FileInstructio
 {
     instructions
         .iter()
-        .all(move |i| are_named(numbers, i.operands.as_slice()))
+        .all(|i| are_named(numbers, i.operands.as_slice()))
 }
 
 /// Whether the parameters and the bases of the kinds name kinds.
 fn kinds_name_kinds(numbers: &Numbers<'_>, kinds: &[FileKind<'_>]) -> bool
     ensures { result ≡ list_all (names_kinds numbers.now) kinds.now }
 {
-    kinds.iter().all(move |k| names_kinds(numbers, k))
+    kinds.iter().all(|k| names_kinds(numbers, k))
 }
 
 /// Whether the file keeps J4.
@@ -216,7 +216,7 @@ fn comes_once(numbers: &Numbers<'_>, name: &str, operands: &[FileOperand<'_>]) -
 {
     operands
         .iter()
-        .filter(move |o| is_result_named(numbers, name, o))
+        .filter(|o| is_result_named(numbers, name, o))
         .count()
         <= 1
 }
@@ -232,7 +232,7 @@ fn is_plain(numbers: &Numbers<'_>, operand: &FileOperand<'_>) -> bool
 fn are_plain(numbers: &Numbers<'_>, operands: &[FileOperand<'_>]) -> bool
     ensures { result ≡ list_all (is_plain numbers.now) operands.now }
 {
-    operands.iter().all(move |o| is_plain(numbers, o))
+    operands.iter().all(|o| is_plain(numbers, o))
 }
 
 /// Whether the result kinds stand in an instruction as they may.
@@ -250,7 +250,7 @@ fn are_no_results(numbers: &Numbers<'_>, operands: &[FileOperand<'_>]) -> bool
 {
     operands
         .iter()
-        .all(move |o| !is_result(numbers, o.kind.as_str()))
+        .all(|o| !is_result(numbers, o.kind.as_str()))
 }
 
 /// Whether no enumerant has a parameter of a result kind.
@@ -259,16 +259,14 @@ fn have_no_results(numbers: &Numbers<'_>, enumerants: &[FileEnumerant<'_>]) -> b
 {
     enumerants
         .iter()
-        .all(move |e| are_no_results(numbers, e.parameters.as_slice()))
+        .all(|e| are_no_results(numbers, e.parameters.as_slice()))
 }
 
 /// Whether no name is that of a result kind.
 fn name_no_results(numbers: &Numbers<'_>, names: &[LentName<'_>]) -> bool
     ensures { result ≡ list_all (λ name. not (Rattle.spv_grammar.specs.Kinds.is_result numbers.now name)) names.now }
 {
-    names
-        .iter()
-        .all(move |name| !is_result(numbers, name.as_str()))
+    names.iter().all(|name| !is_result(numbers, name.as_str()))
 }
 
 /// Whether no parameter or base of a kind is a result kind.
@@ -285,14 +283,14 @@ fn instructions_place_results(numbers: &Numbers<'_>, instructions: &[FileInstruc
 {
     instructions
         .iter()
-        .all(move |i| places_results(numbers, i.operands.as_slice()))
+        .all(|i| places_results(numbers, i.operands.as_slice()))
 }
 
 /// Whether no parameter or base of the kinds is a result kind.
 fn kinds_have_no_results(numbers: &Numbers<'_>, kinds: &[FileKind<'_>]) -> bool
     ensures { result ≡ list_all (has_no_results numbers.now) kinds.now }
 {
-    kinds.iter().all(move |k| has_no_results(numbers, k))
+    kinds.iter().all(|k| has_no_results(numbers, k))
 }
 
 /// Whether the file keeps J6.
@@ -308,9 +306,7 @@ fn name_parts(numbers: &Numbers<'_>, names: &[LentName<'_>]) -> bool
     ensures { result ≡ list_all (λ name. Rattle.spv_grammar.specs.Kinds.is_part (kind_named numbers.now name))
         names.now }
 {
-    names
-        .iter()
-        .all(move |name| names_part(numbers, name.as_str()))
+    names.iter().all(|name| names_part(numbers, name.as_str()))
 }
 
 /// Whether there are names, each that of a kind of category Id or Literal.
@@ -337,5 +333,5 @@ pub(crate) fn has_bases(numbers: &Numbers<'_>, file: &File<'_>) -> bool
     file.kinds
         .as_slice()
         .iter()
-        .all(move |k| is_composed(numbers, k))
+        .all(|k| is_composed(numbers, k))
 }

@@ -1,6 +1,5 @@
-use Rattle.std.proofs.Common.{arith}
+use Rattle.std.proofs.Common.{ap, ◌∙◌, sym, arith}
 use Rattle.std.proofs.lemmas.Grind.{common_steps}
-use Rattle.std.proofs.Common.{ap, ◌∙◌, sym}
 use Rattle.spv_grammar.specs.Made.{is_kept, enumerant_from}
 use Rattle.spv_grammar.proofs.Fronts.{keep_step, skip_step}
 use Rattle.spv_grammar.proofs.make.enumerants.Goals as goal
