@@ -1,12 +1,12 @@
 -- The grammar file of a table reads as the trimmed file, so it gives the same table.
-use Rattle.std.proofs.Common.{◌≡◌, ◌∙◌, ℕ, zero, suc, ◌+◌, ◌*◌, ◌/◌, ◌%◌, ◌^◌, ◌<◌, ◌≤◌, Bool, true, false, ◌&&◌, ◌==◌, cond, nat_lt, nat_le, nat_eq, if◌then◌else◌, List, [], ◌∷◌, ◌++◌, map, length, slice_get, Option, Some, None, option_map, option_and_then, codes, refl, sym, ap, subst, arith, lit<, true≢false}
+use Rattle.std.proofs.Common.{◌≡◌, ◌∙◌, ℕ, zero, suc, ◌+◌, ◌*◌, ◌/◌, ◌%◌, ◌^◌, ◌<◌, ◌≤◌, Bool, true, false, ◌&&◌, ◌==◌, cond, nat_lt, nat_le, List, [], ◌∷◌, map, length, slice_get, Option, Some, None, option_map, option_and_then, codes, refl, sym, ap, arith, true≢false}
 use Rattle.std.specs.Fmt.{digits, digits_onto, digit_glyph}
 use Rattle.std.proofs.lemmas.Bool.{lt-ltb, ltb-true}
 use Rattle.std.proofs.lemmas.Bool.Decides.{nat_tests}
 use Rattle.std.proofs.lemmas.List.{map-id}
 use Rattle.std.proofs.lemmas.Slice.Eq.{bytes_eq-Decides}
 use Rattle.std.specs.List.{list_all, filter, position_or_len}
-use Rattle.serde_json.specs.Data.{Num, unsigned, Data, number, string, array, object, Items, Members, no_members, item, put}
+use Rattle.serde_json.specs.Data.{unsigned, Data, number, string, object, Members, no_members, put}
 use Rattle.serde_json.specs.Find.{get, as_str, as_number}
 use Rattle.serde_json.specs.View.{items_of}
 use Rattle.spv_table.specs.declared.table.Category.{Category}
@@ -22,12 +22,12 @@ use Rattle.spv_grammar.specs.declared.file.FileInstruction.{FileInstruction}
 use Rattle.spv_grammar.specs.declared.file.FileEnumerant.{FileEnumerant}
 use Rattle.spv_grammar.specs.declared.file.FileKind.{FileKind}
 use Rattle.spv_grammar.specs.declared.file.File.{File}
-use Rattle.spv_grammar.specs.File.{each, text_at, items_at, optional_items_at, operand_of, operands_at, capabilities_at, whole_below, opcode_at, instruction_of, hex_digit_of, hex_from, hex_number_of, bit_value_of, value_in, value_at, enumerant_in, kind_in, file_of}
+use Rattle.spv_grammar.specs.File.{each, text_at, optional_items_at, operand_of, operands_at, capabilities_at, whole_below, opcode_at, instruction_of, hex_digit_of, hex_from, hex_number_of, value_in, value_at, enumerant_in, kind_in}
 use Rattle.spv_grammar.specs.Kinds.{first_kinds, number_in, bears}
 use Rattle.spv_grammar.specs.Rules.{is_one}
-use Rattle.spv_grammar.specs.Made.{all_of, item_of, entry_from, parameter_of, enumerant_from, is_kept, fits_category, sort_from, IsTable}
+use Rattle.spv_grammar.specs.Made.{all_of, item_of, entry_from, parameter_of, enumerant_from, is_kept, fits_category, sort_from}
 use Rattle.spv_grammar.specs.Answer.{Gives, IsGiven}
-use Rattle.spv_grammar.proofs.Whole.{and_left, and_right, and_both, all_both, all_kept, all_firsts, some_same, not_some, parts_of, next_of, place_is, sort_parts}
+use Rattle.spv_grammar.proofs.Whole.{and_left, and_right, all_both, all_kept, all_firsts, some_same, not_some, parts_of, next_of, place_is, sort_parts}
 use Rattle.spv_grammar.proofs.Elements.{kind_parts}
 use Rattle.spv_grammar.specs.Tree.{with_list, name_of, kind_name, with_quantifier, operand_tree, parameter_tree, instruction_tree, value_tree, enumerant_tree, kind_tree, grammar_tree}
 use Rattle.spv_grammar.proofs.Ranges.{then_parts, map_parts, below, opcode_fits, value_is_small, is_none, owns, is_read, file_read}

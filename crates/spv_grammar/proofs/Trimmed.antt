@@ -1,16 +1,14 @@
 -- What the grammar file of a table holds: the instructions of the file that gave the table, and of its kinds the first of
 -- each name, without the enumerants that are dropped. It breaks nothing, and gives the same table.
-use Rattle.std.proofs.Common.{◌≡◌, ◌∙◌, ℕ, Bool, true, false, not, ◌&&◌, ◌||◌, cond, if◌then◌else◌, List, [], ◌∷◌, map, Option, Some, None, option_map, option_and_then, is_some, nat_le, count_by, bytes_eq, codes, refl, sym, ap, subst}
-use Rattle.std.specs.List.{list_all, filter, find}
+use Rattle.std.proofs.Common.{◌≡◌, ◌∙◌, ℕ, Bool, true, false, not, ◌&&◌, ◌||◌, if◌then◌else◌, List, [], ◌∷◌, map, Option, Some, None, option_map, option_and_then, is_some, nat_le, count_by, bytes_eq, codes, refl, sym, ap, subst}
+use Rattle.std.specs.List.{list_all, filter}
 use Rattle.std.proofs.lemmas.Slice.Eq.{bytes_eq-Decides}
 use Rattle.spv_table.specs.declared.table.Category.{Category}
 use Rattle.spv_table.specs.declared.table.Category.TheVariants as category
-use Rattle.spv_table.specs.declared.table.Quantifier.{Quantifier}
 use Rattle.spv_table.specs.declared.table.Item.{Item}
 use Rattle.spv_table.specs.declared.table.Entry.{Entry}
 use Rattle.spv_table.specs.declared.table.Enumerant.{Enumerant}
 use Rattle.spv_table.specs.Table.{Table, Sort}
-use Rattle.spv_grammar.specs.declared.error.GrammarError.{GrammarError}
 use Rattle.spv_grammar.specs.declared.error.GrammarError.TheVariants.{J3, J4, J5, J6, J7}
 use Rattle.spv_grammar.specs.declared.file.FileOperand.{FileOperand}
 use Rattle.spv_grammar.specs.declared.file.FileInstruction.{FileInstruction}
@@ -18,8 +16,8 @@ use Rattle.spv_grammar.specs.declared.file.FileEnumerant.{FileEnumerant}
 use Rattle.spv_grammar.specs.declared.file.FileKind.{FileKind}
 use Rattle.spv_grammar.specs.declared.file.File.{File}
 use Rattle.spv_grammar.specs.Kinds.{first_kinds, number_in, kind_named, bears, is_result, is_part, is_id}
-use Rattle.spv_grammar.specs.Rules.{has_opcodes, has_values, are_named, names_kinds, have_named, are_kinds, are_quantified, have_quantified, is_known_kind, is_one, places_results, has_no_results, are_no_results, are_parts, composes, is_composed, has_numbers, has_kinds, is_known, has_results, has_bases}
-use Rattle.spv_grammar.specs.Made.{all_of, is_kept, entry_from, sort_from, IsTable}
+use Rattle.spv_grammar.specs.Rules.{has_opcodes, has_values, are_named, names_kinds, have_named, are_kinds, are_quantified, have_quantified, is_known_kind, is_one, places_results, has_no_results, are_no_results, composes, is_composed, has_numbers, has_kinds, is_known, has_results, has_bases}
+use Rattle.spv_grammar.specs.Made.{all_of, is_kept, IsTable}
 use Rattle.spv_grammar.specs.Answer.{file_breaks}
 use Rattle.spv_grammar.proofs.Whole.{and_left, and_right, and_both, all_kept, all_firsts, Kept, rules_kept}
 use Rattle.spv_grammar.proofs.Elements.{place_made}
