@@ -3,7 +3,7 @@ ghost use Rattle.std.specs.Prelude.{◌≡◌, ◌++◌, ℕ, List, [], Some, co
 ghost use Rattle.std.specs.Prelude.{string_bytes, OnOk};
 ghost use Rattle.spv_table.specs.Table.{entry_of};
 ghost use Rattle.spv_module.specs.Module.{plain_inst, plain_insts, plain_operand};
-ghost use Rattle.spv_lines.specs.Text.{ShownLines, inst_line};
+ghost use Rattle.spv_lines.specs.Text.{ShownLines};
 ghost use Rattle.spv_fault_lines.specs.Lines as lines;
 ghost use Rattle.spv_fault_lines.specs.Keys.{line_name};
 ghost use Rattle.spv_fault_lines.specs.Lines.{bit_name, keyed, key_of, line_of, name_part, needed_part, number_part};

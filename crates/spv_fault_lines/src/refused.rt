@@ -1,5 +1,5 @@
 //! The lines of bytes that are no words of a module.
-ghost use Rattle.std.specs.Prelude.{◌≡◌, ◌++◌, ◌<◌, ◌∷◌, [], OnOk, IfOk, Some, None, codes, decimal, if◌then◌else◌, option_map};
+ghost use Rattle.std.specs.Prelude.{◌≡◌, ◌++◌, ◌<◌, ◌∷◌, [], OnOk, IfOk, Some, None, codes, if◌then◌else◌, option_map};
 ghost use Rattle.std.specs.Prelude.{slice_index, string_bytes};
 ghost use Rattle.spv_fault_lines.specs.Refused as seen;
 ghost use Rattle.spv_fault_lines.specs.inner.Parts as parts;

@@ -1,4 +1,4 @@
--- The facts of evidence, in parts of which each hands on what it has not. (For the code alone.)
+-- Parts of what is told. (For the code alone.) First the facts of evidence: each part hands on what it has not.
 use Rattle.std.specs.Prelude.{◌++◌, ◌-◌, ℕ, List, [], ◌∷◌, Option, Some, None, length, nat_lt, if◌then◌else◌, set}
 use Rattle.std.specs.Prelude.{codes, decimal, slice_get, unwrap_or}
 use Rattle.spv_table.specs.Table.{Table}
