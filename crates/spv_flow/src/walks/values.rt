@@ -1,6 +1,6 @@
 //! The first use of a value that some walk misses.
 
-ghost use Rattle.std.specs.Prelude.{◌≡◌, ◌≤◌, ◌<◌, ◌+◌, ℕ, List, length, map, sum_by, IfOk, IfErr};
+ghost use Rattle.std.specs.Prelude.{◌≤◌, ◌<◌, ◌+◌, ℕ, List, length, map, sum_by, IfOk, IfErr};
 ghost use Rattle.spv_table.specs.Table.{Table};
 ghost use Rattle.spv_module.specs.Module.{plain_inst, plain_insts};
 ghost use Rattle.spv_module.specs.Operand.{PlainInst};
@@ -38,24 +38,19 @@ pub fn count_globals(insts: &[Inst<'_>]) -> u32
     insts.len() as u32
 }
 
-/// The first instruction at which a walk of some function misses a value that is used there. `buffers` are lists to be
-/// used; what they hold is of no account.
-fn first_in_functions(
-    alloc: Global,
-    code: &Code<'_, '_>,
-    buffers: &mut Buffers,
-) -> Result<Option<u32>, AllocError>
+/// The first instruction at which a walk misses a value that is used there.
+fn first_missing(alloc: Global, code: &Code<'_, '_>) -> Result<Option<u32>, AllocError>
     requires code { (G : Table) × IsCode G code.now }
     requires most { AreFew code.now.insts.now }
-    requires count { length buffers.old.numbers.items ≡ length code.now.insts.now }
     ensures { IfOk result (λ o. (G : Table) → IsCode G code.now → IsFirstOf G (insts_of code.now) o) }
 {
+    let mut buffers = Buffers::new(alloc, code.insts.len())?;
     let count = code.insts.len() as u32;
     let mut at = code.globals;
     while at < count {
         if code.insts[at as usize].opcode == FUNCTION {
             let extent = function_extent(code, at);
-            if let Some(inst) = first_in_function(alloc, code, at, extent, buffers)? {
+            if let Some(inst) = first_in_function(alloc, code, at, extent, &mut buffers)? {
                 return Ok(Some(inst));
             }
             at = extent.end;
@@ -64,16 +59,6 @@ fn first_in_functions(
         }
     }
     Ok(None)
-}
-
-/// The first instruction at which a walk misses a value that is used there.
-fn first_missing(alloc: Global, code: &Code<'_, '_>) -> Result<Option<u32>, AllocError>
-    requires code { (G : Table) × IsCode G code.now }
-    requires most { AreFew code.now.insts.now }
-    ensures { IfOk result (λ o. (G : Table) → IsCode G code.now → IsFirstOf G (insts_of code.now) o) }
-{
-    let mut buffers = Buffers::new(alloc, code.insts.len())?;
-    first_in_functions(alloc, code, &mut buffers)
 }
 
 /// The rule that is broken where an instruction uses a value that a walk misses.

@@ -8,7 +8,7 @@ use Rattle.spv_flow.proofs.lemmas.branches.Labelled.{inst_get, op_holds}
 use Rattle.spv_flow.specs.walks.inner.Code.{insts_of, IsCode}
 use Rattle.spv_flow.specs.walks.inner.Unavailable.{IsFirstIn}
 use Rattle.spv_flow.proofs.lemmas.walks.Telling.{sound_start, sound_other, sound_more, sound_all, first_here}
-use Rattle.spv_flow.proofs.walks.values.first_in_functions.Goals as goal
+use Rattle.spv_flow.proofs.walks.values.first_missing.Goals as goal
 
 pub function_extent-extent-requires-clause-function : goal.function_extent-extent-requires-clause-function
 function_extent-extent-requires-clause-function c =
@@ -18,7 +18,7 @@ function_extent-extent-requires-clause-function c =
     op_holds (insts_of code) at i is_function (inst_get code.insts.now at c.index-code-at.result c.loop-at-test.true) (eq-eqb i.opcode opcode.FUNCTION c.if-code-at-eq-FUNCTION.true)
 
 pub loop-at-init : goal.loop-at-init
-loop-at-init c = record { count = c.requires.count; sound = sound_start c.args.code.now }
+loop-at-init c = record { count = c.in_ok-buffers.ensures; sound = sound_start c.args.code.now }
 
 pub returns-in-Some : goal.returns-in-Some
 returns-in-Some c =

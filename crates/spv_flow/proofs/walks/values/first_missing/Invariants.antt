@@ -1,6 +1,6 @@
 use Rattle.std.proofs.Common.{◌≡◌, ◌-◌, length}
 use Rattle.spv_flow.proofs.lemmas.walks.Telling.{AreSound}
-use Rattle.spv_flow.proofs.walks.values.first_in_functions.Given as goal
+use Rattle.spv_flow.proofs.walks.values.first_missing.Given as goal
 
 abbrev pub invariant-loop-at : goal.invariant-loop-at
 invariant-loop-at l = record {
