@@ -73,7 +73,8 @@ fn with_output<'a, F: Read + Drop>(
     with_made(rt, why, command, at_hand, file, out, io::sink())
 }
 
-/// Reads the module of `trace` whole, so that its entry points can be told, writes the run, and answers the exit status.
+/// Reads the module of `trace` whole, so that its entry points can be told, writes the run, and answers the exit
+/// status.
 fn with_bytes<'a>(
     rt: &HostRuntime,
     why: &Why<'a>,

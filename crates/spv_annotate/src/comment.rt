@@ -35,7 +35,8 @@ pub fn left_out(count: usize) -> usize
     if count < 47 { count } else { 47 }
 }
 
-/// Adds the labels of the blocks whose branch goes to an instruction, where it is the OpLabel that first defines its id.
+/// Adds the labels of the blocks whose branch goes to an instruction, where it is the OpLabel that first defines its
+/// id.
 fn push_block(
     out: &mut String,
     insts: &[Inst<'_>],

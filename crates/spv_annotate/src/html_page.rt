@@ -110,9 +110,9 @@ fn page_by(
     Ok(out)
 }
 
-/// The page of a module that words spell: what `annotate` writes, as a document of HTML that needs nothing beside it. It
-/// has the title that is given, a list of contents, and in its element `main` the lines: the line of an instruction has
-/// the instruction's number as its anchor, an id leads to the instruction that defines it, functions and blocks are
+/// The page of a module that words spell: what `annotate` writes, as a document of HTML that needs nothing beside it.
+/// It has the title that is given, a list of contents, and in its element `main` the lines: the line of an instruction
+/// has the instruction's number as its anchor, an id leads to the instruction that defines it, functions and blocks are
 /// headings, and what is told of a fault, its instruction and the blocks of its walk are marked.
 ///
 /// An `AllocError` comes only where a growth of memory was refused.

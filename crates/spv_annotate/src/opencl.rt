@@ -8,8 +8,8 @@ ghost use Rattle.spv_annotate.specs.Notes.{opencl_lines};
 use spv_lines::{split_line, split_token};
 use std::alloc::{AllocError, Global};
 
-/// A line for each number, from 0: the name of the instruction of that number, and how many operands it takes, of printf
-/// one at least. An empty line where no instruction has the number.
+/// A line for each number, from 0: the name of the instruction of that number, and how many operands it takes, of
+/// printf one at least. An empty line where no instruction has the number.
 pub const OPENCL: &str = r#"acos 1
 acosh 1
 acospi 1

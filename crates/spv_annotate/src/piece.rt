@@ -4,7 +4,8 @@ ghost use Rattle.spv_annotate.specs.Piece.{IsWritten, PlainPiece, plain_piece};
 
 use std::alloc::AllocError;
 
-/// A piece of the text for reading. Each text is one without a line feed. Instructions are told by their number, from 0.
+/// A piece of the text for reading. Each text is one without a line feed. Instructions are told by their number, from
+/// 0.
 #[derive(Clone, Copy)]
 pub enum Piece<'t> {
     /// A line of the header, without its end.

@@ -350,8 +350,8 @@ fn write_shown<P: Pen>(pen: &mut P, task: &Task<'_, '_>, text: &str) -> Result<(
 
 /// Writes the text for reading of a module that words spell: the five lines of its header, and the line of each
 /// instruction with a comment behind it; empty lines before sections and functions; and what is told of a fault, below
-/// the line of its instruction. Where a function is asked for, by the id of its OpFunction, only the lines of the header
-/// and those from its OpFunction to its OpFunctionEnd are written, and what is told of a fault there.
+/// the line of its instruction. Where a function is asked for, by the id of its OpFunction, only the lines of the
+/// header and those from its OpFunction to its OpFunctionEnd are written, and what is told of a fault there.
 ///
 /// Time is linear in the words, but for logarithms.
 ///

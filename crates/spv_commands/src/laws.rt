@@ -149,8 +149,8 @@ pub fn run_examples()
         (Some (9 ∷ codes "fault")) None None }
     ensures begins_nothing { (command : Command) (bytes : List ℕ) (old new held kept : Option (List ℕ))
         → ¬ (BeginsByText command (Some []) bytes old new held kept) }
-    // No text at all breaks J1, memory can always be told, `error X1` of an id that is strange, `error X2` of a function
-    // that is absent, and `error file` only after a failed call.
+    // No text at all breaks J1, memory can always be told, `error X1` of an id that is strange, `error X2` of a
+    // function that is absent, and `error file` only after a failed call.
     ensures refused { IsErrorLine (Some []) ⊥ ⊥ ⊥ (codes "error J1" ++ line_end) }
     ensures memory { (text : Option (List ℕ)) → IsErrorLine text ⊥ ⊥ ⊥ memory_line }
     ensures no_entry { (text : Option (List ℕ)) → IsErrorLine text ⊥ (Unit {0}) ⊥ entry_line }

@@ -28,8 +28,8 @@ pub struct Ids {
 }
 
 impl Ids {
-    /// The list that the definitions begin with: at an id's place 0, or one more than the number of the instruction that
-    /// defines it. Ids past the list may have definitions too.
+    /// The list that the definitions begin with: at an id's place 0, or one more than the number of the instruction
+    /// that defines it. Ids past the list may have definitions too.
     #[inline(always)]
     pub fn front(&self) -> &[u32]
         ensures list { result.now ≡ front_in self.now }

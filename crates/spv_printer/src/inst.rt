@@ -121,8 +121,8 @@ fn push_chosen<'t>(
 }
 
 /// The line of an instruction of a module by its number, from 0, as it stands in the text of the whole module, without
-/// its line feed. Empty where there is no instruction of that number. Time is linear in its words; where it has a number
-/// whose width depends on a type, also in the instructions before it.
+/// its line feed. Empty where there is no instruction of that number. Time is linear in its words; where it has a
+/// number whose width depends on a type, also in the instructions before it.
 ///
 /// Of a module that words spell, as `decode` makes them, each instruction has such a line.
 ///

@@ -45,7 +45,8 @@ fn id_in(operands: &[Operand<'_>], n: usize) -> Option<u32>
     }
 }
 
-/// The id that operand `n` uses as a label, if it does, of the operands of an OpPhi, a merge or a terminator with labels.
+/// The id that operand `n` uses as a label, if it does, of the operands of an OpPhi, a merge or a terminator with
+/// labels.
 #[inline(always)]
 pub fn label_in(opcode: u16, operands: &[Operand<'_>], n: usize) -> Option<u32>
     requires { IsTrue (is_labelled opcode) }

@@ -142,9 +142,9 @@ pub fn pair_query(code: &Code<'_, '_>, blocks: &Blocks<'_>, at: u32, n: usize) -
     })
 }
 
-/// Whether it is told at once that the use of an id at an instruction asks nothing, by the list of definitions, `front`:
-/// the id is defined from the instruction `start` on, where the block begins, and before; or before the first function,
-/// or by an OpFunction.
+/// Whether it is told at once that the use of an id at an instruction asks nothing, by the list of definitions,
+/// `front`: the id is defined from the instruction `start` on, where the block begins, and before; or before the first
+/// function, or by an OpFunction.
 #[inline(always)]
 fn is_settled(code: &Code<'_, '_>, front: &[u32], start: u32, at: u32, id: u32) -> bool
     requires front { IsFront code.now.ids.now front.now }

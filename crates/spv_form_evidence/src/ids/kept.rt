@@ -6,9 +6,9 @@ ghost use Rattle.spv_form_evidence.specs.ids.inner.Known.{kept, Puts};
 use std::alloc::{AllocError, Global};
 use std::collections::BTreeMap;
 
-/// Of each id below a bound the number of an instruction, if one is kept. Ids are mostly small, so a list has a place for
-/// each of the first ones, and a map what is kept of others: memory grows with the room that is asked for and the ids of
-/// which an instruction is kept, and not with the bound.
+/// Of each id below a bound the number of an instruction, if one is kept. Ids are mostly small, so a list has a place
+/// for each of the first ones, and a map what is kept of others: memory grows with the room that is asked for and the
+/// ids of which an instruction is kept, and not with the bound.
 #[derive(Drop)]
 pub struct Kept {
     bound: u32,

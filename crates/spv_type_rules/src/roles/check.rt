@@ -161,8 +161,8 @@ fn are_uses_played(
     }
 }
 
-/// Whether types are types, and ids play the roles that are asked for. Results of one id at most are looked at first: of
-/// an id alone or before a memory access of one literal, a parameter, a constant, a variable and a function.
+/// Whether types are types, and ids play the roles that are asked for. Results of one id at most are looked at first:
+/// of an id alone or before a memory access of one literal, a parameter, a constant, a variable and a function.
 #[inline(always)]
 fn are_few_played(definitions: &Definitions<'_, '_>, asked: Asked, operands: &[Operand<'_>]) -> bool
     ensures { MatchBool result (ArePlayed definitions.now asked.first asked.others asked.masked

@@ -12,8 +12,8 @@ use std::alloc::Global;
 /// How many instructions a module has at most for a list of what its ids stand for, which takes 8 bytes for each.
 const MOST_LISTED: usize = 1 << 20;
 
-/// Whether a list with a place for each of so many instructions is small beside their module: they are not too many, and
-/// take three words each or more.
+/// Whether a list with a place for each of so many instructions is small beside their module: they are not too many,
+/// and take three words each or more.
 fn are_listed(plan: &Plan, count: usize) -> bool {
     if count == 0 || count > MOST_LISTED {
         return false;
