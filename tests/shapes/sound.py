@@ -113,6 +113,20 @@ def names(module):
     closed(module)
 
 
+def longer_names(module):
+    """Names of 23 and 27 octets in turn, of one id."""
+    texts = [text_words(text) for text in ("value_of_the_variable_7", "address_of_the_variable_777")]
+
+    def put_names(module):
+        while module.room() > 20:
+            for words in texts:
+                module.put(5, ONE, *words)
+
+    opened(module, put_names)
+    kernel(module)
+    closed(module)
+
+
 def memory(module):
     """Stores with an alignment: a mask and its parameter."""
     opened(module)
@@ -697,6 +711,7 @@ SHAPES = {
     "constants": constants,
     "texts": texts,
     "names": names,
+    "longer-names": longer_names,
     "memory": memory,
     "switches": switches,
     "switch-same": switch_same,
