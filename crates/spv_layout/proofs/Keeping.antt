@@ -135,7 +135,7 @@ late_get f d m [] n k h = refl
 late_get f d m (s ∷ ss) n zero h = let e : m ≡ n = omega arith in rw e refl
 late_get f d m (s ∷ ss) n (suc k) h = late_get f d (m + 1) ss n k (omega arith)
 
-late_length : (functions definitions m : ℕ) (late : List Standing) → length (late_places functions definitions m late) ≡ length late
+pub late_length : (functions definitions m : ℕ) (late : List Standing) → length (late_places functions definitions m late) ≡ length late
 late_length f d m [] = refl
 late_length f d m (s ∷ ss) = ap suc (late_length f d (m + 1) ss)
 
@@ -152,7 +152,7 @@ last_function is n k f s l a = of_span s.span s.up_to where
   of_span _ (UpTo.after g j b m o e) = (g, b)
 
 -- OpFunction and OpLabel are of no section from 1 to 8
-function_late : (c : Class) → is_among c (Function ∷ []) ≡ true → section_of c ≡ None
+pub function_late : (c : Class) → is_among c (Function ∷ []) ≡ true → section_of c ≡ None
 function_late Function h = refl
 function_late _ h = cc
 

@@ -18,6 +18,7 @@ pub mod Uses
 pub mod Numbers
 pub mod Following
 pub mod Keeping
+pub mod Globals
 pub mod Singles
 pub mod Rooms
 pub mod Tables

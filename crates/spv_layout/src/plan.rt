@@ -1,4 +1,4 @@
-ghost use Rattle.std.specs.Prelude.{◌≡◌, ◌≤◌, ◌<◌, ℕ, List, length, map, slice_get, IfOk};
+ghost use Rattle.std.specs.Prelude.{◌≡◌, ◌≤◌, ◌<◌, ◌∷◌, [], ℕ, List, length, map, slice_get, IfOk};
 ghost use Rattle.std.specs.Prelude.{IfErr, IfSome, IfNone, Some};
 ghost use Rattle.spv_words.specs.Header.{greatest_length};
 ghost use Rattle.spv_module.specs.Module.{plain_inst, plain_insts};
@@ -10,7 +10,8 @@ ghost use Rattle.spv_layout.specs.Stage.{of_profile};
 ghost use Rattle.spv_layout.specs.Broken.{Broken};
 ghost use Rattle.spv_layout.specs.DeadPlace.{IsDeadPlace};
 ghost use Rattle.spv_layout.specs.Shape.{FitsShape};
-ghost use Rattle.spv_layout.specs.Place.{IsShort, first_word_of};
+ghost use Rattle.spv_layout.specs.Place.{AreFew, IsAt, IsShort, first_word_of};
+ghost use Rattle.spv_layout.specs.declared.class.Class.TheVariants.{Function};
 ghost use Rattle.spv_layout.specs.inner.Kept.{AreSectioned};
 ghost use Rattle.spv_layout.specs.inner.Outcome.{ArePlacesOf, IsStopAt};
 ghost use Rattle.spv_layout.specs.Plan.{IsPlan, IsRefusal};
@@ -44,11 +45,13 @@ pub struct Plan {
 impl Model for Plan {
     ghost use Rattle.std.specs.Prelude.{List};
     ghost use Rattle.spv_layout.specs.declared.place.Place.{Place};
-    ghost use Rattle.spv_layout.specs.inner.Kept.{places_in};
+    ghost use Rattle.spv_layout.specs.inner.Kept.{places_in, AreEarly};
 
     ghost Value = { List Place };
 
     ghost view = { λ p. places_in p.functions p.definitions p.early.items p.late.items };
+
+    ghost invariant = { λ p. AreEarly p.early.items };
 }
 
 impl Plan {
@@ -66,6 +69,18 @@ impl Plan {
         } else {
             None
         }
+    }
+
+    /// How many instructions stand before the first OpFunction: all, where there is none. It takes no memory.
+    #[inline(always)]
+    pub fn before_functions(&self) -> u32
+        requires few { AreFew self.now }
+        ensures within { result ≤ length self.now }
+        ensures before { (is : List PlainInst) (n : ℕ) → ArePlacesOf is self.now → n < result
+            → ¬ (IsAt is n (Function ∷ [])) }
+    {
+        let count = self.early.len() + self.late.len();
+        self.functions.min(count as u32)
     }
 
     /// The fault of a rule at an instruction, with that one's first word. The module has an instruction of that number,

@@ -15,6 +15,7 @@ use Rattle.spv_layout.proofs.Misfits.{fit_none, fit_more, fit_all, inst_there, m
 use Rattle.spv_layout.proofs.Sums.{sum_more, sum_bound}
 use Rattle.spv_layout.proofs.Following.{none_follows, stands_at, follows_on}
 use Rattle.spv_layout.proofs.Keeping.{class_there, none_kept, keeps, planned}
+use Rattle.spv_layout.proofs.Globals.{are_early}
 use Rattle.spv_layout.proofs.Rooms.{room_left, room_more}
 use Rattle.spv_layout.proofs.plan.plan_of.Goals as goal
 
@@ -132,3 +133,6 @@ returns-clause-plan c =
     (fit_all c.args.kinds.now is c.loop-i.i n c.loop-i.invariant.fit)
     (member_all c.args.insts.now c.loop-i.i c.loop-i.state (omega arith) h c.loop-i.invariant.leads)
     (rw n at c.loop-i.invariant.follows) (rw n at c.loop-i.invariant.kept)
+
+pub invariant_of-result : goal.invariant_of-result
+invariant_of-result c = are_early (map plain_inst c.args.insts.now) c.loop-i.early.items c.loop-i.invariant.kept.each_early
