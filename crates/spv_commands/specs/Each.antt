@@ -43,8 +43,8 @@ pub record TellsObject (task : Task) (G : Table) (reach : Reach) (name bytes out
   pub written : out ≡ object.text.items
   pub answered : IsTrue valid ↔ (object.judgment ≡ Valid)
 
--- What is written of a module's bytes: the object, or the name of the file, if that is asked for, and behind it what the
--- task writes; and whether the module is valid.
+-- What is written of a module's bytes: the object, or the name of the file, if that is asked for, and behind it what
+-- the task writes; and whether the module is valid.
 abbrev pub Judges : Telling → Task → Table → Reach → List ℕ → List ℕ → List ℕ → Bool → Type 0
 Judges Json task G reach name bytes out valid = TellsObject task G reach name bytes out valid
 Judges telling task G reach name bytes out valid = DoesTask task G reach bytes (heading telling name) (Some out) valid

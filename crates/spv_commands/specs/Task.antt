@@ -132,9 +132,9 @@ view_of forms.Page color file = views.Page file
 -- The standard output that held the bytes `old`, where they are known, now also holds what the command writes of the
 -- bytes of its file, and nothing else: a task what it writes of this one of its files, `show` the text or the line of a
 -- fault, `asm` the line of a fault or nothing, `trace` the run or the verdict line, `annotate` and `graph` what people
--- look at or the verdict line, `rules` what codes say, of no table and no file, `grammar` the grammar file of the table. The file that `asm` makes held the bytes `held`, where they are known,
--- and now also holds the module. The answer tells whether the line is `valid`, or the text, the module or the run was
--- written.
+-- look at or the verdict line, `rules` what codes say, of no table and no file, `grammar` the grammar file of the
+-- table. The file that `asm` makes held the bytes `held`, where they are known, and now also holds the module. The
+-- answer tells whether the line is `valid`, or the text, the module or the run was written.
 abbrev pub Does : Command → Table → List ℕ → Option (List ℕ) → Option (List ℕ) → Option (List ℕ)
     → Option (List ℕ) → Bool → Type 0
 Does (Judge task grammar files as_1_6 extended naming quiet json) G bytes old new held kept answer =

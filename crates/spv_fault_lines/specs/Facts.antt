@@ -53,7 +53,8 @@ types_facts (t ∷ ts) = fact.Types (t ∷ ts) ∷ []
 abbrev pub type_facts : List PlainInst → List ℕ → List Fact
 type_facts is xs = types_facts (type_things is [] xs)
 
--- operand k of instruction n, the instruction that defines its id, and the types that are compared, where there are such
+-- operand k of instruction n, the instruction that defines its id, and the types that are compared, where there are
+-- such
 abbrev pub operand_facts : ℕ → Option ℕ → List Fact
 operand_facts n None = []
 operand_facts n (Some k) = fact.Operand n k ∷ []

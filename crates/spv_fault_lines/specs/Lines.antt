@@ -320,8 +320,8 @@ key_of (fact.Operands n) = key.Operands
 key_of (fact.Least n) = key.Least
 key_of (fact.Most n) = key.Most
 
--- What is told behind the key and its colon, in short or in full: under the table, of these instructions and their shown
--- lines. Nothing of types, each of which has a line of its own.
+-- What is told behind the key and its colon, in short or in full: under the table, of these instructions and their
+-- shown lines. Nothing of types, each of which has a line of its own.
 abbrev pub rest_of : Detail → Table → List PlainInst → List (List ℕ) → Fact → List ℕ
 rest_of d G is lines (fact.At n) = name_part (inst_line lines n)
 rest_of d G is lines (fact.In p) = place_part is p

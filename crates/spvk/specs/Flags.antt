@@ -4,8 +4,8 @@ use Rattle.spv_words.specs.Version.{as_1_6}
 use Rattle.spv_extended.specs.declared.reach.Reach.TheVariants.{Profile, Extended}
 use Rattle.spvk.specs.declared.flags.Asked.{Asked}
 
--- The flags of the C header: 1, the version is taken to be 1.6; 2, extended instructions are looked at whole; 3 is both.
--- In any other number a bit is set that is no flag.
+-- The flags of the C header: 1, the version is taken to be 1.6; 2, extended instructions are looked at whole; 3 is
+-- both. In any other number a bit is set that is no flag.
 abbrev pub asked_by : ℕ → Option Asked
 asked_by flags =
     if nat_eq flags 0 then Some (record { newest = false; reach = Profile }) else (

@@ -46,15 +46,16 @@ abbrev pub pair_cmp : ℕ × ℕ → ℕ × ℕ → Ordering
 pair_cmp x y = ordering_then (nat_cmp x.0 y.0) (nat_cmp x.1 y.1)
 
 -- What is kept of opcodes, whether their entries are covered, and whether nothing else is asked there; of enumerants,
--- by their kinds and values, whether they are covered; of a mask, that its set bits are; and of enumerants that were met
--- of late, that they are.
+-- by their kinds and values, whether they are covered; of a mask, that its set bits are; and of enumerants that were
+-- met of late, that they are.
 pub record IsKnown (s : Subject) (m : Memo) : Type 0 where
   pub entries : (n : ℕ) (a : Answer) → slice_get m.entries.items n ≡ Some a
       → IsAnswer a (IsCoveredEntry s.table s.insts n) (IsAskedAlone s.insts n)
   pub enumerants : (k v : ℕ) (b : Bool) → get pair_cmp m.enumerants (k, v) ≡ Some b → IsTrue b
       ↔ IsCoveredValue s.table s.insts k v
   pub mask : IsCoveredMask s.table s.insts m.mask_kind m.mask
-  pub recent : (n : ℕ) (e : Enumerated) → slice_get m.recent n ≡ Some (Some e) → IsCoveredValue s.table s.insts e.kind e.value
+  pub recent : (n : ℕ) (e : Enumerated) → slice_get m.recent n ≡ Some (Some e)
+      → IsCoveredValue s.table s.insts e.kind e.value
 
 -- the entry of an instruction and all its operands are covered
 pub record AreCovered (G : Table) (is : List PlainInst) (i : PlainInst) : Type 0 where

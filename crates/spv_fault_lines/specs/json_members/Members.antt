@@ -1,4 +1,5 @@
--- The members of a JSON object that tell what shows a fault. (Own.) Each fact is one: its name is that of the fact's key.
+-- The members of a JSON object that tell what shows a fault. (Own.) Each fact is one: its name is that of the fact's
+-- key.
 use Rattle.std.specs.Prelude.{◌++◌, ◌-◌, ℕ, List, [], ◌∷◌, Option, Some, None, Bool, true, false, codes, drop, flat_map}
 use Rattle.std.specs.Prelude.{length, nat_lt, option_map, slice_get, unwrap_or, if◌then◌else◌}
 use Rattle.json.specs.Token.{Token, begin_object, boolean, end_object, key as name, null, string}

@@ -1,4 +1,5 @@
--- What shows that one of the rules F is broken at an instruction. A block goes by the number of its OpLabel. [2.4, 2.16]
+-- What shows that one of the rules F is broken at an instruction. A block goes by the number of its OpLabel. [2.4,
+-- 2.16]
 use Rattle.std.specs.Prelude.{◌<◌, ◌⊎◌, ◌↔◌, ℕ, List}
 use Rattle.std.specs.List.{Contains}
 use Rattle.std.specs.List.Sorted.{IsStrictlyIncreasing}

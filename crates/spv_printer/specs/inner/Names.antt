@@ -13,7 +13,8 @@ use Rattle.spv_printer.specs.declared.named.Named.TheVariants.{Opcode, Value, Ma
 use Rattle.spv_printer.specs.declared.names.Names.{Names}
 use Rattle.spv_printer.specs.contracts.named.NamedOrd.TheImpl as named_order
 
--- whether an opcode is shown by the name of its entry, a value by that of its enumerant, a mask by those of its set bits
+-- whether an opcode is shown by the name of its entry, a value by that of its enumerant, a mask by those of its set
+-- bits
 abbrev pub IsShownBy : Table → Named → Bool → Type 0
 IsShownBy G (Opcode x) by_name =
     (e : Entry) → entry_of G x ≡ Some e → shown_name G x e ≡ (if by_name then e.name else by_number x)

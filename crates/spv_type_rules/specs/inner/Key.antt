@@ -1,4 +1,5 @@
--- An instruction without its result, as a list of numbers. (For the code alone; `one_key` says that it is told by them.)
+-- An instruction without its result, as a list of numbers. (For the code alone; `one_key` says that it is told by
+-- them.)
 use Rattle.std.specs.Prelude.{ℕ, ◌+◌, List, [], ◌∷◌, ◌++◌, map}
 use Rattle.spv_module.specs.Operand.{Plain, OfType, Result, Id, Word, Number, Text, Value, Mask, Argument, Mention}
 use Rattle.spv_module.specs.Operand.{PlainInst}
