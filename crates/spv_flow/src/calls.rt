@@ -10,6 +10,6 @@ mod ordered;
 mod reach;
 
 pub use calls::first_cycle;
-pub use cyclic::{first_cyclic, first_cyclic_plainly};
+pub use cyclic::first_cyclic;
 pub use gather::{calls_of, entries_of};
 pub use graph::Call;
