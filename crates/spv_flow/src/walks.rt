@@ -11,4 +11,4 @@ mod values;
 
 pub use operands::use_id;
 pub use queries::{pair_query, use_query};
-pub use values::{check_values, count_globals};
+pub use values::check_values;

@@ -24,7 +24,6 @@ use crate::walks::queries::{Taking, queries_of, query_at, taking_of};
 use crate::walks::way::{labels_on, way_past, whole_way};
 use spv_evidence::{Evidence, Listed};
 use spv_flow::walks::code::Code;
-use spv_flow::walks::count_globals;
 use spv_flow::walks::divide::{divide, function_extent};
 use spv_flow::walks::edges::{Blocks, build};
 use spv_graphs::{Graph, Query, least_unavailable};
@@ -172,7 +171,7 @@ pub fn walk_evidence(
         → IfOk result (λ e. IsEvidence G (plain_insts «module».now) rule inst e) }
 {
     let insts = module.insts.as_slice();
-    let globals = count_globals(insts);
+    let globals = plan.before_functions();
     let code = Code {
         insts,
         plan,

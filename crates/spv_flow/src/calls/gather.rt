@@ -110,8 +110,8 @@ pub fn calls_of(
     ensures { IfOk result (λ calls. AreCalls (map plain_inst insts.now) (length insts.now) calls.items) }
 {
     let mut calls = Vec::new(alloc);
-    for (i, inst) in insts.iter().enumerate() {
-        if let Some(call) = call_at(plan, ids, inst, i as u32) {
+    for i in plan.before_functions()..insts.len() as u32 {
+        if let Some(call) = call_at(plan, ids, &insts[i as usize], i) {
             calls.push(call)?;
         }
     }

@@ -1,17 +1,14 @@
 //! The first use of a value that some walk misses.
 
-ghost use Rattle.std.specs.Prelude.{◌≤◌, ◌<◌, ◌+◌, ℕ, List, length, map, sum_by, IfOk, IfErr};
+ghost use Rattle.std.specs.Prelude.{◌≤◌, ◌<◌, ◌+◌, length, sum_by, IfOk, IfErr};
 ghost use Rattle.spv_table.specs.Table.{Table};
-ghost use Rattle.spv_module.specs.Module.{plain_inst, plain_insts};
-ghost use Rattle.spv_module.specs.Operand.{PlainInst};
+ghost use Rattle.spv_module.specs.Module.{plain_insts};
 ghost use Rattle.spv_layout.specs.Stage.{of_branches, of_values};
 ghost use Rattle.spv_layout.specs.First.{IsUnbroken};
 ghost use Rattle.spv_layout.specs.Place.{word_count, IsShort, AreFew};
 ghost use Rattle.spv_layout.specs.Plan.{IsPlan};
 ghost use Rattle.spv_ids.specs.Outcome.{AreIds};
 ghost use Rattle.spv_flow.specs.branches.Broken.{Broken};
-ghost use Rattle.spv_flow.specs.branches.Target.{IsOp};
-ghost use Rattle.spv_flow.specs.branches.inner.Target as opcodes;
 ghost use Rattle.spv_flow.specs.walks.inner.Code.{insts_of, IsCode};
 ghost use Rattle.spv_flow.specs.walks.Found.{IsRefusal};
 ghost use Rattle.spv_flow.specs.walks.inner.Unavailable.{IsFirstOf, IsRuleAt};
@@ -24,19 +21,6 @@ use spv_layout::Plan;
 use spv_module::opcode::{FUNCTION, PHI};
 use spv_module::{Inst, Module, Rule, Stop};
 use std::alloc::{AllocError, Global};
-
-/// How many instructions stand before the first OpFunction.
-pub fn count_globals(insts: &[Inst<'_>]) -> u32
-    requires { AreFew insts.now }
-    ensures { (k : ℕ) → k < result → ¬ (IsOp (map plain_inst insts.now) k opcodes.is_function) }
-{
-    for at in 0..insts.len() {
-        if insts[at].opcode == FUNCTION {
-            return at as u32;
-        }
-    }
-    insts.len() as u32
-}
 
 /// The first instruction at which a walk misses a value that is used there.
 fn first_missing(alloc: Global, code: &Code<'_, '_>) -> Result<Option<u32>, AllocError>
@@ -103,7 +87,7 @@ pub fn check_values(alloc: Global, module: &Module<'_>, plan: &Plan, ids: &Ids) 
         → IfErr result (λ s. IsRefusal G (plain_insts «module».now) s) }
 {
     let insts = module.insts.as_slice();
-    let globals = count_globals(insts);
+    let globals = plan.before_functions();
     let code = Code {
         insts,
         plan,

@@ -5,7 +5,8 @@ use Rattle.std.proofs.lemmas.Bool.{cases_Bool, eqb-true}
 use Rattle.std.proofs.lemmas.Option.{slice_get_within}
 use Rattle.spv_module.specs.declared.opcode.TheConstants as opcode
 use Rattle.spv_module.specs.Operand.{Plain, PlainInst, Id}
-use Rattle.spv_layout.specs.Place.{IsDefinition}
+use Rattle.spv_layout.specs.declared.class.Class.TheVariants.{Function}
+use Rattle.spv_layout.specs.Place.{IsAt, IsDefinition}
 use Rattle.spv_layout.proofs.Places.{function_same}
 use Rattle.spv_ids.specs.declared.ids.Ids.{Ids}
 use Rattle.spv_ids.specs.Definition.{IsDefinedAt}
@@ -35,9 +36,13 @@ entry_told i x h = elim (cases_Bool (nat_eq i.opcode opcode.ENTRY_POINT)) [
   | inr n ↦ (let h' = rw n at h in cc)
 ]
 
--- no call stands before the first instruction
-pub calls_none : (is : List PlainInst) → AreCalls is 0 []
-calls_none is = record { sound = λ k c h. cc; complete = λ m f g lt k. absurd (omega (arith, lt)); rising = λ j k c d lt h i. cc }
+-- no call stands before the first OpFunction
+pub calls_none : (is : List PlainInst) (n : ℕ) → ((k : ℕ) → k < n → ¬ (IsAt is k (Function ∷ []))) → AreCalls is n []
+calls_none is n before = record {
+  sound = λ k c h. cc;
+  complete = λ m f g lt k. let b = k.of.begun in let u = b.up_to in absurd (before f (omega (arith, lt, u)) b.there);
+  rising = λ j k c d lt h i. cc;
+}
 
 -- the callee of a call
 call_callee : (is : List PlainInst) (n f g : ℕ) (i : PlainInst) → slice_get is n ≡ Some i → (k : IsCall is n f g) → callee_in i ≡ Some k.callee

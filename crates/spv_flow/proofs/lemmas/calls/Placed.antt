@@ -1,5 +1,5 @@
 -- Definitions, by where instructions stand.
-use Rattle.std.proofs.Common.{◌≡◌, ◌∙◌, ℕ, List, [], refl, ap, Option, Some, None, arith}
+use Rattle.std.proofs.Common.{◌≡◌, ◌∙◌, ℕ, List, refl, ap, Option, Some, None, arith}
 use Rattle.std.specs.Prelude.{slice_get, option_map, MatchOption}
 use Rattle.std.proofs.lemmas.Option.{slice_get-map}
 use Rattle.spv_module.specs.declared.opcode.TheConstants as opcode

@@ -1,5 +1,5 @@
 -- What opcodes tell of classes, and where functions are.
-use Rattle.std.proofs.Common.{◌≡◌, ◌≤◌, ◌⊎◌, ℕ, List, [], ◌∷◌, true, refl, inl, inr, Some, None, arith}
+use Rattle.std.proofs.Common.{◌≡◌, ◌<◌, ◌≤◌, ◌⊎◌, ℕ, List, [], ◌∷◌, true, refl, inl, inr, Some, None, arith}
 use Rattle.std.specs.Prelude.{slice_get, nat_le, ◌&&◌}
 use Rattle.std.proofs.lemmas.Bool.{cases_lt, eqb-true, or_cases}
 use Rattle.std.proofs.lemmas.Bool.Decides.{nat_tests}
@@ -8,10 +8,12 @@ use Rattle.spv_module.specs.declared.opcode.TheConstants as opcode
 use Rattle.spv_module.specs.Operand.{PlainInst}
 use Rattle.spv_layout.specs.declared.class.Class.{Class}
 use Rattle.spv_layout.specs.declared.class.Class.TheVariants.{Function, FunctionEnd, Label}
+use Rattle.spv_layout.specs.declared.place.Place.{Place}
 use Rattle.spv_layout.specs.Class.{is_among}
 use Rattle.spv_layout.specs.Rows.{rows, class_of}
 use Rattle.spv_layout.specs.Layout.{classes}
 use Rattle.spv_layout.specs.Place.{IsAt, IsOfFunction, IsOfSection, section_of, terminators}
+use Rattle.spv_layout.specs.inner.Outcome.{ArePlacesOf}
 use Rattle.spv_ids.specs.Order.{IsScoped}
 use Rattle.spv_flow.specs.branches.Target.{is_label, is_branch, IsOp}
 use Rattle.spv_flow.specs.branches.inner.Target.{is_function, is_terminator}
@@ -71,6 +73,11 @@ switch_late = refl
 
 pub function_at : (is : List PlainInst) (n : ℕ) → IsOp is n is_function → IsAt is n (Function ∷ [])
 function_at is n op = let h = holds is n is_function op in at_by is n opcode.FUNCTION h.inst (Function ∷ []) h.there (eqb-true h.inst.opcode opcode.FUNCTION h.holds) function_class
+
+-- no OpFunction stands among the first instructions
+pub no_function : (is : List PlainInst) (places : List Place) (count : ℕ) → ArePlacesOf is places → ((js : List PlainInst) (n : ℕ) → ArePlacesOf js places → n < count → ¬ (IsAt js n (Function ∷ []))) → (k : ℕ) → k < count
+    → ¬ (IsOp is k is_function)
+no_function is places count p before k lt op = before is k p lt (function_at is k op)
 
 pub end_at : (is : List PlainInst) (n : ℕ) (i : PlainInst) → slice_get is n ≡ Some i → i.opcode ≡ opcode.FUNCTION_END → IsAt is n (FunctionEnd ∷ [])
 end_at is n i there e = at_by is n opcode.FUNCTION_END i (FunctionEnd ∷ []) there e end_class

@@ -1,4 +1,5 @@
-use Rattle.std.proofs.Common.{map}
+use Rattle.std.proofs.Common.{◌≡◌, map, length, arith}
+use Rattle.std.proofs.lemmas.List.{length-map}
 use Rattle.std.proofs.lemmas.Result.{IfOk-weaker}
 use Rattle.spv_module.specs.Module.{plain_inst, plain_insts}
 use Rattle.spv_evidence.specs.declared.evidence.Evidence.{Evidence}
@@ -8,14 +9,18 @@ use Rattle.spv_flow.specs.walks.inner.Code.{IsCode}
 use Rattle.spv_flow_evidence.specs.walks.Evidence.{IsEvidence}
 use Rattle.spv_flow_evidence.specs.walks.inner.Shown.{IsShown}
 use Rattle.spv_flow.proofs.lemmas.branches.Firsts.{few_insts}
+use Rattle.spv_flow.proofs.lemmas.walks.Places.{no_function}
 use Rattle.spv_flow_evidence.proofs.lemmas.walks.Showing.{misses, as_rule}
 use Rattle.spv_flow_evidence.proofs.walks.walk_evidence.Goals as goal
 
-pub count_globals-globals-requires : goal.count_globals-globals-requires
-count_globals-globals-requires c =
+pub before_functions-globals-requires : goal.before_functions-globals-requires
+before_functions-globals-requires c =
     let v = c.as_slice-insts.ensures.value in
     let xs = c.as_slice-insts.result.now in
-    few_insts xs (rw v c.requires.words)
+    let few = few_insts xs (rw v c.requires.words) in
+    let n : length c.args.plan.now ≡ length (map plain_inst xs) = rw v c.requires.broken.1.count in
+    let l = length-map xs plain_inst in
+    omega (arith, few, n, l)
 
 pub evidence_at-requires-clause-code : goal.evidence_at-requires-clause-code
 evidence_at-requires-clause-code c =
@@ -32,7 +37,8 @@ evidence_at-requires-clause-code c =
         ids = rw v k.2;
         branches = rw v k.3;
         most = few;
-        global = c.count_globals-globals.ensures;
+        global = no_function (map plain_inst xs) c.args.plan.now c.before_functions-globals.result (rw v k.1.place)
+            c.before_functions-globals.ensures.before;
       },
       rw v m,
     )
@@ -54,7 +60,7 @@ returns c = λ G p a b.
       plan = c.args.plan;
       ids = c.args.ids;
       globals =
-          c.count_globals-globals.result;
+          c.before_functions-globals.result;
     } in
     let is : IsCode G code = record {
       plan = rw v p;
@@ -63,7 +69,8 @@ returns c = λ G p a b.
       branches =
           rw v b;
       most = few;
-      global = c.count_globals-globals.ensures;
+      global = no_function (map plain_inst xs) c.args.plan.now c.before_functions-globals.result (rw v p.place)
+          c.before_functions-globals.ensures.before;
     } in
     IfOk-weaker c.evidence_at.result
     (λ (e : Evidence). (H : Table) → IsCode H code → IsShown H (map plain_inst xs) c.taking_of.result c.args.inst e)

@@ -1,4 +1,5 @@
 use Rattle.std.proofs.Common.{◌≡◌, ℕ, length, map, subst, arith}
+use Rattle.std.proofs.lemmas.List.{length-map}
 use Rattle.spv_module.specs.Module.{plain_inst}
 use Rattle.spv_layout.proofs.Misfits.{inst_there}
 use Rattle.spv_flow.specs.calls.inner.Found.{AreCalls}
@@ -17,12 +18,24 @@ loop-i-preserved c =
       | in_default w ↦ rw w.calls-is (calls_past is c.loop-i.i c.loop-i.calls.items c.loop-i.invariant (w.in_default.ensures is c.requires.places c.requires.ids h))
     ]
 
+pub before_functions-i-requires : goal.before_functions-i-requires
+before_functions-i-requires c =
+    let few = c.requires.few in
+    let count = c.requires.places.count in
+    let l = length-map c.args.insts.now plain_inst in
+    omega (arith, few, count, l)
+
 pub loop-i-init : goal.loop-i-init
-loop-i-init c = rw c.new-calls.ensures.items (calls_none (map plain_inst c.args.insts.now))
+loop-i-init c =
+    let is = map plain_inst c.args.insts.now in
+    rw c.new-calls.ensures.items (calls_none is c.before_functions-i.result (λ k lt. c.before_functions-i.ensures.before is k c.requires.places.place lt))
 
 pub returns : goal.returns
 returns c =
     let last = c.loop-i-test.false in
-    let to = c.loop-i.auto.i-end in
+    let within = c.before_functions-i.ensures.within in
+    let count = c.requires.places.count in
+    let l = length-map c.args.insts.now plain_inst in
+    let to = c.loop-i.auto.i-end (omega (arith, within, count, l)) in
     let e : c.loop-i.i ≡ length c.args.insts.now = omega (arith, last, to) in
     subst (λ (n : ℕ). AreCalls (map plain_inst c.args.insts.now) n c.loop-i.calls.items) e c.loop-i.invariant
