@@ -16,5 +16,5 @@ mod variable;
 pub use calculation::{bitcast, selects};
 pub use composite::are_components;
 pub use row::{Access, Calculation, Composite, Row, row_of};
-pub use typed::{inst_holds, op_holds};
+pub use typed::inst_holds;
 pub use variable::{is_class_at, is_initializer};

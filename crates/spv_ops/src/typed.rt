@@ -1,12 +1,9 @@
-ghost use Rattle.std.specs.Prelude.{◌≡◌, ◌↔◌, ◌<◌, ℕ, length, Some, None, IsTrue, IsSomeAnd};
+ghost use Rattle.std.specs.Prelude.{◌≡◌, ◌↔◌, ◌<◌, length, Some, None, IsTrue, IsSomeAnd};
 ghost use Rattle.std.specs.List.{AllByRecursion};
-ghost use Rattle.spv_table.specs.Table.{Table};
-ghost use Rattle.spv_module.specs.Module.{plain_inst, plain_insts, plain_operands};
-ghost use Rattle.spv_layout.specs.Plan.{IsPlan};
-ghost use Rattle.spv_ids.specs.Outcome.{IsDefinitionOf, definition_in};
+ghost use Rattle.spv_module.specs.Module.{plain_inst, plain_operands};
 ghost use Rattle.spv_type_forms.specs.Operands as spec;
 ghost use Rattle.spv_type_forms.specs.Types.{IsData};
-ghost use Rattle.spv_ops.specs.Typed.{RowHolds, IsTypedAt};
+ghost use Rattle.spv_ops.specs.Typed.{RowHolds};
 ghost use Rattle.spv_ops.specs.inner.Typed.{IsTypedIn};
 ghost use Rattle.spv_ops.specs.Row as spec_row;
 ghost use Rattle.spv_ops.specs.declared.row.Row.TheVariants.{Undef, Calculation, Access, Phi, BranchConditional};
@@ -25,9 +22,7 @@ use crate::construct::constructs;
 use crate::fixed::{access_holds, binary_holds, calculation_holds, composite_holds};
 use crate::row::{Row, row_of};
 use crate::variable::variable_holds;
-use spv_ids::Ids;
-use spv_layout::Plan;
-use spv_module::{Inst, Module, Operand};
+use spv_module::{Inst, Operand};
 use spv_type_forms::{
     Definitions, Form, Scalar, Sort, after_head, all_pairs_of_type, is_data, is_int, result_type,
     word_count,
@@ -222,19 +217,4 @@ pub fn inst_holds(definitions: &Definitions, number: u32, inst: &Inst) -> bool
         Common::Free => true,
         Common::Other => row_holds(definitions, number, inst),
     }
-}
-
-/// Whether Y5 is unbroken at instruction `inst`, from 0: whether its opcode's row of types, if there is one, holds of
-/// its result type, the types that its value operands are declared with, and its literals (SPIR-V Specification 1.6,
-/// sections 3.49.1, 3.49.8, 3.49.11 to 3.49.15, 3.49.17, 3.49.18 and 3.49.20). `plan` and `ids` are what `lay_out` and
-/// `number` answered of that module. It takes no memory, and its time is linear in the operands of that instruction.
-pub fn op_holds(module: &Module<'_>, plan: &Plan, ids: &Ids, inst: u32) -> bool
-    requires plan { (G : Table) × IsPlan G (plain_insts «module».now) plan.now }
-    requires ids { (x : ℕ) → IsDefinitionOf (plain_insts «module».now) x (definition_in ids.now x) }
-    requires inst { inst < length (plain_insts «module».now) }
-    ensures { (G : Table) → IsPlan G (plain_insts «module».now) plan.now → IsTrue result
-        ↔ IsTypedAt G (plain_insts «module».now) inst }
-{
-    let definitions = Definitions::new(module.insts.as_slice(), plan, ids);
-    inst_holds(&definitions, inst, definitions.inst(inst))
 }

@@ -4,7 +4,7 @@ use Rattle.spv_module.specs.Module.{plain_inst, plain_insts}
 use Rattle.spv_ids.specs.Outcome.{IsDefinitionOf, definition_in}
 use Rattle.spv_ops.specs.inner.Typed.{IsTypedIn}
 use Rattle.spv_ops.proofs.Judged.{told}
-use Rattle.spv_ops.proofs.typed.op_holds.Goals as goal
+use Rattle.spv_verdict.proofs.operation.op_holds.Goals as goal
 
 pub new-definitions-requires-clause-ids : goal.new-definitions-requires-clause-ids
 new-definitions-requires-clause-ids c = λ x.
