@@ -1,10 +1,10 @@
-pub mod TagTests
-pub mod Short
-pub mod Lookups
-pub mod TwoTypes
+mod TagTests
+mod Short
+mod Lookups
+mod TwoTypes
 pub mod Rows
 pub mod ValuePlaces
 pub mod Judged
-pub mod Worked
+mod Worked
 mod CommonRows
 mod Counts
