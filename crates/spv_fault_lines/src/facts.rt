@@ -106,25 +106,16 @@ fn push_defined(facts: &mut Vec<Fact>, defined: Option<u32>) -> Result<(), Alloc
 fn push_id_facts(facts: &mut Vec<Fact>, inst: u32, evidence: &Evidence) -> Result<(), AllocError>
     ensures { OnOk result (facts.new.items ≡ facts.old.items ++ parts.id_facts inst evidence.now) }
 {
-    match evidence {
-        Evidence::Operand { operand } => push_one(
-            facts,
-            Fact::Operand {
-                inst,
-                operand: *operand,
-            },
-        ),
-        Evidence::Earlier { inst } => push_one(facts, Fact::Earlier { inst: *inst }),
+    match *evidence {
+        Evidence::Operand { operand } => push_one(facts, Fact::Operand { inst, operand }),
+        Evidence::Earlier { inst } => push_one(facts, Fact::Earlier { inst }),
         Evidence::Defined {
             operand,
             inst: place,
         } => push_two(
             facts,
-            Fact::Operand {
-                inst,
-                operand: *operand,
-            },
-            Fact::Defined { inst: *place },
+            Fact::Operand { inst, operand },
+            Fact::Defined { inst: place },
         ),
         Evidence::Local {
             operand,
@@ -132,14 +123,9 @@ fn push_id_facts(facts: &mut Vec<Fact>, inst: u32, evidence: &Evidence) -> Resul
             function,
         } => push_three(
             facts,
-            Fact::Operand {
-                inst,
-                operand: *operand,
-            },
-            Fact::Defined { inst: *place },
-            Fact::LocalTo {
-                function: *function,
-            },
+            Fact::Operand { inst, operand },
+            Fact::Defined { inst: place },
+            Fact::LocalTo { function },
         ),
         Evidence::Miscast {
             operand,
@@ -147,12 +133,9 @@ fn push_id_facts(facts: &mut Vec<Fact>, inst: u32, evidence: &Evidence) -> Resul
             inst: place,
         } => push_three(
             facts,
-            Fact::Operand {
-                inst,
-                operand: *operand,
-            },
-            Fact::Role { role: *role },
-            Fact::Defined { inst: *place },
+            Fact::Operand { inst, operand },
+            Fact::Role { role },
+            Fact::Defined { inst: place },
         ),
         _ => Ok(()),
     }
