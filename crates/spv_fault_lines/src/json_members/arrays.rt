@@ -11,7 +11,7 @@ use crate::{About, Thing, listed_names, needs_of, push_capability};
 use spv_evidence::Lister;
 use spv_module::Inst;
 use spv_table::{NameList, Table};
-use std::alloc::{AllocError, Global};
+use std::alloc::AllocError;
 
 /// Adds the result of an instruction, if it has one.
 fn push_result(out: &mut Output, about: &About<'_, '_>, inst: u32) -> Result<(), AllocError>
@@ -129,28 +129,27 @@ fn push_names(out: &mut Output, names: &NameList) -> Result<(), AllocError>
 /// Adds the name of a capability, or its number where the grammar has none.
 pub fn push_capability_name(
     out: &mut Output,
-    alloc: Global,
-    table: &Table,
+    about: &About<'_, '_>,
     capability: u32,
 ) -> Result<(), AllocError>
-    ensures { OnOk result (out.new ≡ out.old ++ members.capability_token table.now capability) }
+    ensures { OnOk result (out.new ≡ out.old ++ members.capability_token about.now.table.now capability) }
 {
-    let mut text = String::new(alloc);
-    push_capability(&mut text, table, capability)?;
+    let mut text = String::new(about.alloc);
+    push_capability(&mut text, about.table, capability)?;
     out.text(text.as_str())
 }
 
 /// Adds the names of capabilities.
 fn push_capabilities(
     out: &mut Output,
-    alloc: Global,
-    table: &Table,
+    about: &About<'_, '_>,
     capabilities: &[u32],
 ) -> Result<(), AllocError>
-    ensures { OnOk result (out.new ≡ out.old ++ flat_map (members.capability_token table.now) capabilities.now) }
+    ensures { OnOk result (out.new ≡ out.old
+        ++ flat_map (members.capability_token about.now.table.now) capabilities.now) }
 {
     for capability in capabilities {
-        push_capability_name(out, alloc, table, *capability)?;
+        push_capability_name(out, about, *capability)?;
     }
     Ok(())
 }
@@ -158,25 +157,19 @@ fn push_capabilities(
 /// Adds the names of the capabilities of which one is needed by an instruction.
 fn push_needed(
     out: &mut Output,
-    alloc: Global,
-    table: &Table,
+    about: &About<'_, '_>,
     inst: Option<&Inst<'_>>,
     lister: Lister,
 ) -> Result<(), AllocError>
-    ensures { OnOk result (out.new ≡ out.old ++ members.needed_tokens table.now
+    ensures { OnOk result (out.new ≡ out.old ++ members.needed_tokens about.now.table.now
         (option_map (λ i. plain_inst i.now) inst.entry) lister) }
 {
     let Some(inst) = inst else {
         return Ok(());
     };
-    match listed_names(table, inst, lister) {
+    match listed_names(about.table, inst, lister) {
         Some(names) => push_names(out, names),
-        None => push_capabilities(
-            out,
-            alloc,
-            table,
-            needs_of(inst.opcode, inst.operands.as_slice()),
-        ),
+        None => push_capabilities(out, about, needs_of(inst.opcode, inst.operands.as_slice())),
     }
 }
 
@@ -191,6 +184,6 @@ pub fn push_needs(
         (slice_get (plain_insts about.now.«module».now) inst) lister)) }
 {
     out.begin_array()?;
-    push_needed(out, about.alloc, about.table, about.inst(inst), lister)?;
+    push_needed(out, about, about.inst(inst), lister)?;
     out.end_array()
 }

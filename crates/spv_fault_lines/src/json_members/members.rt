@@ -164,16 +164,9 @@ fn push_value(out: &mut Output, about: &About<'_, '_>, fact: &Fact) -> Result<()
         Fact::Bound { bound: number }
         | Fact::Number { number }
         | Fact::Operands { count: number } => out.number(*number),
-        Fact::LocalTo { function: inst } | Fact::MissingParent { block: inst } => {
-            out.maybe_number(about.result_of(*inst))
-        }
+        Fact::LocalTo { function } => out.maybe_number(about.result_of(*function)),
         Fact::Role { role } => out.text(role_name(*role)),
-        Fact::Capability { capability, .. } => push_capability_name(
-            out,
-            about.alloc,
-            about.table,
-            *capability,
-        ),
+        Fact::Capability { capability, .. } => push_capability_name(out, about, *capability),
         Fact::Bit { inst, operand, bit } => push_bit(out, about, *inst, *operand, *bit),
         Fact::NeedsOneOf { inst, lister } => push_needs(out, about, *inst, *lister),
         Fact::NoEntry => out.text("OpEntryPoint"),
@@ -182,6 +175,7 @@ fn push_value(out: &mut Output, about: &About<'_, '_>, fact: &Fact) -> Result<()
         Fact::Types { things } => push_things(out, about, things.as_slice()),
         Fact::Differs { side } => push_side(out, *side),
         Fact::Wanted { thing } | Fact::Found { thing } => push_thing(out, about, *thing),
+        Fact::MissingParent { block } => out.maybe_number(about.result_of(*block)),
         Fact::Predecessors { blocks } | Fact::Walk { blocks } | Fact::Calls { functions: blocks } =>
             push_results(out, about, blocks.as_slice()),
         Fact::Cycle { functions } => push_cycle(out, about, functions.as_slice()),
