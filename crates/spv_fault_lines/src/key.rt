@@ -1,6 +1,7 @@
 //! The keys of what is told: how each is written in lines, and as a member of JSON.
 ghost use Rattle.std.specs.Prelude.{◌≡◌};
 ghost use Rattle.spv_fault_lines.specs.Keys.{line_name, member_name};
+ghost use Rattle.spv_fault_lines.specs.inner.Parts as parts;
 
 /// What a fact tells, by its key.
 #[derive(Clone, Copy)]
@@ -52,6 +53,22 @@ pub enum Key {
 }
 
 impl Key {
+    /// How the key of a fact about control flow or calls is written before the colon of a line. Nothing of another.
+    fn flow_name(self) -> &'static str
+        ensures { result.now ≡ parts.flow_name self }
+    {
+        match self {
+            Key::MissingParent => "missing parent",
+            Key::NoPredecessor => "no predecessor",
+            Key::Twice => "twice",
+            Key::Predecessors => "predecessors",
+            Key::Walk => "walk",
+            Key::Calls => "calls",
+            Key::Cycle => "cycle",
+            _ => "",
+        }
+    }
+
     /// How it is written before the colon of a line, as `may come`.
     pub fn line_name(self) -> &'static str
         ensures { result.now ≡ line_name self }
@@ -90,17 +107,11 @@ impl Key {
             Key::Wanted => "wanted",
             Key::Found => "found",
             Key::Help => "help",
-            Key::MissingParent => "missing parent",
-            Key::NoPredecessor => "no predecessor",
-            Key::Twice => "twice",
-            Key::Predecessors => "predecessors",
-            Key::Walk => "walk",
-            Key::Calls => "calls",
-            Key::Cycle => "cycle",
             Key::Number => "number",
             Key::Operands => "operands",
             Key::Least => "least",
             Key::Most => "most",
+            _ => self.flow_name(),
         }
     }
 

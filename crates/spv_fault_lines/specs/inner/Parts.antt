@@ -7,6 +7,8 @@ use Rattle.spv_evidence.specs.declared.evidence.Evidence.{Evidence}
 use Rattle.spv_evidence.specs.declared.evidence.Evidence.TheVariants as evidence
 use Rattle.spv_fault_lines.specs.declared.fact.Fact.{Fact}
 use Rattle.spv_fault_lines.specs.declared.fact.Fact.TheVariants as fact
+use Rattle.spv_fault_lines.specs.declared.key.Key.{Key}
+use Rattle.spv_fault_lines.specs.declared.key.Key.TheVariants as key
 use Rattle.spv_fault_lines.specs.Facts.{asked_facts, compared_facts, failing_facts, lister_facts, side_thing}
 use Rattle.spv_fault_lines.specs.Facts.{type_facts}
 use Rattle.spv_fault_lines.specs.Words.{begin_of, words_fact}
@@ -90,3 +92,14 @@ named_text G is lines f = []
 -- what is found in bytes that break a code; nothing of W1 and W9
 abbrev pub found_words : WordError → Front → List ℕ
 found_words e f = unwrap_or (found_text e f) []
+
+-- how a key is written before the colon of a line, if its fact is about control flow or calls
+abbrev pub flow_name : Key → List ℕ
+flow_name key.MissingParent = codes "missing parent"
+flow_name key.NoPredecessor = codes "no predecessor"
+flow_name key.Twice = codes "twice"
+flow_name key.Predecessors = codes "predecessors"
+flow_name key.Walk = codes "walk"
+flow_name key.Calls = codes "calls"
+flow_name key.Cycle = codes "cycle"
+flow_name k = []
