@@ -4,16 +4,17 @@ use Rattle.std.specs.Prelude.{slice_get}
 use Rattle.std.proofs.lemmas.Bool.{cases_order}
 use Rattle.std.proofs.lemmas.Option.{slice_get_within}
 use Rattle.spv_module.specs.Operand.{PlainInst}
-use Rattle.spv_layout.specs.Place.{IsDefinition}
+use Rattle.spv_layout.specs.declared.class.Class.TheVariants.{Function}
+use Rattle.spv_layout.specs.Place.{IsAt, IsDefinition}
 use Rattle.spv_layout.proofs.Spans.{below_or}
 use Rattle.spv_flow.proofs.lemmas.calls.Lists.{pushed_cases, pushed_keeps, pushed_last}
 use Rattle.spv_verdict.specs.flow.Definitions.{AreDefinitions, IsCount}
 
--- before the first instruction there is none
-pub none_before : (is : List PlainInst) → IsCount is 0 0
-none_before is = record {
+-- before the first OpFunction there is none
+pub none_before : (is : List PlainInst) (n : ℕ) → ((k : ℕ) → k < n → ¬ (IsAt is k (Function ∷ []))) → IsCount is n 0
+none_before is n h = record {
   functions = [];
-  definitions = record { each = λ k f h. cc; all = λ f l d. absurd (omega (arith, l)); rising = λ j k f g l h i. cc };
+  definitions = record { each = λ k f h. cc; all = λ f l d. absurd (h f l d.of.begun.there); rising = λ j k f g l h i. cc };
   counted = refl;
 }
 

@@ -48,7 +48,7 @@ pub fn count_definitions(module: &Module<'_>, plan: &Plan) -> u32
     ensures { CountsDefinitions (plain_insts «module».now) result }
 {
     let mut count = 0;
-    for inst in 0..module.insts.len() as u32 {
+    for inst in plan.before_functions()..module.insts.len() as u32 {
         if module.insts[inst as usize].opcode == opcode::FUNCTION {
             if is_definition(plan, inst) {
                 count += 1;

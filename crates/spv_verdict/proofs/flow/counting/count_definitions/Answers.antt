@@ -1,12 +1,34 @@
-use Rattle.std.proofs.Common.{◌≡◌, ◌<◌, Some, length, arith}
+use Rattle.std.proofs.Common.{◌≡◌, ◌<◌, ℕ, Some, length, subst, arith}
 use Rattle.std.specs.Prelude.{slice_get}
 use Rattle.std.proofs.lemmas.List.{length-map}
 use Rattle.spv_module.specs.Module.{plain_inst, plain_insts}
 use Rattle.spv_flow.proofs.lemmas.branches.Labelled.{inst_at}
+use Rattle.spv_verdict.specs.flow.Definitions.{IsCount}
 use Rattle.spv_verdict.proofs.Flowing.Functions.{no_definition}
-use Rattle.spv_verdict.proofs.Flowing.Counts.{count_most, none_more, one_more}
+use Rattle.spv_verdict.proofs.Flowing.Counts.{count_most, none_before, none_more, one_more}
 use Rattle.spv_verdict.proofs.flow.counting.count_definitions.Goals.{then-index-eq-FUNCTION+then-is_definition, then-index-eq-FUNCTION+else-is_definition, else-index-eq-FUNCTION}
 use Rattle.spv_verdict.proofs.flow.counting.count_definitions.Goals as goal
+
+pub before_functions-inst-requires : goal.before_functions-inst-requires
+before_functions-inst-requires c =
+    let few = c.requires.few in
+    let count = c.requires.places.count in
+    omega (arith, few, count)
+
+pub loop-inst-init : goal.loop-inst-init
+loop-inst-init c =
+    none_before (plain_insts c.args.module.now) c.before_functions-inst.result (λ k lt. c.before_functions-inst.ensures.before (plain_insts c.args.module.now) k c.requires.places.place lt)
+
+pub returns : goal.returns
+returns c =
+    let last = c.loop-inst-test.false in
+    let within = c.before_functions-inst.ensures.within in
+    let count = c.requires.places.count in
+    let l = length-map c.args.module.now.insts.items plain_inst in
+    let e = c.len-inst-end.ensures in
+    let to = c.loop-inst.auto.inst-end (omega (arith, within, count, l, e)) in
+    let n : c.loop-inst.inst ≡ length (plain_insts c.args.module.now) = omega (arith, last, to, l, e) in
+    subst (λ (n : ℕ). IsCount (plain_insts c.args.module.now) n c.loop-inst.count) n c.loop-inst.invariant
 
 pub overflow_add-count : goal.overflow_add-count
 overflow_add-count c =
