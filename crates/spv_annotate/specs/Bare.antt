@@ -1,5 +1,6 @@
 -- A text without its comments, the spaces before them and its empty lines. (Own.)
-use Rattle.std.specs.Prelude.{◌++◌, ◌&&◌, ℕ, List, [], ◌∷◌, Bool, true, false, nat_eq, if◌then◌else◌, drop, filter, map, take}
+use Rattle.std.specs.Prelude.{◌++◌, ◌&&◌, ℕ, List, [], ◌∷◌, Bool, true, false, nat_eq, if◌then◌else◌}
+use Rattle.std.specs.Prelude.{drop, filter, map, take}
 use Rattle.std.specs.Prelude.{length}
 use Rattle.std.specs.List.{range_with_len}
 use Rattle.spv_lines.specs.Text.{ended, inst_line, lines_of}
@@ -53,4 +54,5 @@ bare_text t = ended (take 5 (lines_of t) ++ bare_lines (drop 5 (lines_of t)))
 
 -- the lines of the instructions that are asked for, without control characters
 abbrev pub asked_lines : Subject → List (List ℕ)
-asked_lines S = map (λ n. plain_of (inst_line S.lines n)) (filter (is_of S.insts S.asked) (range_with_len 0 (length S.insts)))
+asked_lines S = map (λ n. plain_of (inst_line S.lines n))
+    (filter (is_of S.insts S.asked) (range_with_len 0 (length S.insts)))

@@ -42,8 +42,8 @@ abbrev pub is_of : List PlainInst → Option ℕ → ℕ → Bool
 is_of is None n = true
 is_of is (Some x) n = is_function_named is x (function_of is n)
 
--- what begins with an instruction of that opcode: a function, a block, or outside of functions a section that is not the
--- one before [2.4]
+-- what begins with an instruction of that opcode: a function, a block, or outside of functions a section that is not
+-- the one before [2.4]
 abbrev pub begun : ℕ → ℕ → Bool → ℕ → List PlainPiece
 begun opcode before inside n =
     if nat_eq opcode FUNCTION then Function n ∷ []

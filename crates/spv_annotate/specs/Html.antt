@@ -37,7 +37,8 @@ referred name =
 abbrev pub read_from : Place → List ℕ → List ℕ
 read_from place [] = []
 read_from InText (b ∷ html) =
-    if b == 60 then read_from InTag html else (if b == 38 then read_from (InReference []) html else b ∷ read_from InText html)
+    if b == 60 then read_from InTag html
+    else (if b == 38 then read_from (InReference []) html else b ∷ read_from InText html)
 read_from InTag (b ∷ html) = if b == 62 then read_from InText html else read_from InTag html
 read_from (InReference name) (b ∷ html) =
     if b == 59 then referred name ++ read_from InText html else read_from (InReference (name ++ b ∷ [])) html

@@ -26,7 +26,8 @@ most = 40
 -- the last place of a text, up to a greatest one, at which a character begins
 unfoldable pub cut_at : List ℕ → ℕ → ℕ
 cut_at t zero = 0
-cut_at t (suc k) = if nat_le 128 (slice_index t (suc k)) && nat_lt (slice_index t (suc k)) 192 then cut_at t k else suc k
+cut_at t (suc k) =
+    if nat_le 128 (slice_index t (suc k)) && nat_lt (slice_index t (suc k)) 192 then cut_at t k else suc k
 
 -- a name without its control characters; of a long one the beginning, and two points
 abbrev pub short_name : List ℕ → List ℕ

@@ -1,6 +1,6 @@
 -- The decimal values of float constants. (Own.)
-use Rattle.std.specs.Prelude.{◌≡◌, ◌<◌, ◌+◌, ◌-◌, ◌*◌, ◌/◌, ◌%◌, ◌||◌, ℕ, zero, suc, List, [], ◌∷◌, Option, Some, None, nat_eq}
-use Rattle.std.specs.Prelude.{if◌then◌else◌, nat_le, option_and_then, from_bits, length}
+use Rattle.std.specs.Prelude.{◌≡◌, ◌<◌, ◌+◌, ◌-◌, ◌*◌, ◌/◌, ◌%◌, ◌||◌, ℕ, zero, suc, List, [], ◌∷◌, Option}
+use Rattle.std.specs.Prelude.{Some, None, nat_eq, if◌then◌else◌, nat_le, option_and_then, from_bits, length}
 use Rattle.std.specs.List.{AllByRecursion}
 use Rattle.std.specs.Float.{binary32, binary64}
 use Rattle.ryu.specs.Parse.{parse_float}

@@ -79,6 +79,7 @@ pub fn bare_examples()
     // A `;` in quotes begins none.
     ensures quotes { bare (codes "%2 = OpString \"a;\\\"b\" ; c") ≡ codes "%2 = OpString \"a;\\\"b\"" }
     ensures not_before { ¬ (bare (codes "OpNop   ; inst 1") ≡ codes "OpNop   ") }
-    ensures lines { bare_text (codes "a\nb\nc\nd\ne ; f\n\nOpNop ; inst 0\n; ^ rule\n") ≡ codes "a\nb\nc\nd\ne ; f\nOpNop\n" }
+    ensures lines { bare_text (codes "a\nb\nc\nd\ne ; f\n\nOpNop ; inst 0\n; ^ rule\n")
+        ≡ codes "a\nb\nc\nd\ne ; f\nOpNop\n" }
     ensures dim { text_of true (Comment (codes " ; a")) ≡ (27 ∷ codes "[2m ; a") ++ (27 ∷ codes "[0m") }
 {}

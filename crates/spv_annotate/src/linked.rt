@@ -368,7 +368,8 @@ pub fn push_linked(
     line: &str,
 ) -> Result<(), AllocError>
     requires { base quoting ≡ quoting }
-    ensures { OnOk result (string_bytes out.new ≡ string_bytes out.old ++ linked (kept definitions.now) quoting line.now) }
+    ensures { OnOk result (string_bytes out.new ≡ string_bytes out.old
+        ++ linked (kept definitions.now) quoting line.now) }
 {
     let mut rest = line;
     while !rest.is_empty() {

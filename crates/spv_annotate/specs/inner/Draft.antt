@@ -1,6 +1,6 @@
 -- Texts that are put together in a buffer, from the front. (For the code alone.)
-use Rattle.std.specs.Prelude.{◌≡◌, ◌≤◌, ◌<◌, ◌+◌, ◌++◌, ◌==◌, ◌&&◌, ℕ, List, [], Option, Bool, true, codes, if◌then◌else◌}
-use Rattle.std.specs.Prelude.{IsUtf8, drop, length, nat_lt, take}
+use Rattle.std.specs.Prelude.{◌≡◌, ◌≤◌, ◌<◌, ◌+◌, ◌++◌, ◌==◌, ◌&&◌, ℕ, List, [], Option, Bool, true, codes}
+use Rattle.std.specs.Prelude.{if◌then◌else◌, IsUtf8, drop, length, nat_lt, take}
 use Rattle.std.specs.List.{AllByRecursion}
 use Rattle.spv_module.specs.declared.opcode.TheConstants.{FUNCTION, LABEL}
 use Rattle.spv_annotate.specs.declared.draft.TheConstants.{FULL}
