@@ -22,7 +22,8 @@ code_text w = codes "W" ++ ((49 + tag_of word.the_type w) ∷ [])
 abbrev pub beginnings : List (AnyRule × List ℕ × ℕ)
 beginnings = (rule.Y9, codes "Y", 9) ∷ (rule.G1, codes "G", 1) ∷ (rule.A1, codes "A", 1) ∷ (rule.F1, codes "F", 1)
     ∷ (rule.Y2, codes "Y", 2) ∷ (rule.E1, codes "E", 1) ∷ (rule.M1, codes "M", 1) ∷ (rule.C1, codes "C", 1)
-    ∷ (rule.Y1, codes "Y", 1) ∷ (rule.D1, codes "D", 1) ∷ (rule.L1, codes "L", 1) ∷ (rule.P1, codes "P", 1) ∷ (rule.I1, codes "I", 1) ∷ []
+    ∷ (rule.Y1, codes "Y", 1) ∷ (rule.D1, codes "D", 1) ∷ (rule.L1, codes "L", 1) ∷ (rule.P1, codes "P", 1)
+    ∷ (rule.I1, codes "I", 1) ∷ []
 
 -- the place of a rule among the variants of `Rule`, from 0
 abbrev pub place_of_rule : AnyRule → ℕ
