@@ -64,19 +64,19 @@ none_before is functions definitions early late n w p f m a =
     let rest = late_places functions definitions (length early) late in
     elim (cases_lt n (length early)) [
       | inl h ↦ elim (slice_get_cases early n).1 [
-          | inl x ↦
-              let g : slice_get places n ≡ Some (early_place x.0) = front_get early rest n h ∙ ap (option_map early_place) x.2 in
-              let s = w n x.0 x.2 in
-              none_placed is places n (early_place x.0) p g (omega (arith, s)) a
-          | inr x ↦ absurd (let y = x.0 in omega arith)
-        ]
+        | inl x ↦
+            let g : slice_get places n ≡ Some (early_place x.0) = front_get early rest n h ∙ ap (option_map early_place) x.2 in
+            let s = w n x.0 x.2 in
+            none_placed is places n (early_place x.0) p g (omega (arith, s)) a
+        | inr x ↦ absurd (let y = x.0 in omega arith)
+      ]
       | inr h ↦
           let k = n - length early in
           let e : n ≡ length early + k = omega arith in
           elim (slice_get_cases late k).1 [
             | inl x ↦
                 let g : slice_get places n ≡ Some (late_place functions definitions n x.0) =
-                    back_get early rest n k e ∙ late_get functions definitions (length early) late n k e ∙ ap (option_map (late_place functions definitions n)) x.2 in
+                back_get early rest n k e ∙ late_get functions definitions (length early) late n k e ∙ ap (option_map (late_place functions definitions n)) x.2 in
                 none_placed is places n (late_place functions definitions n x.0) p g (globals_by (nat_lt n functions) functions definitions n refl f) a
             | inr x ↦ absurd (let y = x.0 in omega arith)
           ]
