@@ -75,8 +75,9 @@ pub function_at : (is : List PlainInst) (n : ℕ) → IsOp is n is_function → 
 function_at is n op = let h = holds is n is_function op in at_by is n opcode.FUNCTION h.inst (Function ∷ []) h.there (eqb-true h.inst.opcode opcode.FUNCTION h.holds) function_class
 
 -- no OpFunction stands among the first instructions
-pub no_function : (is : List PlainInst) (places : List Place) (count : ℕ) → ArePlacesOf is places → ((js : List PlainInst) (n : ℕ) → ArePlacesOf js places → n < count → ¬ (IsAt js n (Function ∷ []))) → (k : ℕ) → k < count
-    → ¬ (IsOp is k is_function)
+pub no_function : (is : List PlainInst) (places : List Place) (count : ℕ) → ArePlacesOf is places
+    → ((js : List PlainInst) (n : ℕ) → ArePlacesOf js places → n < count → ¬ (IsAt js n (Function ∷ [])))
+    → (k : ℕ) → k < count → ¬ (IsOp is k is_function)
 no_function is places count p before k lt op = before is k p lt (function_at is k op)
 
 pub end_at : (is : List PlainInst) (n : ℕ) (i : PlainInst) → slice_get is n ≡ Some i → i.opcode ≡ opcode.FUNCTION_END → IsAt is n (FunctionEnd ∷ [])

@@ -28,7 +28,9 @@ before_functions-i-requires c =
 pub loop-i-init : goal.loop-i-init
 loop-i-init c =
     let is = map plain_inst c.args.insts.now in
-    rw c.new-calls.ensures.items (calls_none is c.before_functions-i.result (λ k lt. c.before_functions-i.ensures.before is k c.requires.places.place lt))
+    let before = c.before_functions-i.ensures.before in
+    let places = c.requires.places.place in
+    rw c.new-calls.ensures.items (calls_none is c.before_functions-i.result (λ k lt. before is k places lt))
 
 pub returns : goal.returns
 returns c =
