@@ -160,7 +160,7 @@ label_late : (c : Class) → is_among c (Label ∷ []) ≡ true → section_of c
 label_late Label h = refl
 label_late _ h = cc
 
-not_early : (is : List PlainInst) (n : ℕ) (d : Class) (e : Early) → ((c : Class) → is_among c (d ∷ []) ≡ true → section_of c ≡ None) → KeptEarly is n e → ¬ (IsAt is n (d ∷ []))
+pub not_early : (is : List PlainInst) (n : ℕ) (d : Class) (e : Early) → ((c : Class) → is_among c (d ∷ []) ≡ true → section_of c ≡ None) → KeptEarly is n e → ¬ (IsAt is n (d ∷ []))
 not_early is n d e l k a =
     let b : is_among k.class (d ∷ []) ≡ true = rw k.there at a in
     let x = l k.class b in

@@ -51,7 +51,7 @@ impl Model for Plan {
 
     ghost view = { λ p. places_in p.functions p.definitions p.early.items p.late.items };
 
-    ghost invariant = { λ p. AreEarly p.early.items };
+    ghost invariant = { λ p. AreEarly p.functions p.early.items };
 }
 
 impl Plan {
@@ -78,6 +78,8 @@ impl Plan {
         ensures within { result ≤ length self.now }
         ensures before { (is : List PlainInst) (n : ℕ) → ArePlacesOf is self.now → n < result
             → ¬ (IsAt is n (Function ∷ [])) }
+        ensures next { (is : List PlainInst) → ArePlacesOf is self.now → result < length self.now
+            → IsAt is result (Function ∷ []) }
     {
         let count = self.early.len() + self.late.len();
         self.functions.min(count as u32)

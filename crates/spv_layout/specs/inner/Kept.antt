@@ -57,9 +57,11 @@ count_with (Some section) n = n
 pub record AreSectioned (is : List PlainInst) (n : ℕ) : Type 0 where
   pub each : (k : ℕ) (c : Class) → k < n → slice_get (classes is) k ≡ Some c → section_of c ≢ None
 
--- What is kept of instructions of sections 1 to 8 tells one of these, the last as 10.
-abbrev pub AreEarly : List Early → Type 0
-AreEarly es = (k : ℕ) (e : Early) → slice_get es k ≡ Some e → e.section ≤ 10
+-- What is kept of instructions of sections 1 to 8 tells one of these, the last as 10, and all of them stand before the
+-- first OpFunction.
+pub record AreEarly (functions : ℕ) (es : List Early) : Type 0 where
+  pub sections : (k : ℕ) (e : Early) → slice_get es k ≡ Some e → e.section ≤ 10
+  pub before : length es ≤ functions
 
 -- There is room for all that is kept of later sections, of which there is none before instruction `first`: so many are
 -- kept of n instructions of `count`.

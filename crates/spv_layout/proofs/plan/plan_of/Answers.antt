@@ -135,4 +135,11 @@ returns-clause-plan c =
     (rw n at c.loop-i.invariant.follows) (rw n at c.loop-i.invariant.kept)
 
 pub invariant_of-result : goal.invariant_of-result
-invariant_of-result c = are_early (map plain_inst c.args.insts.now) c.loop-i.early.items c.loop-i.invariant.kept.each_early
+invariant_of-result c =
+    let is = map plain_inst c.args.insts.now in
+    let s = short_list is in
+    let l = length-map c.args.insts.now plain_inst in
+    let q = c.requires.words in
+    let k = c.loop-i.invariant.kept in
+    let n = k.count in
+    are_early is c.loop-i.spans.functions c.loop-i.i c.loop-i.early.items k.each_early c.loop-i.invariant.follows.functions (omega arith)
