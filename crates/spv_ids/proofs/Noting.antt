@@ -43,8 +43,8 @@ pub kept_far : (l : Pairs) (id n x : ℕ) (before after : Option ℕ) → at_pla
 kept_far l id n x before after h e = grind (arith, nat_tests)
 
 -- an id of the list
-pub kept_near : (notes : Notes) (front : List ℕ) (x n : ℕ) → front ≡ notes.near.items → x < length front → number_in (slice_index front x) ≡ Some n → kept notes x ≡ Some n
-kept_near notes front x n e l h =
+pub kept_near : (notes : Notes) (near : List ℕ) (x n : ℕ) → near ≡ notes.near.items → x < length near → number_in (slice_index near x) ≡ Some n → kept notes x ≡ Some n
+kept_near notes near x n e l h =
     let k : x < length notes.near.items = rw e at l in
     let g : number_in (slice_index notes.near.items x) ≡ Some n = rw e at h in
     let t : nat_lt x (length notes.near.items) ≡ true = grind (arith, nat_tests) in

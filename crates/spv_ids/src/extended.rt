@@ -114,45 +114,45 @@ impl<'m, 'a> Survey<'m, 'a> {
 
     /// Whether a mention is sound at once: its id is defined before the end of the survey.
     #[inline(always)]
-    fn is_mention_sound(&self, front: &[u32], id: u32) -> bool
+    fn is_mention_sound(&self, near: &[u32], id: u32) -> bool
         requires survey { IsSurvey self.now }
-        requires front { front.now ≡ self.now.firsts.now.near.items }
+        requires near { near.now ≡ self.now.firsts.now.near.items }
         ensures { IsTrue result → IsLeast (IsBadMention self.now.bound (insts_of self.now) id) None }
     {
-        self.firsts.mark(front, id) < NONE
+        self.firsts.mark(near, id) < NONE
     }
 
     /// Whether an operand behind the number is sound at once, as a use or a mention.
     #[inline(never)]
-    fn is_behind_sound(&self, inst: u32, floor: u32, front: &[u32], operand: Operand<'_>) -> bool
+    fn is_behind_sound(&self, inst: u32, floor: u32, near: &[u32], operand: Operand<'_>) -> bool
         requires survey { IsSurvey self.now }
-        requires front { front.now ≡ self.now.firsts.now.near.items }
+        requires near { near.now ≡ self.now.firsts.now.near.items }
         requires below { inst < self.now.end }
         requires floor { floor < 4294967295 → IsOfFunction (insts_of self.now) inst floor }
         ensures { IsTrue result
             → IsLeast (IsBadOperand self.now.bound (insts_of self.now) inst (plain_operand operand.entry)) None }
     {
         if let Some(id) = argument_id(operand) {
-            return self.is_use_sound(inst, floor, front, id);
+            return self.is_use_sound(inst, floor, near, id);
         }
         if let Some(id) = mention_id(operand) {
-            return self.is_mention_sound(front, id);
+            return self.is_mention_sound(near, id);
         }
         true
     }
 
     /// Whether an operand behind the number is not looked at, or sound at once.
     #[inline(always)]
-    fn is_operand_sound(&self, inst: u32, floor: u32, front: &[u32], operand: Operand<'_>) -> bool
+    fn is_operand_sound(&self, inst: u32, floor: u32, near: &[u32], operand: Operand<'_>) -> bool
         requires survey { IsSurvey self.now }
-        requires front { front.now ≡ self.now.firsts.now.near.items }
+        requires near { near.now ≡ self.now.firsts.now.near.items }
         requires below { inst < self.now.end }
         requires floor { floor < 4294967295 → IsOfFunction (insts_of self.now) inst floor }
         ensures { IsTrue result
             → IsLeast (IsBadOperand self.now.bound (insts_of self.now) inst (plain_operand operand.entry)) None }
     {
         if let Some(_id) = id_behind(operand) {
-            return self.is_behind_sound(inst, floor, front, operand);
+            return self.is_behind_sound(inst, floor, near, operand);
         }
         true
     }
@@ -163,11 +163,11 @@ impl<'m, 'a> Survey<'m, 'a> {
         &self,
         inst: u32,
         floor: u32,
-        front: &[u32],
+        near: &[u32],
         operands: &[Operand<'_>],
     ) -> bool
         requires survey { IsSurvey self.now }
-        requires front { front.now ≡ self.now.firsts.now.near.items }
+        requires near { near.now ≡ self.now.firsts.now.near.items }
         requires below { inst < self.now.end }
         requires floor { floor < 4294967295 → IsOfFunction (insts_of self.now) inst floor }
         requires operands { AreBehind (insts_of self.now) inst (plain_operands operands.now) }
@@ -175,7 +175,7 @@ impl<'m, 'a> Survey<'m, 'a> {
             → IsLeast (HasBadOperand self.now.bound (insts_of self.now) inst (length operands.now)) None }
     {
         for operand in operands {
-            if !self.is_operand_sound(inst, floor, front, *operand) {
+            if !self.is_operand_sound(inst, floor, near, *operand) {
                 return false;
             }
         }
@@ -185,17 +185,17 @@ impl<'m, 'a> Survey<'m, 'a> {
     /// Whether the uses and mentions of an instruction are sound at once, those behind the number of an OpExtInst too.
     /// One that is not may be sound all the same.
     #[inline(always)]
-    pub fn is_extended_sound(&self, at: u32, floor: u32, front: &[u32], inst: &Inst<'_>) -> bool
+    pub fn is_extended_sound(&self, at: u32, floor: u32, near: &[u32], inst: &Inst<'_>) -> bool
         requires survey { IsSurvey self.now }
-        requires front { front.now ≡ self.now.firsts.now.near.items }
+        requires near { near.now ≡ self.now.firsts.now.near.items }
         requires below { at < self.now.end }
         requires floor { floor < 4294967295 → IsOfFunction (insts_of self.now) at floor }
         requires there { slice_get (insts_of self.now) at ≡ Some (plain_inst inst.now) }
         ensures { IsTrue result → IsLeast (IsFaulty self.now.bound (insts_of self.now) at) None }
     {
-        if !self.are_operands_sound(at, floor, front, behind(inst)) {
+        if !self.are_operands_sound(at, floor, near, behind(inst)) {
             return false;
         }
-        self.are_sound(at, floor, front, seen(inst))
+        self.are_sound(at, floor, near, seen(inst))
     }
 }

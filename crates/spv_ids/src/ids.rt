@@ -8,7 +8,7 @@ ghost use Rattle.spv_layout.specs.Place.{IsShort};
 ghost use Rattle.spv_layout.specs.Plan.{IsPlan};
 ghost use Rattle.spv_ids.specs.declared.notes.Notes as declared;
 ghost use Rattle.spv_ids.specs.inner.Known.{AreFirst};
-ghost use Rattle.spv_ids.specs.inner.Outcome.{IsFront, front_in};
+ghost use Rattle.spv_ids.specs.inner.Outcome.{IsNear, near_in};
 ghost use Rattle.spv_ids.specs.inner.Survey.{ArePlaces, AreGlobal};
 ghost use Rattle.spv_ids.specs.Outcome.{AreIds, IsRefusal, definition_in};
 
@@ -31,11 +31,11 @@ impl Ids {
     /// The list that the definitions begin with: at an id's place 0, or one more than the number of the instruction
     /// that defines it. Ids past the list may have definitions too.
     #[inline(always)]
-    pub fn front(&self) -> &[u32]
-        ensures list { result.now ≡ front_in self.now }
-        ensures each { IsFront self.now result.now }
+    pub fn near(&self) -> &[u32]
+        ensures list { result.now ≡ near_in self.now }
+        ensures each { IsNear self.now result.now }
     {
-        self.definitions.front()
+        self.definitions.near()
     }
 
     /// The number of the instruction that defines an id: that has it as its result. None where no instruction does. It

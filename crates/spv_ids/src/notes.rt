@@ -111,21 +111,21 @@ impl Notes {
 
     /// The list: at an id's place 0, or one more than what is kept of it.
     #[inline(always)]
-    pub fn front(&self) -> &[u32]
+    pub fn near(&self) -> &[u32]
         ensures { result.now ≡ self.now.near.items }
     {
         self.near.as_slice()
     }
 
-    /// What is kept of an id, or `NONE` where nothing is. `front` is the list. It takes no memory.
+    /// What is kept of an id, or `NONE` where nothing is. `near` is the list. It takes no memory.
     #[inline(always)]
-    pub fn mark(&self, front: &[u32], id: u32) -> u32
-        requires { front.now ≡ self.now.near.items }
+    pub fn mark(&self, near: &[u32], id: u32) -> u32
+        requires { near.now ≡ self.now.near.items }
         ensures { result < 4294967295 → kept self.now id ≡ Some result }
     {
         let place = id as usize;
-        if place < front.len() {
-            mark_at(front[place])
+        if place < near.len() {
+            mark_at(near[place])
         } else {
             self.mark_far(id)
         }

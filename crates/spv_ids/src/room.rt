@@ -29,17 +29,17 @@ fn count_by_bits(insts: &[Inst<'_>]) -> [u32; 32] {
 
 /// Below which id at least half of the ids are results: the greatest power of two, or 0. `counts` tells how many have
 /// each highest bit.
-fn dense_front(counts: &[u32; 32]) -> usize {
+fn dense_bound(counts: &[u32; 32]) -> usize {
     let mut below: usize = 0;
-    let mut front = 0;
+    let mut bound = 0;
     for bit in 0..32 {
         below = below.wrapping_add(counts[bit] as usize);
         let half = 1usize.wrapping_shl(bit as u32);
         if half <= below {
-            front = half.wrapping_mul(2);
+            bound = half.wrapping_mul(2);
         }
     }
-    front
+    bound
 }
 
 /// The results from an id on, in order.
@@ -64,7 +64,7 @@ fn results_from(alloc: Global, insts: &[Inst<'_>], first: usize) -> Result<Vec<u
 pub fn sparse_room(alloc: Global, insts: &[Inst<'_>]) -> Result<Notes, AllocError>
     ensures { IfOk result (λ notes. (x : ℕ) → kept notes x ≡ None) }
 {
-    let front = dense_front(&count_by_bits(insts));
-    let ids = results_from(alloc, insts, front)?;
-    Notes::of(alloc, front, &ids)
+    let bound = dense_bound(&count_by_bits(insts));
+    let ids = results_from(alloc, insts, bound)?;
+    Notes::of(alloc, bound, &ids)
 }

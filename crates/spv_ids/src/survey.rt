@@ -442,9 +442,9 @@ impl<'m, 'a> Survey<'m, 'a> {
     /// Whether each use among operands is sound at once, by an instruction of the function `floor`. One that is not may
     /// be sound all the same.
     #[inline(always)]
-    pub fn are_sound(&self, inst: u32, floor: u32, front: &[u32], operands: &[Operand<'_>]) -> bool
+    pub fn are_sound(&self, inst: u32, floor: u32, near: &[u32], operands: &[Operand<'_>]) -> bool
         requires survey { IsSurvey self.now }
-        requires front { front.now ≡ self.now.firsts.now.near.items }
+        requires near { near.now ≡ self.now.firsts.now.near.items }
         requires below { inst < self.now.end }
         requires floor { floor < 4294967295 → IsOfFunction (insts_of self.now) inst floor }
         requires operands { AreSeen (insts_of self.now) inst (plain_operands operands.now) }
@@ -453,7 +453,7 @@ impl<'m, 'a> Survey<'m, 'a> {
     {
         for operand in operands {
             if let Some(id) = seen_id(*operand) {
-                if !self.is_use_sound(inst, floor, front, id) {
+                if !self.is_use_sound(inst, floor, near, id) {
                     return false;
                 }
             }
@@ -467,25 +467,25 @@ impl<'m, 'a> Survey<'m, 'a> {
         &self,
         inst: u32,
         floor: u32,
-        front: &[u32],
+        near: &[u32],
         operands: &[Operand<'_>],
     ) -> bool
         requires survey { IsSurvey self.now }
-        requires front { front.now ≡ self.now.firsts.now.near.items }
+        requires near { near.now ≡ self.now.firsts.now.near.items }
         requires below { inst < self.now.end }
         requires floor { floor < 4294967295 → IsOfFunction (insts_of self.now) inst floor }
         requires operands { AreSeen (insts_of self.now) inst (plain_operands operands.now) }
         ensures { IsTrue result → IsLeast (HasBadUse self.now.bound (insts_of self.now) inst (length operands.now))
             None }
     {
-        self.are_sound(inst, floor, front, operands)
+        self.are_sound(inst, floor, near, operands)
     }
 
     /// Whether each use among operands is plainly sound, by an instruction of the function `floor`.
     #[inline(always)]
-    fn are_plain(&self, inst: u32, floor: u32, front: &[u32], operands: &[Operand<'_>]) -> bool
+    fn are_plain(&self, inst: u32, floor: u32, near: &[u32], operands: &[Operand<'_>]) -> bool
         requires survey { IsSurvey self.now }
-        requires front { front.now ≡ self.now.firsts.now.near.items }
+        requires near { near.now ≡ self.now.firsts.now.near.items }
         requires below { inst < self.now.end }
         requires floor { floor < 4294967295 → IsOfFunction (insts_of self.now) inst floor }
         requires operands { AreSeen (insts_of self.now) inst (plain_operands operands.now) }
@@ -494,7 +494,7 @@ impl<'m, 'a> Survey<'m, 'a> {
     {
         for operand in operands {
             if let Some(id) = seen_id(*operand) {
-                if !self.is_use_plain(inst, floor, front, id) {
+                if !self.is_use_plain(inst, floor, near, id) {
                     return false;
                 }
             }
@@ -509,11 +509,11 @@ impl<'m, 'a> Survey<'m, 'a> {
         &self,
         inst: u32,
         floor: u32,
-        front: &[u32],
+        near: &[u32],
         operands: &[Operand<'_>],
     ) -> bool
         requires survey { IsSurvey self.now }
-        requires front { front.now ≡ self.now.firsts.now.near.items }
+        requires near { near.now ≡ self.now.firsts.now.near.items }
         requires below { inst < self.now.end }
         requires floor { floor < 4294967295 → IsOfFunction (insts_of self.now) inst floor }
         requires operands { AreSeen (insts_of self.now) inst (plain_operands operands.now) }
@@ -521,28 +521,28 @@ impl<'m, 'a> Survey<'m, 'a> {
             None }
     {
         if floor == NONE {
-            return self.are_sound(inst, NONE, front, operands);
+            return self.are_sound(inst, NONE, near, operands);
         }
         let code = self.insts[inst as usize].opcode;
         if code <= opcode::FUNCTION_CALL || opcode::PHI <= code {
-            return self.are_sound(inst, floor, front, operands);
+            return self.are_sound(inst, floor, near, operands);
         }
-        if self.are_plain(inst, floor, front, operands) {
+        if self.are_plain(inst, floor, near, operands) {
             return true;
         }
-        self.are_sound_further(inst, floor, front, operands)
+        self.are_sound_further(inst, floor, near, operands)
     }
 
     /// Whether a use of an id is sound at once, by an instruction of the function `floor`.
     #[inline(always)]
-    pub fn is_use_sound(&self, inst: u32, floor: u32, front: &[u32], id: u32) -> bool
+    pub fn is_use_sound(&self, inst: u32, floor: u32, near: &[u32], id: u32) -> bool
         requires survey { IsSurvey self.now }
-        requires front { front.now ≡ self.now.firsts.now.near.items }
+        requires near { near.now ≡ self.now.firsts.now.near.items }
         requires below { inst < self.now.end }
         requires floor { floor < 4294967295 → IsOfFunction (insts_of self.now) inst floor }
         ensures { IsTrue result → IsLeast (IsBadUse self.now.bound (insts_of self.now) inst id) None }
     {
-        let definition = self.firsts.mark(front, id);
+        let definition = self.firsts.mark(near, id);
         if self.is_plain(inst, floor, definition) {
             return true;
         }
@@ -554,18 +554,18 @@ impl<'m, 'a> Survey<'m, 'a> {
 
     /// Whether one look at the list tells that a use of an id is sound.
     #[inline(always)]
-    fn is_use_plain(&self, inst: u32, floor: u32, front: &[u32], id: u32) -> bool
+    fn is_use_plain(&self, inst: u32, floor: u32, near: &[u32], id: u32) -> bool
         requires survey { IsSurvey self.now }
-        requires front { front.now ≡ self.now.firsts.now.near.items }
+        requires near { near.now ≡ self.now.firsts.now.near.items }
         requires below { inst < self.now.end }
         requires floor { floor < 4294967295 → IsOfFunction (insts_of self.now) inst floor }
         ensures { IsTrue result → IsLeast (IsBadUse self.now.bound (insts_of self.now) inst id) None }
     {
         let place = id as usize;
-        if place >= front.len() {
+        if place >= near.len() {
             return false;
         }
-        self.is_plain(inst, floor, mark_at(front[place]))
+        self.is_plain(inst, floor, mark_at(near[place]))
     }
 
     /// The first rule that a use among operands breaks.
@@ -649,9 +649,9 @@ impl<'m, 'a> Survey<'m, 'a> {
     /// The function that is open after an instruction, or `NONE`, if its uses are sound at once and it announces no id.
     /// `floor` is the function that is open before it.
     #[inline(always)]
-    fn after(&self, inst: u32, floor: u32, front: &[u32]) -> Option<u32>
+    fn after(&self, inst: u32, floor: u32, near: &[u32]) -> Option<u32>
         requires survey { IsSurvey self.now }
-        requires front { front.now ≡ self.now.firsts.now.near.items }
+        requires near { near.now ≡ self.now.firsts.now.near.items }
         requires below { inst < self.now.end }
         requires open { floor < 4294967295 → IsOpen (insts_of self.now) inst floor }
         ensures clean { IfSome result (λ f. (q : Rule) → ¬ (IsFaulty self.now.bound (insts_of self.now) inst q)) }
@@ -660,13 +660,13 @@ impl<'m, 'a> Survey<'m, 'a> {
     {
         let there = &self.insts[inst as usize];
         if there.opcode == opcode::EXT_INST {
-            if self.is_extended_sound(inst, floor, front, there) {
+            if self.is_extended_sound(inst, floor, near, there) {
                 return Some(floor);
             }
             return None;
         }
         if is_ordinary(there.opcode) {
-            if self.are_ordinary_sound(inst, floor, front, seen(there)) {
+            if self.are_ordinary_sound(inst, floor, near, seen(there)) {
                 return Some(floor);
             }
             return None;
@@ -675,7 +675,7 @@ impl<'m, 'a> Survey<'m, 'a> {
             return None;
         }
         let here = entered(there, floor, inst);
-        if self.are_sound(inst, here, front, seen(there)) {
+        if self.are_sound(inst, here, near, seen(there)) {
             return Some(left(there, here));
         }
         None
@@ -696,10 +696,10 @@ impl<'m, 'a> Survey<'m, 'a> {
             → AreAnnounced (insts_of self.now) result.to a }
         ensures open { result.floor < 4294967295 → IsOpen (insts_of self.now) result.to result.floor }
     {
-        let front = self.firsts.front();
+        let near = self.firsts.near();
         let mut here = floor;
         for n in from..self.end {
-            let Some(after) = self.after(n, here, front) else {
+            let Some(after) = self.after(n, here, near) else {
                 return Passed { to: n, floor: here };
             };
             here = after;

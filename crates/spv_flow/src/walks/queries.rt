@@ -13,7 +13,7 @@ ghost use Rattle.spv_flow.specs.branches.Ready.{IsLocalValue};
 ghost use Rattle.spv_flow.specs.branches.Target.{IsOp};
 ghost use Rattle.spv_flow.specs.walks.inner.Code.{insts_of, IsCode};
 ghost use Rattle.spv_flow.specs.walks.inner.Divided.{IsIn};
-ghost use Rattle.spv_ids.specs.inner.Outcome.{IsFront};
+ghost use Rattle.spv_ids.specs.inner.Outcome.{IsNear};
 ghost use Rattle.spv_ids.specs.inner.Uses as ids;
 ghost use Rattle.spv_flow.specs.walks.inner.Adds.{AddsBy};
 ghost use Rattle.spv_flow.specs.walks.inner.Leading.{AreBlocks};
@@ -143,19 +143,19 @@ pub fn pair_query(code: &Code<'_, '_>, blocks: &Blocks<'_>, at: u32, n: usize) -
 }
 
 /// Whether it is told at once that the use of an id at an instruction asks nothing, by the list of definitions,
-/// `front`: the id is defined from the instruction `start` on, where the block begins, and before; or before the first
+/// `near`: the id is defined from the instruction `start` on, where the block begins, and before; or before the first
 /// function, or by an OpFunction.
 #[inline(always)]
-fn is_settled(code: &Code<'_, '_>, front: &[u32], start: u32, at: u32, id: u32) -> bool
-    requires front { IsFront code.now.ids.now front.now }
+fn is_settled(code: &Code<'_, '_>, near: &[u32], start: u32, at: u32, id: u32) -> bool
+    requires near { IsNear code.now.ids.now near.now }
     requires at { at < length code.now.insts.now }
     ensures { (G : Table) → IsCode G code.now → IsTrue result → IsSettled (insts_of code.now) id start at }
 {
     let place = id as usize;
-    if place >= front.len() {
+    if place >= near.len() {
         return false;
     }
-    let more = front[place];
+    let more = near[place];
     if more == 0 {
         return false;
     }
@@ -197,20 +197,20 @@ fn add_use(
     Ok(())
 }
 
-/// Adds what is asked for the uses of an instruction. `front` is the list of definitions, and `start` the instruction
+/// Adds what is asked for the uses of an instruction. `near` is the list of definitions, and `start` the instruction
 /// where the block begins.
 #[inline(always)]
 fn add_uses(
     code: &Code<'_, '_>,
     blocks: &Blocks<'_>,
-    front: &[u32],
+    near: &[u32],
     start: u32,
     block: u32,
     at: u32,
     queries: &mut Vec<Query>,
 ) -> Result<(), AllocError>
     requires blocks { AreBlocks (insts_of code.now) blocks.now }
-    requires front { IsFront code.now.ids.now front.now }
+    requires near { IsNear code.now.ids.now near.now }
     requires start { start ≡ slice_index blocks.now.starts.now block }
     requires block { block + 1 < length blocks.now.starts.now }
     requires at { at < length code.now.insts.now }
@@ -220,7 +220,7 @@ fn add_uses(
     let operands = code.insts[at as usize].operands.as_slice();
     for n in 0..operands.len() {
         if let Some(id) = use_id_in(operands, n) {
-            if !is_settled(code, front, start, at, id) {
+            if !is_settled(code, near, start, at, id) {
                 add_use(code, blocks, block, at, n, id, queries)?;
             }
         }
@@ -234,14 +234,14 @@ fn add_uses(
 fn add_first_use(
     code: &Code<'_, '_>,
     blocks: &Blocks<'_>,
-    front: &[u32],
+    near: &[u32],
     start: u32,
     block: u32,
     at: u32,
     queries: &mut Vec<Query>,
 ) -> Result<(), AllocError>
     requires blocks { AreBlocks (insts_of code.now) blocks.now }
-    requires front { IsFront code.now.ids.now front.now }
+    requires near { IsNear code.now.ids.now near.now }
     requires start { start ≡ slice_index blocks.now.starts.now block }
     requires block { block + 1 < length blocks.now.starts.now }
     requires at { at < length code.now.insts.now }
@@ -254,7 +254,7 @@ fn add_first_use(
         return Ok(());
     }
     if let Some(id) = use_id(inst, 0) {
-        if !is_settled(code, front, start, at, id) {
+        if !is_settled(code, near, start, at, id) {
             add_use(code, blocks, block, at, 0, id, queries)?;
         }
     }
@@ -282,13 +282,13 @@ fn add_pairs(
     Ok(())
 }
 
-/// Adds what is asked for an instruction of a block. `front` is the list of definitions, and `start` the instruction
+/// Adds what is asked for an instruction of a block. `near` is the list of definitions, and `start` the instruction
 /// where the block begins.
 #[inline(always)]
 fn add_queries(
     code: &Code<'_, '_>,
     blocks: &Blocks<'_>,
-    front: &[u32],
+    near: &[u32],
     start: u32,
     block: u32,
     at: u32,
@@ -296,7 +296,7 @@ fn add_queries(
 ) -> Result<(), AllocError>
     requires code { (G : Table) × IsCode G code.now }
     requires blocks { AreBlocks (insts_of code.now) blocks.now }
-    requires front { IsFront code.now.ids.now front.now }
+    requires near { IsNear code.now.ids.now near.now }
     requires start { start ≡ slice_index blocks.now.starts.now block }
     requires block { block + 1 < length blocks.now.starts.now }
     requires at { at < length code.now.insts.now }
@@ -305,10 +305,10 @@ fn add_queries(
 {
     let opcode = code.insts[at as usize].opcode;
     if is_label_or_branch(opcode) {
-        return add_first_use(code, blocks, front, start, block, at, queries);
+        return add_first_use(code, blocks, near, start, block, at, queries);
     }
     if opcode != PHI {
-        return add_uses(code, blocks, front, start, block, at, queries);
+        return add_uses(code, blocks, near, start, block, at, queries);
     }
     if code.insts[start as usize].opcode == LABEL {
         return add_pairs(code, blocks, at, queries);
@@ -316,24 +316,24 @@ fn add_queries(
     Ok(())
 }
 
-/// Adds what is asked for the instructions of a block. `front` is the list of definitions.
+/// Adds what is asked for the instructions of a block. `near` is the list of definitions.
 fn add_block(
     code: &Code<'_, '_>,
     blocks: &Blocks<'_>,
-    front: &[u32],
+    near: &[u32],
     block: u32,
     queries: &mut Vec<Query>,
 ) -> Result<(), AllocError>
     requires code { (G : Table) × IsCode G code.now }
     requires blocks { AreBlocks (insts_of code.now) blocks.now }
-    requires front { IsFront code.now.ids.now front.now }
+    requires near { IsNear code.now.ids.now near.now }
     requires block { block + 1 < length blocks.now.starts.now }
     ensures { OnOk result (AddsBy code.now (λ G a. IsQueryIn G (insts_of code.now) blocks.now.starts.now block a)
         queries.old.items queries.new.items) }
 {
     let start = blocks.starts[block as usize];
     for at in start..blocks.starts[block as usize + 1] {
-        add_queries(code, blocks, front, start, block, at, queries)?;
+        add_queries(code, blocks, near, start, block, at, queries)?;
     }
     Ok(())
 }
@@ -351,9 +351,9 @@ pub fn add_all(
     ensures { OnOk result (AddsBy code.now (λ G a. IsQuery G (insts_of code.now) blocks.now.starts.now a)
         queries.old.items queries.new.items) }
 {
-    let front = code.ids.front();
+    let near = code.ids.near();
     for block in 0..blocks.starts.len() - 1 {
-        add_block(code, blocks, front, block as u32, queries)?;
+        add_block(code, blocks, near, block as u32, queries)?;
     }
     Ok(())
 }

@@ -6,9 +6,9 @@ use Rattle.spv_ids.specs.inner.Notes.{number_in}
 pub use Rattle.spv_layout.specs.inner.Outcome.{IsStopAt}
 
 -- the list that the definitions begin with
-abbrev pub front_in : Ids → List ℕ
-front_in ids = ids.definitions.near.items
+abbrev pub near_in : Ids → List ℕ
+near_in ids = ids.definitions.near.items
 
 -- At an id's place the list has 0, or one more than the number of its definition.
-abbrev pub IsFront : Ids → List ℕ → Type 0
-IsFront ids front = (x : ℕ) → x < length front → definition_in ids x ≡ number_in (slice_index front x)
+abbrev pub IsNear : Ids → List ℕ → Type 0
+IsNear ids near = (x : ℕ) → x < length near → definition_in ids x ≡ number_in (slice_index near x)

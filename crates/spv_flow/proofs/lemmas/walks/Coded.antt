@@ -14,7 +14,7 @@ use Rattle.spv_layout.proofs.Places.{function_same}
 use Rattle.spv_ids.specs.Definition.{IsDefinedAt}
 use Rattle.spv_ids.specs.Outcome.{IsDefinitionOf, definition_in}
 use Rattle.spv_ids.specs.inner.Notes.{number_in}
-use Rattle.spv_ids.specs.inner.Outcome.{IsFront}
+use Rattle.spv_ids.specs.inner.Outcome.{IsNear}
 use Rattle.spv_flow.specs.branches.Target.{is_label, IsOp, IsLabelOf}
 use Rattle.spv_flow.specs.branches.Ready.{IsLocalValue}
 use Rattle.spv_flow.proofs.lemmas.branches.Labelled.{op_tells, op_holds}
@@ -37,9 +37,9 @@ number_of : (n : ℕ) → 0 < n → number_in n ≡ Some (n - 1)
 number_of zero h = absurd (omega (arith, h))
 number_of (suc n) h = let e : suc n - 1 ≡ n = omega arith in rw e refl
 
-pub listed : (G : Table) (c : Code) (front : List ℕ) (x : ℕ) → IsCode G c → IsFront c.ids.now front → x < length front → 0 < slice_index front x → IsDefinedAt (insts_of c) x (slice_index front x - 1)
-listed G c front x is tells within some =
-    let e : definition_in c.ids.now x ≡ Some (slice_index front x - 1) = tells x within ∙ number_of (slice_index front x) some in
+pub listed : (G : Table) (c : Code) (near : List ℕ) (x : ℕ) → IsCode G c → IsNear c.ids.now near → x < length near → 0 < slice_index near x → IsDefinedAt (insts_of c) x (slice_index near x - 1)
+listed G c near x is tells within some =
+    let e : definition_in c.ids.now x ≡ Some (slice_index near x - 1) = tells x within ∙ number_of (slice_index near x) some in
     (subst (λ (o : Option ℕ). IsDefinitionOf (insts_of c) x o) e (is.ids.each x)).there
 
 either : (o : Option ℕ) (P : Option ℕ → Type 0) (Q : Type 0) → (P None → Q) → ((m : ℕ) → P (Some m) → Q) → P o → Q
