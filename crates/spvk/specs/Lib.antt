@@ -7,6 +7,7 @@ pub mod Flags
 pub mod Grammar
 pub mod GrammarReason
 pub mod Held
+pub mod Make
 pub mod Numbers
 pub mod Object
 pub mod Rules

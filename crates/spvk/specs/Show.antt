@@ -14,7 +14,6 @@ use Rattle.spv_lines.specs.Text.{IsShownText}
 use Rattle.spv_verdict.specs.declared.verdict_line.Judgment.TheVariants.{Valid, Refused, Broken}
 use Rattle.spvk.specs.Numbers.{numbers_of}
 use Rattle.spvk.specs.declared.text.Text.{Text}
-use denote.RawPtr.{Ptr, block_ptr, null_ptr}
 
 -- This is what is shown of all of these bytes, under the grammar table.
 pub data IsShowing (G : Table) (bytes : List ℕ) (t : Text) : Type 0 where
@@ -30,13 +29,3 @@ pub data IsShowing (G : Table) (bytes : List ℕ) (t : Text) : Type 0 where
   dead : (words : List ℕ) (order : Order) (f : Fault) (at : ℕ) → IsModule order bytes words
       → IsMalformedAt G (drop 5 words) f.rule f.inst at
       → f.word ≡ 5 + at → t.verdict ≡ numbers_of (Broken f) → t.buffer.bytes ≡ None → IsShowing G bytes t
-
--- The answer of `show`: status 0 and what is shown; or status 1, out of memory, and what was there.
-pub data Shows (G : Table) (bytes : List ℕ) (old : Text) : Text → ℕ → Type 0 where
-  done : (new : Text) → IsShowing G bytes new → Shows G bytes old new 0
-  memory : Shows G bytes old old 1
-
--- The same by the table behind a pointer: status 2, and what was there, where it is null.
-abbrev pub ShowsAt : Ptr → Table → List ℕ → Text → Text → ℕ → Type 0
-ShowsAt null_ptr G bytes old new status = (status ≡ 2) × (new ≡ old)
-ShowsAt (block_ptr b o) G bytes old new status = Shows G bytes old new status

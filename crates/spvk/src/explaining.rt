@@ -4,24 +4,24 @@ ghost use Rattle.spv_table.specs.Table.{Table as TableView};
 ghost use base.Fml.{Lft, Share};
 ghost use types.Logic.{sem};
 ghost use Rattle.spvk.specs.Held.{shown};
-ghost use Rattle.spvk.specs.Explain.{Explains, ExplainsAsked, ExplainsAt, ExplainsWith, IsExplaining};
+ghost use Rattle.spvk.specs.Explain.{IsExplaining};
 ghost use Rattle.spvk.specs.Flags as spec;
-ghost use Rattle.spvk.specs.Flags.{taken};
+ghost use Rattle.spvk.specs.Make.{Makes, MakesAsked, MakesAt, MakesWith};
 ghost use Rattle.spv_extended.specs.declared.reach.Reach.TheVariants.{Profile};
 ghost use Rattle.spv_verdict.specs.Text.{line_of};
 ghost use Rattle.spv_words.specs.Version.{as_1_6};
 
 use crate::buffer::Buffer;
-use crate::flags::{Asked, asked_by};
+use crate::flags::asked_by;
+use crate::making::{Making, put, put_as_1_6, put_asked};
 use crate::numbers::numbers;
-use crate::status::{MEMORY, NO_FLAG, NO_GRAMMAR, OK};
+use crate::status::NO_GRAMMAR;
 use crate::text::Text;
-use crate::versions::copy_as_1_6;
 use spv_explain::{Detail, Explanation, explain_bytes};
 use spv_extended::Reach;
 use spv_table::{Memory, Table};
 use std::alloc::{AllocError, Global};
-use std::{mem, ptr};
+use std::ptr;
 
 /// The lines of an explanation, for C. The error is that memory ran out.
 fn buffer_of(alloc: Global, explanation: &Explanation) -> Result<Buffer, AllocError>
@@ -32,7 +32,7 @@ fn buffer_of(alloc: Global, explanation: &Explanation) -> Result<Buffer, AllocEr
 }
 
 /// What explains the verdict on these bytes. The error is that memory ran out.
-fn explained_bytes(alloc: Global, table: &Table, reach: Reach, bytes: &[u8]) -> Result<Text, Memory>
+pub fn explained_bytes(alloc: Global, table: &Table, reach: Reach, bytes: &[u8]) -> Result<Text, Memory>
     ensures { IfOk result (λ t. IsExplaining table.now reach bytes.now t) }
 {
     let explanation = explain_bytes(alloc, table, reach, Detail::Short, bytes)?;
@@ -45,68 +45,25 @@ fn explained_bytes(alloc: Global, table: &Table, reach: Reach, bytes: &[u8]) -> 
     }
 }
 
-/// Explains the verdict on a module's bytes by a table.
-fn explain_of(alloc: Global, table: &Table, reach: Reach, bytes: &[u8], text: &mut Text) -> u32
-    ensures { Explains table.now reach bytes.now text.old text.new result }
-{
-    match explained_bytes(alloc, table, reach, bytes) {
-        Ok(made) => {
-            mem::replace(text, made).let_go(alloc);
-            OK
-        }
-        Err(_) => MEMORY,
-    }
-}
-
-/// The same of the bytes with version 1.6 in place of another version.
-fn explain_as_1_6_of(
-    alloc: Global,
-    table: &Table,
-    reach: Reach,
-    bytes: &[u8],
-    text: &mut Text,
-) -> u32
-    ensures { Explains table.now reach (as_1_6 bytes.now) text.old text.new result }
-{
-    let Ok(copy) = copy_as_1_6(alloc, bytes) else {
-        return MEMORY;
-    };
-    explain_of(alloc, table, reach, copy.as_slice(), text)
-}
-
-/// Explains the verdict without a flag.
+/// Explains the verdict on a module's bytes by a table, without a flag.
 fn explain_by(alloc: Global, table: &Table, bytes: &[u8], text: &mut Text) -> u32
-    ensures { Explains table.now Profile bytes.now text.old text.new result }
+    ensures { Makes (IsExplaining table.now Profile bytes.now) text.old text.new result }
 {
-    explain_of(alloc, table, Reach::Profile, bytes, text)
+    put(alloc, table, Making::Lines, Reach::Profile, bytes, text)
 }
 
 /// The same of the bytes with version 1.6 in place of another version.
 fn explain_as_1_6_by(alloc: Global, table: &Table, bytes: &[u8], text: &mut Text) -> u32
-    ensures { Explains table.now Profile (as_1_6 bytes.now) text.old text.new result }
+    ensures { Makes (IsExplaining table.now Profile (as_1_6 bytes.now)) text.old text.new result }
 {
-    explain_as_1_6_of(alloc, table, Reach::Profile, bytes, text)
+    put_as_1_6(alloc, table, Making::Lines, Reach::Profile, bytes, text)
 }
 
-/// Explains the verdict as it is asked for.
-fn explain_asked(alloc: Global, table: &Table, asked: Asked, bytes: &[u8], text: &mut Text) -> u32
-    ensures { Explains table.now asked.reach (taken asked.newest bytes.now) text.old text.new result }
-{
-    if asked.newest {
-        explain_as_1_6_of(alloc, table, asked.reach, bytes, text)
-    } else {
-        explain_of(alloc, table, asked.reach, bytes, text)
-    }
-}
-
-/// Explains the verdict by flags.
+/// The same by flags.
 fn explain_with_by(alloc: Global, table: &Table, bytes: &[u8], flags: u32, text: &mut Text) -> u32
-    ensures { ExplainsAsked (spec.asked_by flags) table.now bytes.now text.old text.new result }
+    ensures { MakesAsked (spec.asked_by flags) (IsExplaining table.now) bytes.now text.old text.new result }
 {
-    match asked_by(flags) {
-        Some(asked) => explain_asked(alloc, table, asked, bytes, text),
-        None => NO_FLAG,
-    }
+    put_asked(alloc, table, Making::Lines, asked_by(flags), bytes, text)
 }
 
 /// The verdict on a module's bytes with the lines that explain it, by the grammar behind a handle's pointer, which
@@ -120,7 +77,8 @@ pub unsafe extern "C" fn spvk_raw_explain(
 ) -> u32
     ghost lent: { Lft × Share × TableView }
     requires* { sem 𝓛 (shown grammar lent) }
-    ensures* { sem 𝓛 (shown grammar lent) ∗ ⌜ ExplainsAt grammar lent.2 Profile bytes.now text.old text.new result ⌝ }
+    ensures* { sem 𝓛 (shown grammar lent) ∗
+        ⌜ MakesAt grammar (IsExplaining lent.2 Profile bytes.now) text.old text.new result ⌝ }
 {
     if grammar == ptr::null() {
         NO_GRAMMAR
@@ -139,8 +97,8 @@ pub unsafe extern "C" fn spvk_raw_explain_as_1_6(
 ) -> u32
     ghost lent: { Lft × Share × TableView }
     requires* { sem 𝓛 (shown grammar lent) }
-    ensures* { sem 𝓛 (shown grammar lent) ∗ ⌜ ExplainsAt grammar lent.2 Profile (as_1_6 bytes.now) text.old text.new
-        result ⌝ }
+    ensures* { sem 𝓛 (shown grammar lent) ∗
+        ⌜ MakesAt grammar (IsExplaining lent.2 Profile (as_1_6 bytes.now)) text.old text.new result ⌝ }
 {
     if grammar == ptr::null() {
         NO_GRAMMAR
@@ -160,7 +118,8 @@ pub unsafe extern "C" fn spvk_raw_explain_with(
 ) -> u32
     ghost lent: { Lft × Share × TableView }
     requires* { sem 𝓛 (shown grammar lent) }
-    ensures* { sem 𝓛 (shown grammar lent) ∗ ⌜ ExplainsWith grammar lent.2 flags bytes.now text.old text.new result ⌝ }
+    ensures* { sem 𝓛 (shown grammar lent) ∗
+        ⌜ MakesWith grammar (IsExplaining lent.2) flags bytes.now text.old text.new result ⌝ }
 {
     if grammar == ptr::null() {
         NO_GRAMMAR

@@ -12,16 +12,17 @@ ghost use Rattle.spv_words.specs.declared.words.Order.{Order};
 ghost use Rattle.spv_words.specs.declared.words.WordError.TheVariants.{W3};
 ghost use Rattle.spvk.specs.Answer.{Answers, AnswersAsked, AnswersAt, AnswersWith, status_alone};
 ghost use Rattle.spvk.specs.Assemble.{AssemblesAt};
-ghost use Rattle.spvk.specs.Explain.{ExplainsAsked, ExplainsAt, ExplainsWith};
+ghost use Rattle.spvk.specs.Explain.{IsExplaining};
 ghost use Rattle.spvk.specs.Faults.{text_code_number};
 ghost use Rattle.spvk.specs.Flags.{asked_by, taken};
 ghost use Rattle.spvk.specs.Grammar.{IsReason};
 ghost use Rattle.spvk.specs.GrammarReason.{ExplainsGrammar, IsExplained};
 ghost use Rattle.spvk.specs.Held.{boxed, lent};
+ghost use Rattle.spvk.specs.Make.{Makes, MakesAsked, MakesAt, MakesWith};
 ghost use Rattle.spvk.specs.Numbers.{code_number, nowhere, numbers_of, rule_number};
-ghost use Rattle.spvk.specs.Object.{IsTelling, TellsObjectAsked, TellsObjectAt, TellsObjectWith};
+ghost use Rattle.spvk.specs.Object.{IsTelling};
 ghost use Rattle.spvk.specs.Rules.{PutsIfAny};
-ghost use Rattle.spvk.specs.Show.{Shows, ShowsAt};
+ghost use Rattle.spvk.specs.Show.{IsShowing};
 ghost use Rattle.spvk.specs.Status.{status_of, status_text};
 ghost use Rattle.spvk.specs.declared.buffer.Buffer.{Buffer};
 ghost use Rattle.spvk.specs.declared.image.Assembled.{Assembled};
@@ -92,31 +93,34 @@ pub fn flag_examples()
 
 /// What was there stays where nothing is answered.
 pub fn kept_examples()
-    ensures memory { (G : TableView) (bytes : List ℕ) (old : Text) → Shows G bytes old old 1 }
+    ensures memory { (G : TableView) (bytes : List ℕ) (old : Text) → Makes (IsShowing G bytes) old old 1 }
     ensures changed { (G : TableView) (bytes : List ℕ) (old new : Text) → old ≢ new
-        → ¬ (Shows G bytes old new 1) }
-    ensures shown { (G : TableView) (bytes : List ℕ) (old : Text) → ShowsAt null_ptr G bytes old old 2 }
+        → ¬ (Makes (IsShowing G bytes) old new 1) }
+    ensures shown { (G : TableView) (bytes : List ℕ) (old : Text) → MakesAt null_ptr (IsShowing G bytes) old old 2 }
     ensures explained { (G : TableView) (r : Reach) (bytes : List ℕ) (old : Text)
-        → ExplainsAt null_ptr G r bytes old old 2 }
+        → MakesAt null_ptr (IsExplaining G r bytes) old old 2 }
     ensures not_done { (G : TableView) (r : Reach) (bytes : List ℕ) (old : Text)
-        → ¬ (ExplainsAt null_ptr G r bytes old old 0) }
-    ensures flagged { (G : TableView) (bytes : List ℕ) (old : Text) → ExplainsAsked (asked_by 4) G bytes old old 5 }
+        → ¬ (MakesAt null_ptr (IsExplaining G r bytes) old old 0) }
+    ensures flagged { (G : TableView) (bytes : List ℕ) (old : Text)
+        → MakesAsked (asked_by 4) (IsExplaining G) bytes old old 5 }
     ensures not_flagged { (G : TableView) (bytes : List ℕ) (old : Text)
-        → ¬ (ExplainsAsked (asked_by 4) G bytes old old 0) }
+        → ¬ (MakesAsked (asked_by 4) (IsExplaining G) bytes old old 0) }
     ensures explained_with { (G : TableView) (bytes : List ℕ) (old : Text)
-        → ExplainsWith null_ptr G 0 bytes old old 2 }
-    ensures not_with { (G : TableView) (bytes : List ℕ) (old : Text) → ¬ (ExplainsWith null_ptr G 0 bytes old old 0) }
+        → MakesWith null_ptr (IsExplaining G) 0 bytes old old 2 }
+    ensures not_with { (G : TableView) (bytes : List ℕ) (old : Text)
+        → ¬ (MakesWith null_ptr (IsExplaining G) 0 bytes old old 0) }
     ensures told { (G : TableView) (r : Reach) (bytes : List ℕ) (old : Text)
-        → TellsObjectAt null_ptr G r bytes old old 2 }
+        → MakesAt null_ptr (IsTelling G r bytes) old old 2 }
     ensures not_told { (G : TableView) (r : Reach) (bytes : List ℕ) (old : Text)
-        → ¬ (TellsObjectAt null_ptr G r bytes old old 0) }
+        → ¬ (MakesAt null_ptr (IsTelling G r bytes) old old 0) }
     ensures told_no_flag { (G : TableView) (bytes : List ℕ) (old : Text)
-        → TellsObjectAsked (asked_by 4) G bytes old old 5 }
+        → MakesAsked (asked_by 4) (IsTelling G) bytes old old 5 }
     ensures not_told_flag { (G : TableView) (bytes : List ℕ) (old : Text)
-        → ¬ (TellsObjectAsked (asked_by 4) G bytes old old 0) }
-    ensures told_with { (G : TableView) (bytes : List ℕ) (old : Text) → TellsObjectWith null_ptr G 0 bytes old old 2 }
+        → ¬ (MakesAsked (asked_by 4) (IsTelling G) bytes old old 0) }
+    ensures told_with { (G : TableView) (bytes : List ℕ) (old : Text)
+        → MakesWith null_ptr (IsTelling G) 0 bytes old old 2 }
     ensures not_told_with { (G : TableView) (bytes : List ℕ) (old : Text)
-        → ¬ (TellsObjectWith null_ptr G 0 bytes old old 0) }
+        → ¬ (MakesWith null_ptr (IsTelling G) 0 bytes old old 0) }
     // A text that holds nothing tells no verdict as an object.
     ensures no_object { (G : TableView) (r : Reach) (bytes : List ℕ) (t : Text) → t.buffer.bytes ≡ None
         → ¬ (IsTelling G r bytes t) }

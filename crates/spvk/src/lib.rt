@@ -18,6 +18,7 @@ mod image;
 mod judging;
 pub mod laws;
 mod loose;
+mod making;
 mod numbers;
 mod objects;
 mod rules;

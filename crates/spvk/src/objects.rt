@@ -4,26 +4,26 @@ ghost use Rattle.spv_table.specs.Table.{Table as TableView};
 ghost use base.Fml.{Lft, Share};
 ghost use types.Logic.{sem};
 ghost use Rattle.spvk.specs.Held.{shown};
-ghost use Rattle.spvk.specs.Object.{IsTelling, TellsObject, TellsObjectAsked, TellsObjectAt, TellsObjectWith};
+ghost use Rattle.spvk.specs.Make.{Makes, MakesAsked, MakesAt, MakesWith};
+ghost use Rattle.spvk.specs.Object.{IsTelling};
 ghost use Rattle.spvk.specs.Flags as spec;
-ghost use Rattle.spvk.specs.Flags.{taken};
 ghost use Rattle.spv_extended.specs.declared.reach.Reach.TheVariants.{Profile};
 ghost use Rattle.spv_words.specs.Version.{as_1_6};
 
 use crate::buffer::Buffer;
-use crate::flags::{Asked, asked_by};
+use crate::flags::asked_by;
+use crate::making::{Making, put, put_as_1_6, put_asked};
 use crate::numbers::numbers;
-use crate::status::{MEMORY, NO_FLAG, NO_GRAMMAR, OK};
+use crate::status::NO_GRAMMAR;
 use crate::text::Text;
-use crate::versions::copy_as_1_6;
 use spv_explain::explain_json;
 use spv_extended::Reach;
 use spv_table::{Memory, Table};
 use std::alloc::Global;
-use std::{mem, ptr};
+use std::ptr;
 
 /// The verdict on these bytes and the object that explains it. The error is that memory ran out.
-fn object_of(alloc: Global, table: &Table, reach: Reach, bytes: &[u8]) -> Result<Text, Memory>
+pub fn object_of(alloc: Global, table: &Table, reach: Reach, bytes: &[u8]) -> Result<Text, Memory>
     ensures { IfOk result (λ t. IsTelling table.now reach bytes.now t) }
 {
     let answer = explain_json(alloc, table, reach, None, bytes)?;
@@ -34,62 +34,25 @@ fn object_of(alloc: Global, table: &Table, reach: Reach, bytes: &[u8]) -> Result
     }
 }
 
-/// Explains the verdict on a module's bytes by a table, as an object.
-fn tell_of(alloc: Global, table: &Table, reach: Reach, bytes: &[u8], text: &mut Text) -> u32
-    ensures { TellsObject table.now reach bytes.now text.old text.new result }
-{
-    match object_of(alloc, table, reach, bytes) {
-        Ok(made) => {
-            mem::replace(text, made).let_go(alloc);
-            OK
-        }
-        Err(_) => MEMORY,
-    }
-}
-
-/// The same of the bytes with version 1.6 in place of another version.
-fn tell_as_1_6_of(alloc: Global, table: &Table, reach: Reach, bytes: &[u8], text: &mut Text) -> u32
-    ensures { TellsObject table.now reach (as_1_6 bytes.now) text.old text.new result }
-{
-    let Ok(copy) = copy_as_1_6(alloc, bytes) else {
-        return MEMORY;
-    };
-    tell_of(alloc, table, reach, copy.as_slice(), text)
-}
-
-/// Explains the verdict without a flag.
+/// Explains the verdict on a module's bytes by a table, as an object, without a flag.
 fn tell_by(alloc: Global, table: &Table, bytes: &[u8], text: &mut Text) -> u32
-    ensures { TellsObject table.now Profile bytes.now text.old text.new result }
+    ensures { Makes (IsTelling table.now Profile bytes.now) text.old text.new result }
 {
-    tell_of(alloc, table, Reach::Profile, bytes, text)
+    put(alloc, table, Making::Object, Reach::Profile, bytes, text)
 }
 
 /// The same of the bytes with version 1.6 in place of another version.
 fn tell_as_1_6_by(alloc: Global, table: &Table, bytes: &[u8], text: &mut Text) -> u32
-    ensures { TellsObject table.now Profile (as_1_6 bytes.now) text.old text.new result }
+    ensures { Makes (IsTelling table.now Profile (as_1_6 bytes.now)) text.old text.new result }
 {
-    tell_as_1_6_of(alloc, table, Reach::Profile, bytes, text)
+    put_as_1_6(alloc, table, Making::Object, Reach::Profile, bytes, text)
 }
 
-/// Explains the verdict as it is asked for.
-fn tell_asked(alloc: Global, table: &Table, asked: Asked, bytes: &[u8], text: &mut Text) -> u32
-    ensures { TellsObject table.now asked.reach (taken asked.newest bytes.now) text.old text.new result }
-{
-    if asked.newest {
-        tell_as_1_6_of(alloc, table, asked.reach, bytes, text)
-    } else {
-        tell_of(alloc, table, asked.reach, bytes, text)
-    }
-}
-
-/// Explains the verdict by flags.
+/// The same by flags.
 fn tell_with_by(alloc: Global, table: &Table, bytes: &[u8], flags: u32, text: &mut Text) -> u32
-    ensures { TellsObjectAsked (spec.asked_by flags) table.now bytes.now text.old text.new result }
+    ensures { MakesAsked (spec.asked_by flags) (IsTelling table.now) bytes.now text.old text.new result }
 {
-    match asked_by(flags) {
-        Some(asked) => tell_asked(alloc, table, asked, bytes, text),
-        None => NO_FLAG,
-    }
+    put_asked(alloc, table, Making::Object, asked_by(flags), bytes, text)
 }
 
 /// The verdict on a module's bytes with the JSON object that explains it, by the grammar behind a handle's pointer,
@@ -103,7 +66,8 @@ pub unsafe extern "C" fn spvk_raw_explain_json(
 ) -> u32
     ghost lent: { Lft × Share × TableView }
     requires* { sem 𝓛 (shown grammar lent) }
-    ensures* { sem 𝓛 (shown grammar lent) ∗ ⌜ TellsObjectAt grammar lent.2 Profile bytes.now text.old text.new result ⌝ }
+    ensures* { sem 𝓛 (shown grammar lent) ∗
+        ⌜ MakesAt grammar (IsTelling lent.2 Profile bytes.now) text.old text.new result ⌝ }
 {
     if grammar == ptr::null() {
         NO_GRAMMAR
@@ -122,8 +86,8 @@ pub unsafe extern "C" fn spvk_raw_explain_json_as_1_6(
 ) -> u32
     ghost lent: { Lft × Share × TableView }
     requires* { sem 𝓛 (shown grammar lent) }
-    ensures* { sem 𝓛 (shown grammar lent) ∗ ⌜ TellsObjectAt grammar lent.2 Profile (as_1_6 bytes.now) text.old text.new
-        result ⌝ }
+    ensures* { sem 𝓛 (shown grammar lent) ∗
+        ⌜ MakesAt grammar (IsTelling lent.2 Profile (as_1_6 bytes.now)) text.old text.new result ⌝ }
 {
     if grammar == ptr::null() {
         NO_GRAMMAR
@@ -143,7 +107,8 @@ pub unsafe extern "C" fn spvk_raw_explain_json_with(
 ) -> u32
     ghost lent: { Lft × Share × TableView }
     requires* { sem 𝓛 (shown grammar lent) }
-    ensures* { sem 𝓛 (shown grammar lent) ∗ ⌜ TellsObjectWith grammar lent.2 flags bytes.now text.old text.new result ⌝ }
+    ensures* { sem 𝓛 (shown grammar lent) ∗
+        ⌜ MakesWith grammar (IsTelling lent.2) flags bytes.now text.old text.new result ⌝ }
 {
     if grammar == ptr::null() {
         NO_GRAMMAR

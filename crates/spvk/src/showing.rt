@@ -6,20 +6,22 @@ ghost use Rattle.spv_table.specs.Table.{Table as TableView};
 ghost use base.Fml.{Lft, Share};
 ghost use types.Logic.{sem};
 ghost use Rattle.spvk.specs.Held.{shown};
-ghost use Rattle.spvk.specs.Show.{IsShowing, Shows, ShowsAt};
+ghost use Rattle.spvk.specs.Make.{Makes, MakesAt};
+ghost use Rattle.spvk.specs.Show.{IsShowing};
 ghost use Rattle.spv_words.specs.Version.{as_1_6};
 
 use crate::judging::refusal;
-use crate::status::{MEMORY, NO_GRAMMAR, OK};
+use crate::making::{Making, put, put_as_1_6};
+use crate::status::NO_GRAMMAR;
 use crate::text::Text;
-use crate::versions::copy_as_1_6;
+use spv_extended::Reach;
 use spv_module::Stop;
 use spv_printer::show_image;
 use spv_table::{Memory, Table};
 use spv_verdict::Judgment;
 use spv_words::{Image, WordError, image_of};
 use std::alloc::Global;
-use std::{mem, ptr};
+use std::ptr;
 
 /// What is shown of the words of an image. The error is that memory ran out.
 fn shown_image(alloc: Global, table: &Table, image: &Image) -> Result<Text, Memory>
@@ -45,7 +47,7 @@ fn refused(code: WordError) -> Result<Text, Memory>
 }
 
 /// What is shown of these bytes. The error is that memory ran out.
-fn shown_bytes(alloc: Global, table: &Table, bytes: &[u8]) -> Result<Text, Memory>
+pub fn shown_bytes(alloc: Global, table: &Table, bytes: &[u8]) -> Result<Text, Memory>
     ensures { IfOk result (λ t. IsShowing table.now bytes.now t) }
 {
     match image_of(alloc, bytes) {
@@ -55,26 +57,17 @@ fn shown_bytes(alloc: Global, table: &Table, bytes: &[u8]) -> Result<Text, Memor
 }
 
 /// Shows a module's bytes by a table.
-pub(crate) fn show_by(alloc: Global, table: &Table, bytes: &[u8], text: &mut Text) -> u32
-    ensures { Shows table.now bytes.now text.old text.new result }
+fn show_by(alloc: Global, table: &Table, bytes: &[u8], text: &mut Text) -> u32
+    ensures { Makes (IsShowing table.now bytes.now) text.old text.new result }
 {
-    match shown_bytes(alloc, table, bytes) {
-        Ok(made) => {
-            mem::replace(text, made).let_go(alloc);
-            OK
-        }
-        Err(_) => MEMORY,
-    }
+    put(alloc, table, Making::Shown, Reach::Profile, bytes, text)
 }
 
 /// The same of the bytes with version 1.6 in place of another version.
 fn show_as_1_6_by(alloc: Global, table: &Table, bytes: &[u8], text: &mut Text) -> u32
-    ensures { Shows table.now (as_1_6 bytes.now) text.old text.new result }
+    ensures { Makes (IsShowing table.now (as_1_6 bytes.now)) text.old text.new result }
 {
-    let Ok(copy) = copy_as_1_6(alloc, bytes) else {
-        return MEMORY;
-    };
-    show_by(alloc, table, copy.as_slice(), text)
+    put_as_1_6(alloc, table, Making::Shown, Reach::Profile, bytes, text)
 }
 
 /// The text of a module, or the rule by which its bytes are no list of instructions, by the grammar behind a handle's
@@ -88,7 +81,7 @@ pub unsafe extern "C" fn spvk_raw_show(
 ) -> u32
     ghost lent: { Lft × Share × TableView }
     requires* { sem 𝓛 (shown grammar lent) }
-    ensures* { sem 𝓛 (shown grammar lent) ∗ ⌜ ShowsAt grammar lent.2 bytes.now text.old text.new result ⌝ }
+    ensures* { sem 𝓛 (shown grammar lent) ∗ ⌜ MakesAt grammar (IsShowing lent.2 bytes.now) text.old text.new result ⌝ }
 {
     if grammar == ptr::null() {
         NO_GRAMMAR
@@ -107,8 +100,8 @@ pub unsafe extern "C" fn spvk_raw_show_as_1_6(
 ) -> u32
     ghost lent: { Lft × Share × TableView }
     requires* { sem 𝓛 (shown grammar lent) }
-    ensures* { sem 𝓛 (shown grammar lent) ∗ ⌜ ShowsAt grammar lent.2 (as_1_6 bytes.now) text.old text.new
-        result ⌝ }
+    ensures* { sem 𝓛 (shown grammar lent) ∗
+        ⌜ MakesAt grammar (IsShowing lent.2 (as_1_6 bytes.now)) text.old text.new result ⌝ }
 {
     if grammar == ptr::null() {
         NO_GRAMMAR

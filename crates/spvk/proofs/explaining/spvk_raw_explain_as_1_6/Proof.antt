@@ -39,8 +39,9 @@ use Rattle.spv_table.specs.Table.{Table}
 use Rattle.spv_table.specs.contracts.table.Table.{the_row as the_table}
 use Rattle.spv_table.proofs.table.Table.TheLaws as table_laws
 use Rattle.spv_extended.specs.declared.reach.Reach.TheVariants.{Profile}
-use Rattle.spvk.specs.Explain.{Explains, ExplainsAt}
+use Rattle.spvk.specs.Explain.{IsExplaining}
 use Rattle.spvk.specs.Held.{shown}
+use Rattle.spvk.specs.Make.{Makes, MakesAt}
 use Rattle.spv_words.specs.Version.{as_1_6}
 use Rattle.spvk.proofs.Values.{al}
 use Rattle.spvk.proofs.Handles.{either_shown}
@@ -52,11 +53,11 @@ use Rattle.spvk.specs.contracts.explaining.spvk_raw_explain_as_1_6.Key.{name as 
 use Rattle.spvk.proofs.explaining.spvk_raw_explain_as_1_6.Statement.{statement}
 use Rattle.spvk.proofs.explaining.spvk_raw_explain_as_1_6.Code as code
 
-at_null : (p : Ptr) (G : Table) (bytes : List ℕ) (old : Told.Denot) → p ≡ null_ptr → ExplainsAt p G Profile bytes old old 2
-at_null p G bytes old e = subst (λ (q : Ptr). ExplainsAt q G Profile bytes old old 2) (sym e) (refl, refl)
+at_null : (p : Ptr) (G : Table) (bytes : List ℕ) (old : Told.Denot) → p ≡ null_ptr → MakesAt p (IsExplaining G Profile bytes) old old 2
+at_null p G bytes old e = subst (λ (q : Ptr). MakesAt q (IsExplaining G Profile bytes) old old 2) (sym e) (refl, refl)
 
-at_block : (p : Ptr) (b o : ℕ) (G : Table) (bytes : List ℕ) (old new : Told.Denot) (r : ℕ) → p ≡ block_ptr b o → Explains G Profile bytes old new r → ExplainsAt p G Profile bytes old new r
-at_block p b o G bytes old new r e answers = subst (λ (q : Ptr). ExplainsAt q G Profile bytes old new r) (sym e) answers
+at_block : (p : Ptr) (b o : ℕ) (G : Table) (bytes : List ℕ) (old new : Told.Denot) (r : ℕ) → p ≡ block_ptr b o → Makes (IsExplaining G Profile bytes) old new r → MakesAt p (IsExplaining G Profile bytes) old new r
+at_block p b o G bytes old new r e answers = subst (λ (q : Ptr). MakesAt q (IsExplaining G Profile bytes) old new r) (sym e) answers
 
 pub spvk_raw_explain_as_1_6_spec : {M : Type 1} → statement M
 spvk_raw_explain_as_1_6_spec 𝓤 𝓛 𝓜 𝓡 wired =
@@ -84,7 +85,7 @@ spvk_raw_explain_as_1_6_spec 𝓤 𝓛 𝓜 𝓡 wired =
     sets_last ! (of_opd ! (lit ! tt)) refl (tt, record { fits = lit< tt }) $ exec ! 𝓣.C 𝓣.Λ Ev (after 2 fn.body) (at_ret Ev Post) $ sets ! (of_opd ! (get ! refl)) refl (tt, record { fits = lit< tt }) $
     flt_i ! 2 (2 ^ 32) (lit< tt) $ feq_i ! (List Val) (vint w32 2 ∷ []) (vint w32 2 ∷ []) refl $ fjoin ! $
     -- [the result; what is shown; the answer; nothing; the slice; the allocator; the tokens]
-    move ! (1 ∷ []) $ rewrite ! 0 (λ (p' : Ptr). ‵ (shown p' s)) (sym is) refl $ use0 𝓛 (raw (fact 𝓤 (ExplainsAt p G Profile (as_1_6 x.now) m.now m.now 2))) (fact_i 𝓤 _ (emp 𝓤) (at_null p G (as_1_6 x.now) m.now is)) $ move ! (1 ∷ 0 ∷ []) $ join ! $
+    move ! (1 ∷ []) $ rewrite ! 0 (λ (p' : Ptr). ‵ (shown p' s)) (sym is) refl $ use0 𝓛 (raw (fact 𝓤 (MakesAt p (IsExplaining G Profile (as_1_6 x.now)) m.now m.now 2))) (fact_i 𝓤 _ (emp 𝓤) (at_null p G (as_1_6 x.now) m.now is)) $ move ! (1 ∷ 0 ∷ []) $ join ! $
     nothing ! $ move ! (3 ∷ 0 ∷ []) $ rewrite ! 0 (λ (us : List Val). ‵ (Mut us)) (sym em) refl $ fjoin ! $ nothing ! $ fjoin ! $ nothing ! $ fjoin ! $ nothing ! $ fjoin ! $
     returns ! (look_at ! 0 refl) $ free_all ! refl $ keep ! (6 ∷ 0 ∷ 2 ∷ 1 ∷ []) $ by ! (leaves 𝓛 ended hs c z (vint w32 2) 2 (tt, (tt, (tt, (m.now, tt)))) (tt, (tt, (tt, (tt, tt)))))) (λ wrong. absurd wrong)))
     (λ b o is. let t : Bor Table = record { ref_ptr = (b, o); now = G } in let k = triple_of 𝓛 by_table.signature (by_table.spec 𝓛 𝓜.mem 𝓡.returns) in
@@ -107,8 +108,8 @@ spvk_raw_explain_as_1_6_spec 𝓤 𝓛 𝓜 𝓡 wired =
     -- [the arguments; what the lender keeps; the loan's token; the slice's token; the table; its token; nothing]
     move ! (2 ∷ 6 ∷ []) $ join ! $ move ! (3 ∷ 0 ∷ []) $ join ! $ move ! (4 ∷ 0 ∷ []) $ join ! $ join ! $ nothing ! $ move ! (1 ∷ 0 ∷ []) $ use2 𝓛 (raw (k.pre y)) (id⊢ 𝓤 _) $
     calls_at_last ! (fm 𝓛 𝓜 𝓡) k (by_table_thm.met 𝓤 𝓛 𝓜 𝓡 (code.calls-spvk::explaining::explain_as_1_6_by 𝓡.env wired)) y (and_then ! (get ! refl) (and_then ! (get ! refl) (and_then ! (get ! refl) (and_then ! (get ! refl) (no_more !))))) (λ u.
-    use1 𝓛 (later (some (λ (r : ℕ). (toks₃ ⊛ ‵ (u32.own_val r (u ∷ []))) ⊛ some (λ (ls : Lasts by_table.ended y.0.0 y.0.3). ‵ (lasts by_table.ended y.0.0 y.0.3 ls) ⊛ raw (fact 𝓤 (Explains G Profile (as_1_6 x.now) m.now ls.1.1.1.0 r)))))) (id⊢ 𝓤 (k.post y u)) $
-    await ! tt $ pick ! (λ r. split ! $ move ! (1 ∷ []) $ pick ! (λ ls. split ! $ move ! (1 ∷ []) $ heard ! (Explains G Profile (as_1_6 x.now) m.now ls.1.1.1.0 r) (λ told. move ! (1 ∷ []) $ split ! $ move ! (1 ∷ []) $
+    use1 𝓛 (later (some (λ (r : ℕ). (toks₃ ⊛ ‵ (u32.own_val r (u ∷ []))) ⊛ some (λ (ls : Lasts by_table.ended y.0.0 y.0.3). ‵ (lasts by_table.ended y.0.0 y.0.3 ls) ⊛ raw (fact 𝓤 (Makes (IsExplaining G Profile (as_1_6 x.now)) m.now ls.1.1.1.0 r)))))) (id⊢ 𝓤 (k.post y u)) $
+    await ! tt $ pick ! (λ r. split ! $ move ! (1 ∷ []) $ pick ! (λ ls. split ! $ move ! (1 ∷ []) $ heard ! (Makes (IsExplaining G Profile (as_1_6 x.now)) m.now ls.1.1.1.0 r) (λ told. move ! (1 ∷ []) $ split ! $ move ! (1 ∷ []) $
     -- [the result; the tokens; what was left of the arguments; what the lender keeps; the table]
     peeks ! u32 (Is u32) (shows 𝓛 u32) r (u ∷ []) (λ ok. let good = ((uint_Lawful 𝓛 w32).typed r (u ∷ []) ok).0 in
     lands_last ! refl good $ exec ! 𝓣.C 𝓣.Λ Ev (after 2 fn.body) (at_ret Ev Post) $ sets ! (of_opd ! (get ! refl)) refl good $
@@ -121,7 +122,7 @@ spvk_raw_explain_as_1_6_spec 𝓤 𝓛 𝓜 𝓡 wired =
     (comes_back 𝓛 Told (named 1) κ₁ (α ∷ []) q₁ m.ghost_name bm om δ m.now w) $ await ! tt $ split ! $
     -- [the answer; its token; a borrow; nothing; nothing; the slice's token; the table's token; the result; the table]
     nothing ! $ fpack ! (Testable (block_ptr b o)) (λ _. ftrue) tests $ move ! (9 ∷ 0 ∷ []) $ fjoin ! $ move ! (7 ∷ 0 ∷ []) $ fjoin ! $ rewrite ! 0 (λ (p' : Ptr). ‵ (shown p' s)) (sym is) refl $
-    use0 𝓛 (raw (fact 𝓤 (ExplainsAt p G Profile (as_1_6 x.now) m.now w r))) (fact_i 𝓤 _ (emp 𝓤) (at_block p b o G (as_1_6 x.now) m.now w r is told)) $ move ! (1 ∷ 0 ∷ []) $ join ! $
+    use0 𝓛 (raw (fact 𝓤 (MakesAt p (IsExplaining G Profile (as_1_6 x.now)) m.now w r))) (fact_i 𝓤 _ (emp 𝓤) (at_block p b o G (as_1_6 x.now) m.now w r is told)) $ move ! (1 ∷ 0 ∷ []) $ join ! $
     -- [what the clause says; the answer; its token; a borrow; nothing; nothing; the slice's token; the result]
     nothing ! $ move ! (2 ∷ 0 ∷ []) $ rewrite ! 0 (λ (us : List Val). ‵ ((MutRef (named 1) κ₁ Told).own_val (record m { now = w }) us)) (sym em) refl $ fjoin ! $ nothing ! $ fjoin ! $ nothing ! $ fjoin ! $ nothing ! $ fjoin ! $
     move ! (2 ∷ 5 ∷ []) $ join ! $ move ! (5 ∷ 0 ∷ []) $ join ! $

@@ -1,6 +1,6 @@
 use Rattle.std.proofs.Common.{refl}
 use Rattle.spvk.specs.Rules.{PutsIfAny}
-use Rattle.spvk.specs.Show.{memory}
+use Rattle.spvk.specs.Make.{memory}
 use Rattle.spvk.proofs.laws.kept_examples.Goals as goal
 
 pub returns-clause-memory : goal.returns-clause-memory

@@ -1,5 +1,5 @@
-use Rattle.spvk.specs.Object.{done, memory}
-use Rattle.spvk.proofs.objects.tell_of.Goals as goal
+use Rattle.spvk.specs.Make.{done, memory}
+use Rattle.spvk.proofs.making.put.Goals as goal
 
 pub returns-in-Ok : goal.returns-in-Ok
 returns-in-Ok c = done c.replace.new.dest (rw c.replace.ensures.after c.in-Ok.ensures)
