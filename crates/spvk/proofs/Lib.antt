@@ -1,5 +1,6 @@
 pub mod Assemblings
 pub mod BufferValues
+pub mod ByPointer
 pub mod Explanations
 pub mod Handles
 pub mod Judgments
