@@ -1,5 +1,6 @@
 pub mod Assemblings
 pub mod BufferValues
+pub mod ByFlags
 pub mod ByPointer
 pub mod Explanations
 pub mod Handles
