@@ -2,6 +2,7 @@ pub mod Assemblings
 pub mod BufferValues
 pub mod ByFlags
 pub mod ByPointer
+pub mod Checks
 pub mod Explanations
 pub mod Handles
 pub mod Judgments
