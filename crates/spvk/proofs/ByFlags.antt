@@ -1,4 +1,4 @@
--- A call by the table behind a pointer and by flags, likewise. Assumes `Logic`.
+-- A call by the table behind a pointer, and by flags, does what one of `ByPointer` does. Assumes `Logic`.
 use Rattle.std.proofs.Common.{◌≡◌, ◌^◌, ℕ, List, [], ◌∷◌, ◌++◌, length, refl, sym, ap, ◌∙◌, subst, lit<, w8, w32, w64, MutBor}
 use mir.Syntax.{Callee, Fn, Ty, named, erased, imm, mut, local, value_local, ty_int, ty_ptr, ty_bool, ty_ref, ty_struct, tcons, tnil, place, deref, int, copy, ptr_eq, op2, rv_opd, addr_of, seq, assign, cond, call, return}
 use mir.Val.{Val, vptr, vint}

@@ -82,7 +82,7 @@ module _ {M : Type 1} {𝓤 : Ura M} (𝓛 : Logic 𝓤) (R : Says) (At : Ptr �
   }
 
   abbrev pub answering : Clauses 𝓤 by_table.ended
-  answering = λ κs a. record { ghost = Unit {0}; requires = λ _. emp 𝓤; ensures = λ _ r e. fact 𝓤 (R a.1.0.now a.1.1.0.now r); }
+  answering = λ κs a. record { ghost = Unit {0}; requires = λ _. emp 𝓤; ensures = λ _ r e. fact 𝓤 (R a.1.0.now a.1.1.0.now r) }
 
   module _ (𝓜 : Model 𝓤 𝓛.H) (𝓡 : Running 𝓤 𝓛.H 𝓜) where
     abbrev H : Heap 𝓤

@@ -32,7 +32,12 @@ fn buffer_of(alloc: Global, explanation: &Explanation) -> Result<Buffer, AllocEr
 }
 
 /// What explains the verdict on these bytes. The error is that memory ran out.
-pub fn explained_bytes(alloc: Global, table: &Table, reach: Reach, bytes: &[u8]) -> Result<Text, Memory>
+pub fn explained_bytes(
+    alloc: Global,
+    table: &Table,
+    reach: Reach,
+    bytes: &[u8],
+) -> Result<Text, Memory>
     ensures { IfOk result (λ t. IsExplaining table.now reach bytes.now t) }
 {
     let explanation = explain_bytes(alloc, table, reach, Detail::Short, bytes)?;

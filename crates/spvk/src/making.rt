@@ -92,15 +92,12 @@ pub fn put_asked(
 ) -> u32
     ensures { MakesAsked asked (IsMade making table.now) bytes.now text.old text.new result }
 {
-    match asked {
-        Some(Asked {
-            newest: true,
-            reach,
-        }) => put_as_1_6(alloc, table, making, reach, bytes, text),
-        Some(Asked {
-            newest: false,
-            reach,
-        }) => put(alloc, table, making, reach, bytes, text),
-        None => NO_FLAG,
+    let Some(Asked { newest, reach }) = asked else {
+        return NO_FLAG;
+    };
+    if newest {
+        put_as_1_6(alloc, table, making, reach, bytes, text)
+    } else {
+        put(alloc, table, making, reach, bytes, text)
     }
 }
