@@ -17,7 +17,7 @@ use std::alloc::Global;
 use std::mem;
 
 /// What is made of a module's bytes.
-#[derive(Clone, Copy, Debug, PartialEq, Eq)]
+#[derive(Clone, Copy)]
 pub enum Making {
     /// The verdict with the lines that explain it.
     Lines,
