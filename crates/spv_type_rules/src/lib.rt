@@ -15,6 +15,7 @@ mod repeat;
 pub mod roles;
 mod rules;
 
+pub use alike::are_alike;
 pub use concern::is_operation;
 pub use constant::{Constant, constant_of, fits_width, is_bool, is_typed_part};
 pub use counted::next_count;
