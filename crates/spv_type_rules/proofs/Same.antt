@@ -8,7 +8,7 @@ use Rattle.spv_module.specs.Operand.{Plain}
 use Rattle.spv_module.specs.Module.{plain_operand, plain_operands}
 use Rattle.spv_module.specs.declared.operand.Operand.{Operand}
 
-operand_there : (s : List Operand) (k : ℕ) (d : Operand) → k < length s → slice_get (plain_operands s) k ≡ Some (plain_operand (get_or s k d))
+pub operand_there : (s : List Operand) (k : ℕ) (d : Operand) → k < length s → slice_get (plain_operands s) k ≡ Some (plain_operand (get_or s k d))
 operand_there s k d l = slice_get-map plain_operand s k ∙ ap (option_map plain_operand) (slice_get-get_or s k d l)
 
 same_lists : (xs ys : List Plain) → length xs ≡ length ys → ((j : ℕ) → j < length xs → slice_get xs j ≡ slice_get ys j) → xs ≡ ys
