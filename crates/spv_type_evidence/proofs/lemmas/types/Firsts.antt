@@ -23,7 +23,7 @@ use Rattle.spv_type_rules.specs.inner.Declaration.{IsSoundDeclaration}
 use Rattle.spv_evidence.specs.Named.{IsDefinedBy}
 use Rattle.spv_type_evidence.specs.types.Declaration.{AsksData, Asks, IsScalar, condition_at}
 use Rattle.spv_type_evidence.specs.types.inner.Operands.{int_in, float_in, vector_in, array_in, pointee_in, forward_in, members_in, signature_in}
-use Rattle.spv_type_evidence.proofs.lemmas.types.Repeating.{operand_there}
+use Rattle.spv_type_rules.proofs.Same.{operand_there}
 use Rattle.spv_type_evidence.specs.types.inner.First.{IsFirstOf}
 
 -- what is the same at each number has the same first
