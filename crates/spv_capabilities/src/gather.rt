@@ -72,7 +72,7 @@ fn is_import(linkage: u32, decoration: u32, kind: u32, value: u32) -> bool
 }
 
 /// What the operands of an OpDecorate import, where the kind LinkageType has that number.
-fn linked_id(linkage: Option<u32>, operands: &[Operand<'_>]) -> Option<u32>
+pub fn linked_id(linkage: Option<u32>, operands: &[Operand<'_>]) -> Option<u32>
     ensures { result ≡ spec.linked_id linkage (plain_operands operands.now) }
 {
     let linkage = linkage?;

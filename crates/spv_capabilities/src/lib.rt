@@ -13,4 +13,5 @@ mod surveyed;
 pub use capable::{is_capability_kind, is_covered_entry, is_covered_value};
 pub use entries::{Entries, survey};
 pub use entry::returns_void;
+pub use gather::linked_id;
 pub use surveyed::Survey;
