@@ -1,47 +1,18 @@
 -- What is kept of answers, with one answer more.
-use Rattle.std.proofs.Common.{◌≡◌, ◌≢◌, ◌∙◌, ◌<◌, ◌↔◌, ◌⊎◌, ℕ, zero, suc, List, refl, sym, ap, inl, inr, Some, None, Bool, true, false, IsTrue, length, get_or, get_or-set_same, get_or-set_other, nat_eq, arith}
+use Rattle.std.proofs.Common.{◌≡◌, ◌≢◌, ◌∙◌, ◌<◌, ◌↔◌, ◌⊎◌, ℕ, zero, suc, List, refl, sym, ap, inl, inr, Some, None, Bool, true, false, IsTrue, length, get_or, nat_eq, arith}
 use Rattle.std.specs.Prelude.{slice_get, nat_lt}
 use Rattle.std.specs.BTreeMap.{BTreeMap, get, Updates, IsEmpty}
 use Rattle.std.specs.Ordering.{nat_cmp, ordering_then, is_eq}
 use Rattle.std.specs.declared.cmp.Ordering.{Ordering}
 use Rattle.std.specs.declared.cmp.Ordering.TheVariants.{Less, Equal, Greater}
-use Rattle.std.proofs.Math.ListN.{set, length-set, replicate}
+use Rattle.std.proofs.Math.ListN.{replicate}
 use Rattle.std.proofs.lemmas.Bool.{cases_eq, cases_order, ltb-true}
 use Rattle.std.proofs.lemmas.Bool.Decides.{nat_tests}
-use Rattle.std.proofs.lemmas.Option.{slice_get_within, slice_get-get_or, slice_get_read, get_or_from_slice_get}
+use Rattle.std.proofs.lemmas.Option.{slice_get_read}
 use Rattle.spv_capabilities.specs.declared.memo.Answer.{Answer}
 use Rattle.spv_capabilities.specs.declared.memo.Enumerated.{Enumerated}
 use Rattle.spv_capabilities.specs.declared.memo.Answer.TheVariants.{Unknown}
-use Rattle.spv_capabilities.specs.inner.Known.{IsAnswer, answer_of, pair_cmp}
-
-pub answer_tells : (b f : Bool) (P Q : Type 0) → IsTrue b ↔ P → (IsTrue f → Q) → IsAnswer (answer_of b f) P Q
-answer_tells true true P Q e h = (e.0 refl, h refl)
-answer_tells true false P Q e h = e.0 refl
-answer_tells false f P Q e h = λ p. let no : false ≡ true = e.1 p in absurd (cc)
-
-set_same : (l : List Answer) (n : ℕ) (v a : Answer) → n < length l → slice_get (set l n v) n ≡ Some a → v ≡ a
-set_same l n v a h s =
-    let g : get_or (set l n v) n Unknown ≡ a = get_or_from_slice_get (set l n v) n a Unknown s in
-    sym (get_or-set_same l n v Unknown h) ∙ g
-
-set_other : (l : List Answer) (n k : ℕ) (v a : Answer) → k ≢ n → slice_get (set l n v) k ≡ Some a → slice_get l k ≡ Some a
-set_other l n k v a ne s =
-    let w : k < length (set l n v) = slice_get_within (set l n v) k a s in
-    let w' : k < length l = omega (arith, length-set {A = Answer}) in
-    let g : get_or (set l n v) k Unknown ≡ a = get_or_from_slice_get (set l n v) k a Unknown s in
-    let e : get_or l k Unknown ≡ a = sym (get_or-set_other l n k v Unknown ne) ∙ g in
-    slice_get-get_or l k Unknown w' ∙ ap Some e
-
-answer_at : (Q R : ℕ → Type 0) (l : List Answer) (n k : ℕ) (v a : Answer) → n < length l → ((o : ℕ) (b : Answer) → slice_get l o ≡ Some b → IsAnswer b (Q o) (R o)) → IsAnswer v (Q n) (R n)
-    → slice_get (set l n v) k ≡ Some a → (k ≡ n) ⊎ (k ≡ n → ⊥) → IsAnswer a (Q k) (R k)
-answer_at Q R l n k v a h old new s (inl e) =
-    let t : v ≡ a = set_same l n v a h (rw e at s) in
-    rw (e, ← t) new
-answer_at Q R l n k v a h old new s (inr e) = old k a (set_other l n k v a e s)
-
-pub answers_set : (Q R : ℕ → Type 0) (l : List Answer) (n : ℕ) (v : Answer) → n < length l → ((o : ℕ) (a : Answer) → slice_get l o ≡ Some a → IsAnswer a (Q o) (R o)) → IsAnswer v (Q n) (R n)
-    → (o : ℕ) (a : Answer) → slice_get (set l n v) o ≡ Some a → IsAnswer a (Q o) (R o)
-answers_set Q R l n v h old new o a s = answer_at Q R l n o v a h old new s (cases_eq o n)
+use Rattle.spv_capabilities.specs.inner.Known.{IsAnswer, pair_cmp}
 
 -- numbers that are not equal do not compare so, and nor do pairs
 apart : (x y : ℕ) → x ≢ y → is_eq (nat_cmp x y) ≡ false

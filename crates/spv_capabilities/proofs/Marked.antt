@@ -7,7 +7,6 @@ use Rattle.std.proofs.lemmas.Option.{slice_get_within, slice_get-get_or, get_or_
 use Rattle.spv_module.specs.Operand.{PlainInst}
 use Rattle.spv_ids.specs.Definition.{IsDefinedAt}
 use Rattle.spv_ids.specs.Outcome.{IsDefinitionOf, IsOnly}
-use Rattle.spv_capabilities.specs.Entry.{IsNamed}
 use Rattle.spv_capabilities.specs.inner.Survey.{IsNamedBefore, AreMarked}
 
 -- below n, or n
@@ -98,37 +97,3 @@ marks_set names is to x m i marks h e one l a = record {
 -- a mark is there for each instruction
 pub marks_within : (names : PlainInst → Option ℕ) (is : List PlainInst) (to x m : ℕ) (marks : List Bool) → IsDefinitionOf is x (Some m) → AreMarked names is to marks → m < length marks
 marks_within names is to x m marks one a = let d = defined_within is x m one.there in let c = a.count in omega arith
-
--- no instruction is before the first
-pub marks_first : (names : PlainInst → Option ℕ) (is : List PlainInst) (marks : List Bool) → length marks ≡ length is → ((f : ℕ) (b : Bool) → slice_get marks f ≡ Some b → b ≡ false) → AreMarked names is 0 marks
-marks_first names is marks c none = record {
-  count = c;
-  each = λ f b h. (
-    λ t. let no : false ≡ true = sym (none f b h) ∙ t in absurd (let x : false ≡ true = no in cc),
-    λ n. let l = n.below in absurd (omega arith),
-  );
-}
-
--- all instructions are before the end
-pub all_named : (names : PlainInst → Option ℕ) (is : List PlainInst) (f : ℕ) → IsNamedBefore names is (length is) f ↔ IsNamed names is f
-all_named names is f = (
-  λ n. record { place = n.place; inst = n.inst; there = n.there; id = n.id; named = n.named; defined = n.defined },
-  λ n. record { place = n.place; below = slice_get_within is n.place n.inst n.there; inst = n.inst; there = n.there; id = n.id; named = n.named; defined = n.defined },
-)
-
-pub mark_tells : (names : PlainInst → Option ℕ) (is : List PlainInst) (f : ℕ) (marks : List Bool) (b : Bool) → AreMarked names is (length is) marks → slice_get marks f ≡ Some b → IsTrue b ↔ IsNamed names is f
-mark_tells names is f marks b a h =
-    let e = a.each f b h in
-    let n = all_named names is f in
-    (λ t. n.0 (e.0 t), λ q. e.1 (n.1 q))
-
-pub no_mark : (names : PlainInst → Option ℕ) (is : List PlainInst) (f : ℕ) (marks : List Bool) → AreMarked names is (length is) marks → slice_get marks f ≡ None → IsTrue false ↔ IsNamed names is f
-no_mark names is f marks a h = (
-  λ t. absurd (let no : false ≡ true = t in cc),
-  λ n.
-      let d = defined_within is n.id f n.defined in
-      let c = a.count in
-      let l : f < length marks = omega arith in
-      let g = slice_get-get_or marks f false l in
-      absurd (let no : None ≡ Some (get_or marks f false) = sym h ∙ g in cc),
-)

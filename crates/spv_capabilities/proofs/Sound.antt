@@ -1,18 +1,16 @@
 -- What E2 demands, by the one definition of an id.
-use Rattle.std.proofs.Common.{◌≡◌, ◌≢◌, ◌↔◌, ℕ, List, refl, sym, Some, None, Bool, true, false, not, IsTrue, nat_eq, length, ◌<◌, ◌∙◌, arith}
+use Rattle.std.proofs.Common.{◌≡◌, ◌↔◌, ℕ, List, refl, sym, Some, None, Bool, true, false, IsTrue, nat_eq, length, ◌<◌, ◌∙◌}
 use Rattle.std.specs.Prelude.{slice_get}
 use Rattle.std.proofs.lemmas.Bool.{eqb-true, eq-eqb}
 use Rattle.std.proofs.lemmas.Option.{slice_get_within}
-use Rattle.spv_table.specs.Table.{Table}
 use Rattle.spv_module.specs.Operand.{PlainInst, type_in}
 use Rattle.spv_module.specs.declared.opcode.TheConstants as opcode
 use Rattle.spv_layout.specs.Place.{IsDefinition}
 use Rattle.spv_ids.specs.Definition.{IsDefinedAt}
 use Rattle.spv_ids.specs.Order.{HasOpcode}
 use Rattle.spv_ids.specs.Outcome.{IsDefinitionOf}
-use Rattle.spv_capabilities.specs.Entry.{ReturnsVoid, IsKernelFunction, IsSoundEntry, IsSoundMode}
-use Rattle.spv_capabilities.specs.inner.Entry.{IsCalled, IsEntered, IsSoundLinkage}
-use Rattle.spv_capabilities.specs.Keeps.{KeepsEntries}
+use Rattle.spv_capabilities.specs.Entry.{ReturnsVoid, IsKernelFunction}
+use Rattle.spv_capabilities.specs.inner.Entry.{IsCalled, IsEntered}
 
 no_truth : {P : Type 0} → IsTrue false → P
 no_truth t = absurd (let no : false ≡ true = t in cc)
@@ -85,33 +83,6 @@ entered_tells is x f b one e = (
 pub not_entered_tells : (is : List PlainInst) (x : ℕ) → IsDefinitionOf is x None → IsTrue false ↔ ((g : ℕ) × IsDefinedAt is x g × IsEntered is g)
 not_entered_tells is x never = (λ t. no_truth t, λ g. absurd (never g.0 g.1))
 
--- one fact exactly where not the other
-pub imported_tells : (b : Bool) (P Q : Type 0) → P → IsTrue b ↔ Q → IsTrue (not b) ↔ (P ↔ (¬ Q))
-imported_tells true P Q p e = (λ t. no_truth t, λ h. absurd (h.0 p (e.0 refl)))
-imported_tells false P Q p e = (λ t. (λ x q. no_truth (e.1 q), λ n. p), λ h. refl)
-
 pub not_imported_tells : (b : Bool) (P Q : Type 0) → ¬ P → IsTrue b ↔ Q → IsTrue b ↔ (P ↔ (¬ Q))
 not_imported_tells true P Q n e = (λ t. (λ p. absurd (n p), λ m. absurd (m (e.0 refl))), λ h. refl)
 not_imported_tells false P Q n e = (λ t. no_truth t, λ h. absurd (n (h.1 (λ q. no_truth (e.1 q)))))
-
--- what E2 demands, by the opcode
-pub entry_keeps : (G : Table) (is : List PlainInst) (n : ℕ) (i : PlainInst) (b : Bool) → i.opcode ≡ opcode.ENTRY_POINT → IsTrue b ↔ IsSoundEntry is i.operands → IsTrue b ↔ KeepsEntries G is n i
-entry_keeps G is n i b o e = (
-  λ t. record { entry = λ q. e.0 t; mode = λ q. absurd (omega (arith, o, q)); linkage = λ q. absurd (omega (arith, o, q)) },
-  λ k. e.1 (k.entry o),
-)
-
-pub mode_keeps : (G : Table) (is : List PlainInst) (n : ℕ) (i : PlainInst) (b : Bool) → i.opcode ≡ opcode.EXECUTION_MODE → IsTrue b ↔ IsSoundMode is i.operands → IsTrue b ↔ KeepsEntries G is n i
-mode_keeps G is n i b o e = (
-  λ t. record { entry = λ q. absurd (omega (arith, o, q)); mode = λ q. e.0 t; linkage = λ q. absurd (omega (arith, o, q)) },
-  λ k. e.1 (k.mode o),
-)
-
-pub linkage_keeps : (G : Table) (is : List PlainInst) (n : ℕ) (i : PlainInst) (b : Bool) → i.opcode ≡ opcode.FUNCTION → IsTrue b ↔ IsSoundLinkage G is n → IsTrue b ↔ KeepsEntries G is n i
-linkage_keeps G is n i b o e = (
-  λ t. record { entry = λ q. absurd (omega (arith, o, q)); mode = λ q. absurd (omega (arith, o, q)); linkage = λ q. e.0 t },
-  λ k. e.1 (k.linkage o),
-)
-
-pub other_keeps : (G : Table) (is : List PlainInst) (n : ℕ) (i : PlainInst) → i.opcode ≢ opcode.ENTRY_POINT → i.opcode ≢ opcode.EXECUTION_MODE → i.opcode ≢ opcode.FUNCTION → IsTrue true ↔ KeepsEntries G is n i
-other_keeps G is n i a b c = (λ t. record { entry = λ q. absurd (a q); mode = λ q. absurd (b q); linkage = λ q. absurd (c q) }, λ k. refl)
