@@ -1,6 +1,6 @@
 //! The OpDecorate that imports a function.
 
-ghost use Rattle.std.specs.Prelude.{◌≡◌, ◌↔◌, ◌<◌, ◌&&◌, IsTrue, codes, length, map, nat_eq};
+ghost use Rattle.std.specs.Prelude.{◌≡◌, ◌↔◌, IsTrue, map};
 ghost use Rattle.spv_table.specs.Lookups.{number_named};
 ghost use Rattle.spv_module.specs.Module.{plain_inst, plain_operands};
 ghost use Rattle.spv_layout.specs.Place.{AreFew};
@@ -9,40 +9,8 @@ ghost use Rattle.spv_capabilities.specs.Entry as spec;
 ghost use Rattle.spv_capabilities.specs.Asked.{IsImported};
 ghost use Rattle.spv_form_evidence.specs.capabilities.inner.Imports.{Imports, IsImportAt};
 
-use spv_capabilities::Survey;
-use spv_module::{Inst, Operand, opcode};
-
-/// Whether a decoration imports: it is LinkageAttributes, of the type Import, where the kind LinkageType has that
-/// number.
-fn is_import(linkage: u32, decoration: u32, kind: u32, value: u32) -> bool
-    ensures { result ≡ (nat_eq decoration 41 && nat_eq kind linkage && nat_eq value 1) }
-{
-    decoration == 41 && kind == linkage && value == 1
-}
-
-/// What the operands of an OpDecorate import, where the kind LinkageType has that number.
-fn linked_id(linkage: Option<u32>, operands: &[Operand<'_>]) -> Option<u32>
-    ensures { result ≡ spec.linked_id linkage (plain_operands operands.now) }
-{
-    let linkage = linkage?;
-    match operands {
-        [
-            Operand::Id(f),
-            Operand::Value {
-                value: decoration,
-                ..
-            },
-            Operand::Text(_),
-            Operand::Value { kind, value },
-            ..
-        ] => if is_import(linkage, *decoration, *kind, *value) {
-            Some(*f)
-        } else {
-            None
-        },
-        _ => None,
-    }
-}
+use spv_capabilities::{Survey, linked_id};
+use spv_module::{Inst, opcode};
 
 /// What an instruction imports, where the kind LinkageType has that number.
 fn imported(linkage: Option<u32>, inst: &Inst<'_>) -> Option<u32>

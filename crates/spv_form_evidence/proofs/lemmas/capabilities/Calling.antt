@@ -9,7 +9,7 @@ use Rattle.spv_module.specs.declared.opcode.TheConstants as opcode
 use Rattle.spv_layout.specs.Place.{IsDefinition}
 use Rattle.spv_ids.specs.Definition.{IsDefinedAt}
 use Rattle.spv_ids.specs.Outcome.{IsDefinitionOf}
-use Rattle.spv_capabilities.specs.Entry.{IsKernelFunction, IsSoundEntry, IsSoundMode, ReturnsVoid, called_by, entered_by, second_id}
+use Rattle.spv_capabilities.specs.Entry.{IsKernelFunction, IsSoundMode, ReturnsVoid, called_by, entered_by, second_id}
 use Rattle.spv_capabilities.specs.inner.Entry.{IsCalled, IsSoundLinkage}
 use Rattle.spv_capabilities.specs.Keeps.{KeepsEntries}
 use Rattle.spv_capabilities.proofs.Marked.{below_or}
@@ -19,9 +19,6 @@ use Rattle.spv_form_evidence.specs.capabilities.inner.Calls.{AreNoCalls, AreNoCa
 use Rattle.spv_form_evidence.proofs.lemmas.capabilities.Suffices.{same_inst, entered_second}
 
 -- ---- calls, one instruction on
-
-pub none_before : (is : List PlainInst) (x : ℕ) → AreNoCallsBefore is x 0
-none_before is x = record { each = λ c l h. absurd (omega arith) }
 
 pub one_more : (is : List PlainInst) (x n : ℕ) (i : PlainInst) → AreNoCallsBefore is x n → slice_get is n ≡ Some i
     → called_by i ≢ Some x → AreNoCallsBefore is x (n + 1)
@@ -97,14 +94,6 @@ not_linked P Q h b = (
 
 pub decided : (P : Type 0) (a b : ℕ) → ¬ (a ≡ b → P) → a ≡ b
 decided P a b h = elim (cases_eq a b) [ inl e ↦ e | inr d ↦ absurd (h (λ e. absurd (d e))) ]
-
-pub not_entry : (G : Table) (is : List PlainInst) (n : ℕ) (i : PlainInst) → i.opcode ≡ opcode.ENTRY_POINT → ¬ (KeepsEntries G is n i)
-    → ¬ (IsSoundEntry is i.operands)
-not_entry G is n i o h s = h (record {
-  entry = λ e. s;
-  mode = λ e. absurd (omega (arith, o, e));
-  linkage = λ e. absurd (omega (arith, o, e));
-})
 
 pub not_mode : (G : Table) (is : List PlainInst) (n : ℕ) (i : PlainInst) → i.opcode ≡ opcode.EXECUTION_MODE → ¬ (KeepsEntries G is n i)
     → ¬ (IsSoundMode is i.operands)

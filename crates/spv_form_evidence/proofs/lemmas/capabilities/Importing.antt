@@ -1,5 +1,5 @@
 -- Which instruction imports a function.
-use Rattle.std.proofs.Common.{◌≡◌, ◌+◌, ◌↔◌, ◌∙◌, ℕ, List, Option, Some, None, Bool, true, false, sym, subst, inl, inr, arith, length, nat_eq}
+use Rattle.std.proofs.Common.{◌≡◌, ◌+◌, ◌↔◌, ◌∙◌, ℕ, List, Option, Some, Bool, true, false, sym, subst, inl, inr, arith, length, nat_eq}
 use Rattle.std.specs.Prelude.{slice_get, IsTrue}
 use Rattle.std.proofs.lemmas.Bool.{eqb-true, eq-eqb}
 use Rattle.std.proofs.lemmas.Option.{slice_get_within}
@@ -19,12 +19,6 @@ import_told is l i n x b e told = (
   λ y. (x, sym e, told.0 y),
   λ m. let same : Some x ≡ Some m.0 = e ∙ m.1 in let q : m.0 ≡ x = cc in told.1 (subst (λ y. IsDefinedAt is y n) q m.2),
 )
-
-pub no_import : (is : List PlainInst) (l : Option ℕ) (i : PlainInst) (n : ℕ) → None ≡ imported_by l i → ¬ (Imports is l i n)
-no_import is l i n e m = let no : None ≡ Some m.0 = e ∙ m.1 in cc
-
-pub none_yet : (is : List PlainInst) (l : Option ℕ) (n : ℕ) → AreNoImportsBefore is l n 0
-none_yet is l n k i b at m = absurd (omega (arith, b))
 
 pub none_more : (is : List PlainInst) (l : Option ℕ) (n k : ℕ) (i : PlainInst) → AreNoImportsBefore is l n k → slice_get is k ≡ Some i → ¬ (Imports is l i n) → AreNoImportsBefore is l n (k + 1)
 none_more is l n k i before at never j d b there m = elim (below_or j k b) [

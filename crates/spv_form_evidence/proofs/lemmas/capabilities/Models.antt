@@ -6,9 +6,6 @@ use Rattle.spv_capabilities.specs.Memory.{IsModel}
 use Rattle.spv_form_evidence.specs.capabilities.Evidence.{IsOtherModel}
 use Rattle.spv_form_evidence.specs.capabilities.inner.Models.{HasAddressing, HasMemory, HasKernelModel}
 
-value_of : (k a l b : ℕ) → Some (Value k a) ≡ Some (Value l b) → a ≡ b
-value_of k a l b e = cc
-
 none_is : (o : Plain) → None ≡ Some o → ⊥
 none_is o e = cc
 

@@ -66,9 +66,6 @@ bit_found G is k mask p b l u = record {
 
 -- ---- the first operands
 
-pub none_before : (G : Table) (is : List PlainInst) (os : List Plain) → AreCoveredBefore G is os 0
-none_before G is os = record { each = λ k o l e. absurd (omega arith) }
-
 pub one_more : (G : Table) (is : List PlainInst) (os : List Plain) (n : ℕ) (o : Plain) → AreCoveredBefore G is os n
     → slice_get os n ≡ Some o → IsCoveredOperand G is o → AreCoveredBefore G is os (n + 1)
 one_more G is os n o a t h = record {

@@ -1,11 +1,8 @@
 -- The evidence for a rule that is broken.
-use Rattle.std.proofs.Common.{◌≡◌, ◌<◌, ◌∙◌, ℕ, List, Some, length, get_or, ap, sym, subst}
-use Rattle.std.specs.Prelude.{slice_get, option_map}
-use Rattle.std.proofs.lemmas.Option.{slice_get-map, slice_get-get_or}
+use Rattle.std.proofs.Common.{◌≡◌, ℕ, List, Some, sym, subst}
+use Rattle.std.specs.Prelude.{slice_get}
 use Rattle.spv_table.specs.Table.{Table}
 use Rattle.spv_module.specs.Operand.{PlainInst}
-use Rattle.spv_module.specs.Module.{plain_operand, plain_operands}
-use Rattle.spv_module.specs.declared.operand.Operand.{Operand}
 use Rattle.spv_module.specs.declared.fault.Rule.{Rule}
 use Rattle.spv_module.specs.declared.fault.Rule.TheVariants as rule
 use Rattle.spv_module.specs.declared.opcode.TheConstants as opcode
@@ -20,11 +17,6 @@ use Rattle.spv_evidence.specs.declared.evidence.EntryPart.{EntryPart}
 use Rattle.spv_evidence.specs.declared.evidence.Lister.{Lister}
 use Rattle.spv_form_evidence.specs.capabilities.Evidence.{IsEvidence, IsOtherModel, IsUncovered, IsUnsound}
 use Rattle.spv_form_evidence.proofs.lemmas.capabilities.Calling.{decided}
-
--- an operand of a slice
-pub operand_there : (os : List Operand) (n : ℕ) (d : Operand) → n < length os
-    → slice_get (plain_operands os) n ≡ Some (plain_operand (get_or os n d))
-operand_there os n d l = slice_get-map plain_operand os n ∙ ap (option_map plain_operand) (slice_get-get_or os n d l)
 
 has_opcode : (is : List PlainInst) (n : ℕ) (i : PlainInst) (P : Type 0) → slice_get is n ≡ Some i
     → ¬ (i.opcode ≡ opcode.MEMORY_MODEL → P) → HasOpcode is n opcode.MEMORY_MODEL

@@ -2,7 +2,7 @@
 use Rattle.std.proofs.Common.{◌≡◌, ◌<◌, ◌+◌, ◌∙◌, ℕ, List, Option, Some, None, refl, sym, ap, subst, inl, inr, length, arith}
 use Rattle.std.specs.Prelude.{slice_get}
 use Rattle.std.proofs.lemmas.Bool.{cases_eq}
-use Rattle.std.proofs.lemmas.Option.{slice_get_within, slice_get-get_or}
+use Rattle.std.proofs.lemmas.Option.{slice_get_within}
 use Rattle.spv_table.specs.Table.{Table}
 use Rattle.spv_module.specs.Operand.{PlainInst, result_in}
 use Rattle.spv_module.specs.declared.fault.Rule.{Rule}
@@ -32,14 +32,6 @@ use Rattle.spv_form_evidence.proofs.lemmas.ids.Telling.{in_range}
 use Rattle.spv_form_evidence.proofs.lemmas.ids.Ending.{no_result_at_end}
 
 -- Functions of instructions.
-
-pub no_place : (G : Table) (is : List PlainInst) (places : List Place) (n f : ℕ) → IsPlan G is places → slice_get places n ≡ None → ¬ (IsOfFunction is n f)
-no_place G is places n f p h o =
-    let w = o.begun.within in
-    let c = p.count in
-    let l : n < length places = omega arith in
-    let g = slice_get-get_or places n (record { section = 0; function = None; block = None; word = 0 }) l in
-    cc
 
 pub home_here : (G : Table) (is : List PlainInst) (places : List Place) (x m f : ℕ) → IsPlan G is places → IsDefinedAt is x m → IsOfFunction is m f → (f ≡ m → ⊥) → IsHome is m f
 home_here G is places x m f p d o n =

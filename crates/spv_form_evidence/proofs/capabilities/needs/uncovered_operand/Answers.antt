@@ -3,7 +3,7 @@ use Rattle.std.proofs.lemmas.List.{length-map}
 use Rattle.spv_module.specs.Module.{plain_operand, plain_operands}
 use Rattle.spv_module.specs.declared.operand.Operand.{Operand}
 use Rattle.spv_module.specs.declared.operand.Operand.TheVariants.{OfType}
-use Rattle.spv_form_evidence.proofs.lemmas.capabilities.Ruled.{operand_there}
+use Rattle.spv_type_rules.proofs.Same.{operand_there}
 use Rattle.spv_form_evidence.proofs.lemmas.capabilities.Needed.{one_more, all_before}
 use Rattle.spv_form_evidence.proofs.capabilities.needs.uncovered_operand.Goals as goal
 
