@@ -3,12 +3,10 @@
 #![tactic(auto)]
 
 mod files;
+mod streams;
 mod why;
 
-use files::{
-    Held, Made, Named, STANDARD, is_same_file, make_if_absent, open, read_file, read_module,
-    read_whole, trouble_of,
-};
+use files::{Named, is_same_file, make_if_absent, read_file, read_module, read_whole, trouble_of};
 use spv_commands::{
     Color, Command, Judging, Naming, Telling, Trouble, UseError, Versioned, advice, arguments_in,
     help, is_verbose, report, run, run_each, text_asked,
@@ -16,10 +14,11 @@ use spv_commands::{
 use spv_words::{FromRead, FromWrite};
 use std::alloc::Global;
 use std::env::VarError;
-use std::io::{ErrorKind, IsTerminal, Read, Write};
+use std::io::{ErrorKind, IsTerminal, Write};
 use std::process::ExitCode;
 use std::{env, io};
-use why::{AtHand, Noted, Teller, Why};
+use streams::{Held, Input, Output, STANDARD};
+use why::{AtHand, Teller, Why};
 
 /// The same as `trouble_of` where the words of the command line could not be read: words that are no text fit no
 /// command.
@@ -37,21 +36,22 @@ fn show_text(rt: &HostRuntime, words: &[&str]) -> Result<u8, Trouble> {
     Ok(0)
 }
 
-/// Does what a command asks with its open files, and answers the exit status.
-fn with_made<'a, F: Read + Drop, W: Write + Drop, O: Write + Drop>(
+/// Does what a command asks with its open files, and answers the exit status: `out` gets the lines, and `made` the
+/// module of a text.
+fn with_made<'a>(
     rt: &HostRuntime,
     why: &Why<'a>,
     command: &Command<'a>,
     at_hand: AtHand<'a, '_>,
-    file: F,
-    out: W,
-    made: O,
+    input: Input<'a, '_>,
+    out: Output<'a, '_>,
+    made: Output<'a, '_>,
 ) -> u8 {
     run(
         rt.alloc(),
         command,
         at_hand.grammar,
-        &mut Versioned::new(FromRead::new(file)),
+        &mut Versioned::new(FromRead::new(input)),
         &mut FromWrite::new(out),
         &mut FromWrite::new(made),
         &mut FromWrite::new(Teller::new(rt.stderr(), why, at_hand)),
@@ -59,18 +59,18 @@ fn with_made<'a, F: Read + Drop, W: Write + Drop, O: Write + Drop>(
 }
 
 /// Does what a command asks that makes no file, and answers the exit status.
-fn with_output<'a, F: Read + Drop>(
+fn with_output<'a>(
     rt: &HostRuntime,
     why: &Why<'a>,
     command: &Command<'a>,
     at_hand: AtHand<'a, '_>,
-    file: F,
+    input: Input<'a, '_>,
 ) -> u8 {
-    if let Command::Judge { quiet: true, .. } = command {
-        return with_made(rt, why, command, at_hand, file, io::sink(), io::sink());
-    }
-    let out = Noted::new(rt.stdout(), "standard output", why);
-    with_made(rt, why, command, at_hand, file, out, io::sink())
+    let out = match command {
+        Command::Judge { quiet: true, .. } => Output::Nothing,
+        _ => Output::standard(rt, why),
+    };
+    with_made(rt, why, command, at_hand, input, out, Output::Nothing)
 }
 
 /// Reads the module of `trace` whole, so that its entry points can be told, writes the run, and answers the exit
@@ -88,7 +88,8 @@ fn with_bytes<'a>(
         grammar,
         module: Some(bytes.as_slice()),
     };
-    Ok(with_output(rt, why, command, at_hand, Held::new(bytes.as_slice())))
+    let input = Input::Held(Held::new(bytes.as_slice()));
+    Ok(with_output(rt, why, command, at_hand, input))
 }
 
 /// Opens the module of a command, does what it asks, and answers the exit status.
@@ -102,38 +103,12 @@ fn with_module<'a>(
     if why.is_told() && matches!(command, Command::Trace { .. }) {
         return with_bytes(rt, why, command, grammar, file);
     }
-    let at_hand = AtHand::of(grammar);
-    if file == STANDARD {
-        let file = Noted::new(rt.stdin(), file, why);
-        return Ok(with_output(rt, why, command, at_hand, file));
-    }
-    let file = open(rt, why, file).map_err(trouble_of)?;
-    Ok(with_output(rt, why, command, at_hand, file))
+    let input = Input::open(rt, why, file).map_err(trouble_of)?;
+    Ok(with_output(rt, why, command, AtHand::of(grammar), input))
 }
 
-/// Makes the module of a text that is read from an open file, and answers the exit status. Where the module goes to the
-/// standard output, the line of a fault goes to the standard error.
-fn with_text<'a, F: Read + Drop>(
-    rt: &HostRuntime,
-    why: &Why<'a>,
-    command: &Command<'a>,
-    at_hand: AtHand<'a, '_>,
-    file: F,
-    out: &'a str,
-) -> u8 {
-    let output = Noted::new(rt.stdout(), "standard output", why);
-    if out == STANDARD {
-        return with_made(rt, why, command, at_hand, file, rt.stderr(), output);
-    }
-    let made = Noted::new(Made::new(rt, out), out, why);
-    let status = with_made(rt, why, command, at_hand, file, output, made);
-    if status != 0 && !why.has_failed() {
-        make_if_absent(rt, out);
-    }
-    status
-}
-
-/// Opens the text of `asm`, makes its module, and answers the exit status.
+/// Opens the text of `asm`, makes its module, and answers the exit status. Where the module goes to the standard
+/// output, the line of a fault goes to the standard error.
 fn with_asm<'a>(
     rt: &HostRuntime,
     why: &Why<'a>,
@@ -147,22 +122,28 @@ fn with_asm<'a>(
         grammar,
         module: None,
     };
-    if name == STANDARD {
-        let file = Noted::new(rt.stdin(), name, why);
-        return Ok(with_text(rt, why, command, at_hand, file, out));
+    let input = Input::open(rt, why, name).map_err(trouble_of)?;
+    let output = Output::standard(rt, why);
+    if out == STANDARD {
+        let lines = Output::Error(rt.stderr());
+        return Ok(with_made(rt, why, command, at_hand, input, lines, output));
     }
-    let file = open(rt, why, name).map_err(trouble_of)?;
-    Ok(with_text(rt, why, command, at_hand, file, out))
+    let made = Output::made(rt, why, out);
+    let status = with_made(rt, why, command, at_hand, input, output, made);
+    if status != 0 && !why.has_failed() {
+        make_if_absent(rt, out);
+    }
+    Ok(status)
 }
 
 /// Judges each of several files, and answers the exit status.
-fn with_several<'a, W: Write + Drop>(
+fn with_several<'a>(
     rt: &HostRuntime,
     why: &Why<'a>,
     how: Judging,
     grammar: Option<&[u8]>,
     names: &[&'a str],
-    out: W,
+    out: Output<'a, '_>,
 ) -> u8 {
     let mut out = FromWrite::new(out);
     let mut err = FromWrite::new(Teller::new(rt.stderr(), why, AtHand::of(grammar)));
@@ -219,10 +200,11 @@ fn with_modules<'a>(
         extended: *extended,
         telling: telling_by(*naming, *json),
     };
-    if *quiet {
-        return Ok(with_several(rt, why, how, grammar, files, io::sink()));
-    }
-    let out = Noted::new(rt.stdout(), "standard output", why);
+    let out = if *quiet {
+        Output::Nothing
+    } else {
+        Output::standard(rt, why)
+    };
     Ok(with_several(rt, why, how, grammar, files, out))
 }
 
@@ -241,7 +223,7 @@ fn with_grammar<'a>(
         | Command::Graph { file, .. } => with_module(rt, why, command, grammar, *file),
         Command::Asm { file, out, .. } => with_asm(rt, why, command, grammar, *file, *out),
         Command::Rules { .. } | Command::Grammar { .. } => {
-            Ok(with_output(rt, why, command, AtHand::of(grammar), io::empty()))
+            Ok(with_output(rt, why, command, AtHand::of(grammar), Input::Nothing))
         }
     }
 }

@@ -44,7 +44,8 @@ fn made(
     }
 }
 
-/// Puts what is made of these bytes in place of what was there.
+/// Puts what is made of these bytes in place of what was there, and answers `OK`. `MEMORY` comes where a growth of
+/// memory was refused, and then what was there stays.
 pub fn put(
     alloc: Global,
     table: &Table,
@@ -81,7 +82,7 @@ pub fn put_as_1_6(
     }
 }
 
-/// Puts what is asked for.
+/// The same of what flags ask for: `NO_FLAG` comes where a bit is set that is no flag, and then what was there stays.
 pub fn put_asked(
     alloc: Global,
     table: &Table,
