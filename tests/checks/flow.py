@@ -9,6 +9,7 @@ import subprocess
 import threading
 from resource import RLIMIT_AS, setrlimit
 
+from shapes import opcodes as op
 from shapes.module import ENTRY, FUNCTION_TYPE, INT, KERNEL, ONE, TRUE, VOID, Module, closed, kernel, opened, text_words
 
 from .common import SECONDS, TESTS, Answer, Check, difference, joined
@@ -42,7 +43,7 @@ class Graph(Module):
     def add(self, left, right):
         """An addition of two values."""
         result = self.fresh()
-        self.put(128, INT, result, left, right)
+        self.put(op.I_ADD, INT, result, left, right)
         return result
 
     def begin(self, entries=(KERNEL,)):
@@ -50,7 +51,7 @@ class Graph(Module):
 
         def more(module):
             for number, entry in enumerate(entries[1:]):
-                module.put(15, 6, entry, *text_words(f"{number:07}"))
+                module.put(op.ENTRY_POINT, 6, entry, *text_words(f"{number:07}"))
 
         opened(self, more)
 
@@ -77,17 +78,17 @@ def chain(graph, count, backwards=False):
     graph.kernel()
     labels = graph.labels(count)
     values = graph.labels(count + 1)
-    graph.put(128, INT, values[0], ONE, ONE)
-    graph.put(249, labels[0])
+    graph.put(op.I_ADD, INT, values[0], ONE, ONE)
+    graph.put(op.BRANCH, labels[0])
     places = range(count)
     for at in reversed(places) if backwards else places:
-        graph.put(248, labels[at])
-        graph.put(128, INT, values[at + 1], ONE if backwards else values[at], ONE)
+        graph.put(op.LABEL, labels[at])
+        graph.put(op.I_ADD, INT, values[at + 1], ONE if backwards else values[at], ONE)
         if at + 1 < count:
-            graph.put(249, labels[at + 1])
+            graph.put(op.BRANCH, labels[at + 1])
         else:
-            graph.put(253)
-    graph.put(56)
+            graph.put(op.RETURN)
+    graph.put(op.FUNCTION_END)
 
 
 def reversed_chain(graph, count):
@@ -102,8 +103,8 @@ def far_uses(graph, count):
     values = [graph.add(ONE, ONE) for _ in range(count)]
     for value in values:
         label = graph.fresh()
-        graph.put(249, label)
-        graph.put(248, label)
+        graph.put(op.BRANCH, label)
+        graph.put(op.LABEL, label)
         graph.add(value, ONE)
     graph.end()
 
@@ -116,18 +117,18 @@ def loops(graph, count, depth=1_000):
         merges = []
         for _ in range(depth):
             header, body, around, merge = graph.labels(4)
-            graph.put(249, header)
-            graph.put(248, header)
+            graph.put(op.BRANCH, header)
+            graph.put(op.LABEL, header)
             value = graph.add(ONE, ONE)
-            graph.put(246, merge, around, 0)
-            graph.put(250, TRUE, body, merge)
-            graph.put(248, body)
+            graph.put(op.LOOP_MERGE, merge, around, 0)
+            graph.put(op.BRANCH_CONDITIONAL, TRUE, body, merge)
+            graph.put(op.LABEL, body)
             merges.append((header, around, merge, value))
         for header, around, merge, value in reversed(merges):
-            graph.put(249, around)
-            graph.put(248, around)
-            graph.put(249, header)
-            graph.put(248, merge)
+            graph.put(op.BRANCH, around)
+            graph.put(op.LABEL, around)
+            graph.put(op.BRANCH, header)
+            graph.put(op.LABEL, merge)
             graph.add(value, ONE)
     graph.end()
 
@@ -138,16 +139,16 @@ def ladder(graph, count):
     graph.kernel()
     value = graph.add(ONE, ONE)
     pairs = [graph.labels(2) for _ in range(count)]
-    graph.put(250, TRUE, *pairs[0])
+    graph.put(op.BRANCH_CONDITIONAL, TRUE, *pairs[0])
     for pair, after in zip(pairs, pairs[1:]):
         for label in pair:
-            graph.put(248, label)
+            graph.put(op.LABEL, label)
             graph.add(value, ONE)
-            graph.put(250, TRUE, *after)
+            graph.put(op.BRANCH_CONDITIONAL, TRUE, *after)
     for label in pairs[-1]:
-        graph.put(248, label)
-        graph.put(253)
-    graph.put(56)
+        graph.put(op.LABEL, label)
+        graph.put(op.RETURN)
+    graph.put(op.FUNCTION_END)
 
 
 def phis(graph, count, blocks=30):
@@ -155,17 +156,17 @@ def phis(graph, count, blocks=30):
     graph.begin()
     graph.kernel()
     parents, targets = graph.labels(count), graph.labels(blocks)
-    graph.put(251, ONE, parents[0], *(w for at, p in enumerate(parents[1:]) for w in (at, p)))
+    graph.put(op.SWITCH, ONE, parents[0], *(w for at, p in enumerate(parents[1:]) for w in (at, p)))
     cases = [word for at, label in enumerate(targets[1:]) for word in (at, label)]
     for parent in parents:
-        graph.put(248, parent)
-        graph.put(251, ONE, targets[0], *cases)
+        graph.put(op.LABEL, parent)
+        graph.put(op.SWITCH, ONE, targets[0], *cases)
     pairs = [word for parent in parents for word in (ONE, parent)]
     for label in targets:
-        graph.put(248, label)
-        graph.put(245, INT, graph.fresh(), *pairs)
-        graph.put(253)
-    graph.put(56)
+        graph.put(op.LABEL, label)
+        graph.put(op.PHI, INT, graph.fresh(), *pairs)
+        graph.put(op.RETURN)
+    graph.put(op.FUNCTION_END)
 
 
 def switches(graph, count, targets=16_000):
@@ -175,9 +176,9 @@ def switches(graph, count, targets=16_000):
     parent = ENTRY
     for _ in range(count):
         label = graph.fresh()
-        graph.put(251, ONE, label, *(w for at in range(targets - 1) for w in (at, label)))
-        graph.put(248, label)
-        graph.put(245, INT, graph.fresh(), ONE, parent)
+        graph.put(op.SWITCH, ONE, label, *(w for at in range(targets - 1) for w in (at, label)))
+        graph.put(op.LABEL, label)
+        graph.put(op.PHI, INT, graph.fresh(), ONE, parent)
         parent = label
     graph.end()
 
@@ -188,11 +189,11 @@ def functions(graph, callees, order):
     graph.next += 3 * len(callees)
     places = {}
     for number in order:
-        graph.put(54, VOID, first + 3 * number, 0, FUNCTION_TYPE)
-        graph.put(248, first + 3 * number + 1)
+        graph.put(op.FUNCTION, VOID, first + 3 * number, 0, FUNCTION_TYPE)
+        graph.put(op.LABEL, first + 3 * number + 1)
         if callees[number] is not None:
             places[number] = (graph.insts, len(graph.words))
-            graph.put(57, VOID, first + 3 * number + 2, first + 3 * callees[number])
+            graph.put(op.FUNCTION_CALL, VOID, first + 3 * number + 2, first + 3 * callees[number])
         graph.end()
     return first, places
 
@@ -204,7 +205,7 @@ def mixed(count):
 
 def kernel_that_calls(graph, function):
     graph.kernel()
-    graph.put(57, VOID, graph.fresh(), function)
+    graph.put(op.FUNCTION_CALL, VOID, graph.fresh(), function)
     graph.end()
 
 

@@ -4,6 +4,7 @@ may go round."""
 import struct
 
 from reading import extended
+from shapes import opcodes as op
 from shapes.module import FUNCTION_TYPE, INT, KERNEL, ONE, TRUE, TWO, VOID, Module, opened
 
 MOST_WORDS = 20_000
@@ -44,7 +45,7 @@ class Body:
         """A phi with a pair for each block that has this one as a target."""
         parents = [label for label, targets in zip(self.labels, self.targets) if at in targets]
         pairs = [word for parent in parents for word in (self.value(), parent)]
-        self.module.put(245, INT, self.module.fresh(), *pairs)
+        self.module.put(op.PHI, INT, self.module.fresh(), *pairs)
 
     def behind(self, name, kinds):
         """A word for each operand of an extended instruction: a value of OpenCL.std, any id of another set, any
@@ -71,30 +72,30 @@ class Body:
         """A terminator with the block's targets."""
         labels = [self.labels[target] for target in self.targets[at]]
         if not labels:
-            self.module.put(253)
+            self.module.put(op.RETURN)
         elif len(labels) == 1:
-            self.module.put(249, *labels)
+            self.module.put(op.BRANCH, *labels)
         elif len(labels) == 2 and labels[0] != labels[1]:
-            self.module.put(250, TRUE, *labels)
+            self.module.put(op.BRANCH_CONDITIONAL, TRUE, *labels)
         else:
             cases = [word for number, label in enumerate(labels[1:]) for word in (number, label)]
-            self.module.put(251, ONE, labels[0], *cases)
+            self.module.put(op.SWITCH, ONE, labels[0], *cases)
 
     def put(self):
         """The whole function."""
-        self.module.put(54, VOID, self.function, 0, FUNCTION_TYPE)
+        self.module.put(op.FUNCTION, VOID, self.function, 0, FUNCTION_TYPE)
         for at, label in enumerate(self.labels):
-            self.module.put(248, label)
+            self.module.put(op.LABEL, label)
             if at and self.chance.random() < 0.5:
                 self.put_phi(at)
             for value in self.values[at]:
-                self.module.put(128, INT, value, self.value(), self.value())
+                self.module.put(op.I_ADD, INT, value, self.value(), self.value())
             if self.sets and self.chance.random() < 0.5:
                 self.put_extended()
             if self.callees and self.chance.random() < 0.2:
-                self.module.put(57, VOID, self.module.fresh(), self.chance.choice(self.callees))
+                self.module.put(op.FUNCTION_CALL, VOID, self.module.fresh(), self.chance.choice(self.callees))
             self.put_end(at)
-        self.module.put(56)
+        self.module.put(op.FUNCTION_END)
 
 
 def tangle(chance):

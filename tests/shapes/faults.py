@@ -1,6 +1,7 @@
 """Modules that each break one rule, far from what breaks it; the last three only where the operands of extended
 instructions are looked at."""
 
+from . import opcodes as op
 from .module import (
     BOOL,
     FUNCTION_TYPE,
@@ -25,16 +26,16 @@ def missing(module):
     opened(module)
     kernel(module)
     beside, label, value = (module.fresh() for _ in range(3))
-    module.put(250, TRUE, beside, label)
-    module.put(248, beside)
-    module.put(128, INT, value, ONE, ONE)
-    module.put(249, label)
-    module.put(248, label)
+    module.put(op.BRANCH_CONDITIONAL, TRUE, beside, label)
+    module.put(op.LABEL, beside)
+    module.put(op.I_ADD, INT, value, ONE, ONE)
+    module.put(op.BRANCH, label)
+    module.put(op.LABEL, label)
     while module.room() > 8:
         label = module.fresh()
-        module.put(249, label)
-        module.put(248, label)
-    module.put(128, INT, module.fresh(), ONE, value)
+        module.put(op.BRANCH, label)
+        module.put(op.LABEL, label)
+    module.put(op.I_ADD, INT, module.fresh(), ONE, value)
     closed(module)
 
 
@@ -46,16 +47,16 @@ def crossed(module):
     parents = [module.fresh() for _ in range(count)]
     values = [module.fresh() for _ in parents]
     after = module.fresh()
-    module.put(251, ONE, parents[0], *(w for at, it in enumerate(parents[1:]) for w in (at, it)))
+    module.put(op.SWITCH, ONE, parents[0], *(w for at, it in enumerate(parents[1:]) for w in (at, it)))
     for parent, value in zip(parents, values):
-        module.put(248, parent)
-        module.put(128, INT, value, ONE, ONE)
-        module.put(249, after)
-    module.put(248, after)
+        module.put(op.LABEL, parent)
+        module.put(op.I_ADD, INT, value, ONE, ONE)
+        module.put(op.BRANCH, after)
+    module.put(op.LABEL, after)
     while module.room() > 4 * count + 6:
-        module.put(245, INT, module.fresh(), *(w for pair in zip(values, parents) for w in pair))
+        module.put(op.PHI, INT, module.fresh(), *(w for pair in zip(values, parents) for w in pair))
     values[-1] = values[0]
-    module.put(245, INT, module.fresh(), *(w for pair in zip(values, parents) for w in pair))
+    module.put(op.PHI, INT, module.fresh(), *(w for pair in zip(values, parents) for w in pair))
     closed(module)
 
 
@@ -64,11 +65,11 @@ def unequal(module):
     opened(module)
     count = min(65_000, (module.room() - 64) // 3)
     struct = module.fresh()
-    module.put(30, struct, *[INT] * count)
+    module.put(op.TYPE_STRUCT, struct, *[INT] * count)
     kernel(module)
     while module.room() > 2 * count + 6:
-        module.put(80, struct, module.fresh(), *[ONE] * count)
-    module.put(80, struct, module.fresh(), *[ONE] * (count - 1))
+        module.put(op.COMPOSITE_CONSTRUCT, struct, module.fresh(), *[ONE] * count)
+    module.put(op.COMPOSITE_CONSTRUCT, struct, module.fresh(), *[ONE] * (count - 1))
     closed(module)
 
 
@@ -77,11 +78,11 @@ def nested(module):
     opened(module)
     count = min(8_000, (module.room() - 64) // 3)
     inner, outer, value = (module.fresh() for _ in range(3))
-    module.put(30, inner, *[INT] * count)
-    module.put(30, outer, *[inner] * count)
-    module.put(1, inner, value)
+    module.put(op.TYPE_STRUCT, inner, *[INT] * count)
+    module.put(op.TYPE_STRUCT, outer, *[inner] * count)
+    module.put(op.UNDEF, inner, value)
     kernel(module)
-    module.put(80, outer, module.fresh(), *[value] * (count - 1))
+    module.put(op.COMPOSITE_CONSTRUCT, outer, module.fresh(), *[value] * (count - 1))
     closed(module)
 
 
@@ -91,14 +92,14 @@ def unled(module):
     depth = min(60_000, (module.room() - 64) // 5)
     types = [INT, *(module.fresh() for _ in range(depth))]
     for inner, outer in zip(types, types[1:]):
-        module.put(30, outer, inner)
+        module.put(op.TYPE_STRUCT, outer, inner)
     zero, base = module.fresh(), module.fresh()
-    module.put(43, INT, zero, 0)
-    module.put(32, base, 7, types[-1])
+    module.put(op.CONSTANT, INT, zero, 0)
+    module.put(op.TYPE_POINTER, base, 7, types[-1])
     kernel(module)
     variable = module.fresh()
-    module.put(59, base, variable, 7)
-    module.put(65, POINTER, module.fresh(), variable, *[zero] * (depth + 1))
+    module.put(op.VARIABLE, base, variable, 7)
+    module.put(op.ACCESS_CHAIN, POINTER, module.fresh(), variable, *[zero] * (depth + 1))
     closed(module)
 
 
@@ -109,12 +110,12 @@ def cycle(module):
     count = (module.room() - 64) // 13
     module.next += 3 * count
     for at in range(count):
-        module.put(54, VOID, first + 3 * at, 0, FUNCTION_TYPE)
-        module.put(248, first + 3 * at + 1)
-        module.put(57, VOID, first + 3 * at + 2, first + 3 * ((at + 1) % count))
+        module.put(op.FUNCTION, VOID, first + 3 * at, 0, FUNCTION_TYPE)
+        module.put(op.LABEL, first + 3 * at + 1)
+        module.put(op.FUNCTION_CALL, VOID, first + 3 * at + 2, first + 3 * ((at + 1) % count))
         closed(module)
     kernel(module)
-    module.put(57, VOID, module.fresh(), first + 3)
+    module.put(op.FUNCTION_CALL, VOID, module.fresh(), first + 3)
     closed(module)
 
 
@@ -125,15 +126,15 @@ def pairs(module):
     count = min(32_000, (module.room() - 64) // 8)
     parents = [module.fresh() for _ in range(count)]
     after = module.fresh()
-    module.put(251, ONE, parents[0], *(w for at, it in enumerate(parents[1:]) for w in (at, it)))
+    module.put(op.SWITCH, ONE, parents[0], *(w for at, it in enumerate(parents[1:]) for w in (at, it)))
     for parent in parents:
-        module.put(248, parent)
-        module.put(249, after)
-    module.put(248, after)
+        module.put(op.LABEL, parent)
+        module.put(op.BRANCH, after)
+    module.put(op.LABEL, after)
     while module.room() > 4 * count + 6:
-        module.put(245, INT, module.fresh(), *(w for it in parents for w in (ONE, it)))
+        module.put(op.PHI, INT, module.fresh(), *(w for it in parents for w in (ONE, it)))
     parents[-1] = parents[-2]
-    module.put(245, INT, module.fresh(), *(w for it in parents for w in (ONE, it)))
+    module.put(op.PHI, INT, module.fresh(), *(w for it in parents for w in (ONE, it)))
     closed(module)
 
 
@@ -144,9 +145,9 @@ def alike(module):
     count = (module.room() - 2_000) // (length + 8)
     last = [module.fresh() for _ in range(count)]
     for array in last:
-        module.put(28, array, INT, ONE)
+        module.put(op.TYPE_ARRAY, array, INT, ONE)
     for array in [*last, last[0]]:
-        module.put(33, module.fresh(), VOID, *[INT] * (length - 1), array)
+        module.put(op.TYPE_FUNCTION, module.fresh(), VOID, *[INT] * (length - 1), array)
     kernel(module)
     closed(module)
 
@@ -159,10 +160,10 @@ def astray(module):
     while module.room() > 64_010:
         after = module.fresh()
         targets = (after, last) * 8_000
-        module.put(251, ONE, after, *(w for at, it in enumerate(targets) for w in (at, it)))
-        module.put(248, after)
-    module.put(251, ONE, last, *(w for at in range(15_999) for w in (at, last)), 15_999, INT)
-    module.put(248, last)
+        module.put(op.SWITCH, ONE, after, *(w for at, it in enumerate(targets) for w in (at, it)))
+        module.put(op.LABEL, after)
+    module.put(op.SWITCH, ONE, last, *(w for at in range(15_999) for w in (at, last)), 15_999, INT)
+    module.put(op.LABEL, last)
     closed(module)
 
 
@@ -171,9 +172,9 @@ def lacking(module):
     opened(module)
     number = 0
     while module.room() > 8:
-        module.put(31, module.fresh(), *text_words(f"{number:07}"))
+        module.put(op.TYPE_OPAQUE, module.fresh(), *text_words(f"{number:07}"))
         number += 1
-    module.put(23, module.fresh(), INT, 16)
+    module.put(op.TYPE_VECTOR, module.fresh(), INT, 16)
     kernel(module)
     closed(module)
 
@@ -183,10 +184,10 @@ def parts(module):
     opened(module)
     count = min(65_000, (module.room() - 64) // 3)
     struct = module.fresh()
-    module.put(30, struct, *[INT] * count)
+    module.put(op.TYPE_STRUCT, struct, *[INT] * count)
     while module.room() > 2 * count + 6:
-        module.put(44, struct, module.fresh(), *[ONE] * count)
-    module.put(44, struct, module.fresh(), *[ONE] * (count - 1), TRUE)
+        module.put(op.CONSTANT_COMPOSITE, struct, module.fresh(), *[ONE] * count)
+    module.put(op.CONSTANT_COMPOSITE, struct, module.fresh(), *[ONE] * (count - 1), TRUE)
     kernel(module)
     closed(module)
 
@@ -196,16 +197,16 @@ def arguments(module):
     opened(module)
     count = min(65_000, (module.room() - 64) // 6)
     signature, function = module.fresh(), module.fresh()
-    module.put(33, signature, VOID, *[INT] * count)
-    module.put(54, VOID, function, 0, signature)
+    module.put(op.TYPE_FUNCTION, signature, VOID, *[INT] * count)
+    module.put(op.FUNCTION, VOID, function, 0, signature)
     for _ in range(count):
-        module.put(55, INT, module.fresh())
-    module.put(248, module.fresh())
+        module.put(op.FUNCTION_PARAMETER, INT, module.fresh())
+    module.put(op.LABEL, module.fresh())
     closed(module)
     kernel(module)
     while module.room() > 2 * count + 8:
-        module.put(57, VOID, module.fresh(), function, *[ONE] * count)
-    module.put(57, VOID, module.fresh(), function, *[ONE] * (count - 1), TRUE)
+        module.put(op.FUNCTION_CALL, VOID, module.fresh(), function, *[ONE] * count)
+    module.put(op.FUNCTION_CALL, VOID, module.fresh(), function, *[ONE] * (count - 1), TRUE)
     closed(module)
 
 
@@ -214,12 +215,12 @@ def parameters(module):
     opened(module)
     count = min(65_000, (module.room() - 64) // 4)
     signature = module.fresh()
-    module.put(33, signature, VOID, *[INT] * count)
-    module.put(54, VOID, module.fresh(), 0, signature)
+    module.put(op.TYPE_FUNCTION, signature, VOID, *[INT] * count)
+    module.put(op.FUNCTION, VOID, module.fresh(), 0, signature)
     for _ in range(count - 1):
-        module.put(55, INT, module.fresh())
-    module.put(55, BOOL, module.fresh())
-    module.put(248, module.fresh())
+        module.put(op.FUNCTION_PARAMETER, INT, module.fresh())
+    module.put(op.FUNCTION_PARAMETER, BOOL, module.fresh())
+    module.put(op.LABEL, module.fresh())
     closed(module)
     kernel(module)
     closed(module)
@@ -231,10 +232,10 @@ def handed(module):
     kernel(module)
     while module.room() > 8:
         after = module.fresh()
-        module.put(249, after)
-        module.put(248, after)
-    module.put(254, ONE)
-    module.put(56)
+        module.put(op.BRANCH, after)
+        module.put(op.LABEL, after)
+    module.put(op.RETURN_VALUE, ONE)
+    module.put(op.FUNCTION_END)
 
 
 def unknown(module):
@@ -243,8 +244,8 @@ def unknown(module):
     kernel(module)
     absent = module.fresh()
     while module.room() > 12:
-        module.put(128, INT, module.fresh(), ONE, TWO)
-    module.put(128, INT, module.fresh(), ONE, absent)
+        module.put(op.I_ADD, INT, module.fresh(), ONE, TWO)
+    module.put(op.I_ADD, INT, module.fresh(), ONE, absent)
     closed(module)
 
 
@@ -254,9 +255,9 @@ def forward(module):
     later = module.fresh()
     count = min(65_000, (module.room() - 64) // 2)
     while module.room() > 2 * count + 8:
-        module.put(30, module.fresh(), *[INT] * count)
-    module.put(30, module.fresh(), *[INT] * (count - 1), later)
-    module.put(28, later, INT, ONE)
+        module.put(op.TYPE_STRUCT, module.fresh(), *[INT] * count)
+    module.put(op.TYPE_STRUCT, module.fresh(), *[INT] * (count - 1), later)
+    module.put(op.TYPE_ARRAY, later, INT, ONE)
     kernel(module)
     closed(module)
 
@@ -265,15 +266,15 @@ def abroad(module):
     """D5: very many values of a function, the first of which another function uses at its end."""
     opened(module)
     first = module.next
-    module.put(54, VOID, module.fresh(), 0, FUNCTION_TYPE)
-    module.put(248, module.fresh())
+    module.put(op.FUNCTION, VOID, module.fresh(), 0, FUNCTION_TYPE)
+    module.put(op.LABEL, module.fresh())
     while module.room() > module.most // 2:
-        module.put(128, INT, module.fresh(), ONE, TWO)
+        module.put(op.I_ADD, INT, module.fresh(), ONE, TWO)
     closed(module)
     kernel(module)
     while module.room() > 12:
-        module.put(128, INT, module.fresh(), ONE, TWO)
-    module.put(128, INT, module.fresh(), ONE, first + 2)
+        module.put(op.I_ADD, INT, module.fresh(), ONE, TWO)
+    module.put(op.I_ADD, INT, module.fresh(), ONE, first + 2)
     closed(module)
 
 
@@ -282,8 +283,8 @@ def miscast(module):
     opened(module)
     count = min(65_000, (module.room() - 64) // 2)
     while module.room() > 2 * count + 8:
-        module.put(30, module.fresh(), *[INT] * count)
-    module.put(30, module.fresh(), *[INT] * (count - 1), ONE)
+        module.put(op.TYPE_STRUCT, module.fresh(), *[INT] * count)
+    module.put(op.TYPE_STRUCT, module.fresh(), *[INT] * (count - 1), ONE)
     kernel(module)
     closed(module)
 
@@ -292,14 +293,14 @@ def called(module):
     """E2: very many functions, the last of which calls the kernel."""
     opened(module)
     while module.room() > 32:
-        module.put(54, VOID, module.fresh(), 0, FUNCTION_TYPE)
-        module.put(248, module.fresh())
+        module.put(op.FUNCTION, VOID, module.fresh(), 0, FUNCTION_TYPE)
+        module.put(op.LABEL, module.fresh())
         closed(module)
     kernel(module)
     closed(module)
-    module.put(54, VOID, module.fresh(), 0, FUNCTION_TYPE)
-    module.put(248, module.fresh())
-    module.put(57, VOID, module.fresh(), KERNEL)
+    module.put(op.FUNCTION, VOID, module.fresh(), 0, FUNCTION_TYPE)
+    module.put(op.LABEL, module.fresh())
+    module.put(op.FUNCTION_CALL, VOID, module.fresh(), KERNEL)
     closed(module)
 
 
@@ -308,7 +309,7 @@ def left_over(module):
     opened(module)
     kernel(module)
     module.words.extend([1 << 16] * (module.room() - LONGEST))
-    module.put(0, *[1] * (LONGEST - 1))
+    module.put(op.NOP, *[1] * (LONGEST - 1))
 
 
 def endless_text(module):
@@ -316,7 +317,7 @@ def endless_text(module):
     opened(module)
     kernel(module)
     module.words.extend([1 << 16] * (module.room() - LONGEST))
-    module.put(7, module.fresh(), *[0x6161_6161] * (LONGEST - 2))
+    module.put(op.STRING, module.fresh(), *[0x6161_6161] * (LONGEST - 2))
 
 
 def unended(module):
@@ -331,14 +332,14 @@ def misplaced(module):
     opened(module)
     kernel(module)
     module.words.extend([1 << 16] * module.room())
-    module.put(17, 6)
+    module.put(op.CAPABILITY, 6)
 
 
 def undefined_argument(module):
     """D3: very many extended instructions, and one of an id that nothing defines."""
     std, value = put_maths(module)
     result, unknown = module.fresh(), module.fresh()
-    module.put(12, INT, result, std, 157, value, unknown)
+    module.put(op.EXT_INST, INT, result, std, 157, value, unknown)
     closed(module)
 
 
@@ -346,14 +347,14 @@ def late_argument(module):
     """A1: very many extended instructions, and one of its own result."""
     std, value = put_maths(module)
     result = module.fresh()
-    module.put(12, INT, result, std, 157, value, result)
+    module.put(op.EXT_INST, INT, result, std, 157, value, result)
     closed(module)
 
 
 def miscall(module):
     """Y9: very many extended instructions, and one of an operand too many."""
     std, value = put_maths(module)
-    module.put(12, INT, module.fresh(), std, 157, value, value, ONE)
+    module.put(op.EXT_INST, INT, module.fresh(), std, 157, value, value, ONE)
     closed(module)
 
 

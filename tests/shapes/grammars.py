@@ -9,6 +9,7 @@ from dataclasses import dataclass
 from pathlib import Path
 from typing import Optional
 
+from . import opcodes as op
 from .module import MOST_BYTES, ONE, POINTER, Module, closed, kernel, opened
 
 PROFILE = Path(__file__).resolve().parents[1] / "profile.json"
@@ -130,14 +131,14 @@ def long_names(size):
 
     def put(module):
         variable = module.fresh()
-        module.put(59, POINTER, variable, 7)
+        module.put(op.VARIABLE, POINTER, variable, 7)
         nops(count)(module)
         for _ in range(count):
             module.put(STORE, variable, ONE, 8)
         for _ in range(count):
             after = module.fresh()
             module.put(BRANCH, after)
-            module.put(248, after)
+            module.put(op.LABEL, after)
 
     return Hostile(grammar, body(put, [FREE] * count))
 
@@ -209,7 +210,7 @@ def long_lists(size):
     def put(module):
         variables = [module.fresh() for _ in range(count)]
         for variable in variables:
-            module.put(59, POINTER, variable, 7)
+            module.put(op.VARIABLE, POINTER, variable, 7)
         nops(count)(module)
         for variable in variables:
             module.put(STORE, variable, ONE, 1)

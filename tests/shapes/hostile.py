@@ -5,6 +5,7 @@ from dataclasses import dataclass
 from itertools import product
 from typing import Optional
 
+from . import opcodes as op
 from .graphs import immediate_dominators, random_targets
 from .module import (
     ENTRY,
@@ -36,28 +37,28 @@ BESIDE = 2
 def add(module, left, right=ONE):
     """An addition; its value."""
     result = module.fresh()
-    module.put(128, INT, result, left, right)
+    module.put(op.I_ADD, INT, result, left, right)
     return result
 
 
 def begun(module, label):
     """Begins a block."""
-    module.put(248, label)
+    module.put(op.LABEL, label)
 
 
 def jump(module, label):
     """Ends a block: on to another one."""
-    module.put(249, label)
+    module.put(op.BRANCH, label)
 
 
 def fork(module, one, other):
     """Ends a block: on to one of two others."""
-    module.put(250, TRUE, one, other)
+    module.put(op.BRANCH_CONDITIONAL, TRUE, one, other)
 
 
 def switch(module, targets):
     """Ends a block: on to one of any number of others."""
-    module.put(251, ONE, targets[0], *(word for case in enumerate(targets[1:]) for word in case))
+    module.put(op.SWITCH, ONE, targets[0], *(word for case in enumerate(targets[1:]) for word in case))
 
 
 def crossing(module, value_beside=False):
@@ -163,12 +164,12 @@ def waves(module, sections, value_at_end=None):
     closed_block(module)
     for _, put_ways in found:
         put_ways()
-    module.put(56)
+    module.put(op.FUNCTION_END)
 
 
 def closed_block(module):
     """Ends a block and with it the walk."""
-    module.put(253)
+    module.put(op.RETURN)
 
 
 def irreducible_waves(module):
@@ -267,7 +268,7 @@ def climb(module):
         begun(module, label)
         add(module, value)
         closed_block(module)
-    module.put(56)
+    module.put(op.FUNCTION_END)
 
 
 def far_back(module):
@@ -291,7 +292,7 @@ def far_back(module):
             fork(module, other[at + 1], first[count - 1 - at])
         else:
             jump(module, first[0])
-    module.put(56)
+    module.put(op.FUNCTION_END)
 
 
 def far_uses(module):
@@ -317,7 +318,7 @@ def little_functions(module):
     kernel(module)
     closed(module)
     while module.room() > 30:
-        module.put(54, VOID, module.fresh(), 0, FUNCTION_TYPE)
+        module.put(op.FUNCTION, VOID, module.fresh(), 0, FUNCTION_TYPE)
         begun(module, module.fresh())
         value, label = add(module, ONE), module.fresh()
         jump(module, label)
@@ -332,19 +333,19 @@ def entry_calls(module):
 
     def put_entries(module):
         for _ in range(count - 1):
-            module.put(15, 6, KERNEL, *text_words("k"))
+            module.put(op.ENTRY_POINT, 6, KERNEL, *text_words("k"))
 
     opened(module, put_entries)
     itself, called = module.fresh(), module.fresh()
     for function, callee in ((itself, itself), (called, None)):
-        module.put(54, VOID, function, 0, FUNCTION_TYPE)
+        module.put(op.FUNCTION, VOID, function, 0, FUNCTION_TYPE)
         begun(module, module.fresh())
         if callee is not None:
-            module.put(57, VOID, module.fresh(), callee)
+            module.put(op.FUNCTION_CALL, VOID, module.fresh(), callee)
         closed(module)
     kernel(module)
     for _ in range(count):
-        module.put(57, VOID, module.fresh(), called)
+        module.put(op.FUNCTION_CALL, VOID, module.fresh(), called)
     closed(module)
 
 
@@ -369,11 +370,12 @@ def chosen_types(module):
     above = factor * max(sum(abs(change[at]) for change in CHANGES) for at in range(len(CHANGES)))
     arrays = [module.fresh() for _ in range(2 * above + 1)]
     for array in arrays:
-        module.put(28, array, INT, ONE)
+        module.put(op.TYPE_ARRAY, array, INT, ONE)
     for changes in tuples(factor):
         if module.room() < length + 8:
             break
-        module.put(33, module.fresh(), VOID, *[INT] * (length - 4), *(arrays[above + it] for it in changes))
+        arguments = [*[INT] * (length - 4), *(arrays[above + it] for it in changes)]
+        module.put(op.TYPE_FUNCTION, module.fresh(), VOID, *arguments)
     kernel(module)
     closed(module)
 
@@ -444,7 +446,7 @@ class Random:
             of = self.values[parent] if self.chance.random() < 0.5 else self.above(parent)
             has_fault = fault is not None and fault.parent == parent
             pairs += [self.values[fault.other] if has_fault else of, self.labels[parent]]
-        self.module.put(245, INT, self.module.fresh(), *pairs)
+        self.module.put(op.PHI, INT, self.module.fresh(), *pairs)
 
     def put_end(self, block):
         """A terminator with the block's targets."""
@@ -467,7 +469,7 @@ class Random:
             self.put_phi(block, fault)
         is_missing = fault is not None and fault.parent is None
         right = self.values[fault.other] if is_missing else self.above(block)
-        self.module.put(128, INT, self.values[block], self.above(block), right)
+        self.module.put(op.I_ADD, INT, self.values[block], self.above(block), right)
         self.put_end(block)
 
     def put(self):
@@ -475,10 +477,10 @@ class Random:
         order = list(range(1, len(self.labels)))
         if self.chance.random() < 0.5:
             self.chance.shuffle(order)
-        self.module.put(54, VOID, KERNEL, 0, FUNCTION_TYPE)
+        self.module.put(op.FUNCTION, VOID, KERNEL, 0, FUNCTION_TYPE)
         for block in (0, *order):
             self.put_block(block)
-        self.module.put(56)
+        self.module.put(op.FUNCTION_END)
 
 
 # The words of a random block, so many on an average.
@@ -510,7 +512,7 @@ def printfs(module):
     kernel(module)
     while module.room() > 64:
         count = min(LONGEST - 5, module.room() - 32)
-        module.put(12, INT, module.fresh(), std, 184, *[ONE] * count)
+        module.put(op.EXT_INST, INT, module.fresh(), std, 184, *[ONE] * count)
     closed(module)
 
 
@@ -521,7 +523,7 @@ def many_sets(module):
     opened(module, sets=own)
     kernel(module)
     for of, name in own:
-        module.put(12, INT, module.fresh(), of, 61 if name == "OpenCL.std" else 23, ONE)
+        module.put(op.EXT_INST, INT, module.fresh(), of, 61 if name == "OpenCL.std" else 23, ONE)
     closed(module)
 
 

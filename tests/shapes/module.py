@@ -3,6 +3,8 @@
 import sys
 from array import array
 
+from . import opcodes as op
+
 MOST_BYTES = 16_777_216
 LONGEST = 65_535
 GREATEST_BOUND = 4_194_303
@@ -49,36 +51,36 @@ def text_words(text):
 
 def imported(module, own, name):
     """Imports a set of extended instructions for an id."""
-    module.put(11, own, *text_words(name))
+    module.put(op.EXT_INST_IMPORT, own, *text_words(name))
 
 
 def opened(module, after_entry=lambda module: None, sets=()):
     """Begins a module: all up to the declarations that every shape has, and imports of sets of extended instructions,
     each an id and a name."""
-    module.put(17, 4)
-    module.put(17, 6)
+    module.put(op.CAPABILITY, 4)
+    module.put(op.CAPABILITY, 6)
     for own, name in sets:
         imported(module, own, name)
-    module.put(14, 2, 2)
-    module.put(15, 6, KERNEL, *text_words("k"))
+    module.put(op.MEMORY_MODEL, 2, 2)
+    module.put(op.ENTRY_POINT, 6, KERNEL, *text_words("k"))
     after_entry(module)
-    module.put(19, VOID)
-    module.put(33, FUNCTION_TYPE, VOID)
-    module.put(21, INT, 32, 0)
-    module.put(43, INT, ONE, 1)
-    module.put(43, INT, TWO, 2)
-    module.put(32, POINTER, 7, INT)
-    module.put(20, BOOL)
-    module.put(41, BOOL, TRUE)
+    module.put(op.TYPE_VOID, VOID)
+    module.put(op.TYPE_FUNCTION, FUNCTION_TYPE, VOID)
+    module.put(op.TYPE_INT, INT, 32, 0)
+    module.put(op.CONSTANT, INT, ONE, 1)
+    module.put(op.CONSTANT, INT, TWO, 2)
+    module.put(op.TYPE_POINTER, POINTER, 7, INT)
+    module.put(op.TYPE_BOOL, BOOL)
+    module.put(op.CONSTANT_TRUE, BOOL, TRUE)
 
 
 def kernel(module):
     """Begins the kernel's function and its entry block."""
-    module.put(54, VOID, KERNEL, 0, FUNCTION_TYPE)
-    module.put(248, ENTRY)
+    module.put(op.FUNCTION, VOID, KERNEL, 0, FUNCTION_TYPE)
+    module.put(op.LABEL, ENTRY)
 
 
 def closed(module):
     """Ends the last block and the function."""
-    module.put(253)
-    module.put(56)
+    module.put(op.RETURN)
+    module.put(op.FUNCTION_END)

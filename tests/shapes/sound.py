@@ -1,6 +1,7 @@
 """Modules that are sound, and three that decode and then do not fit the profile. Each shape adds its words to a
 module."""
 
+from . import opcodes as op
 from .module import (
     FIRST_FREE,
     FUNCTION_TYPE,
@@ -21,14 +22,14 @@ from .module import (
 
 
 def tiny(module):
-    module.put(17, 4)
-    module.put(17, 6)
-    module.put(14, 2, 2)
-    module.put(15, 6, 3, *text_words("k"))
-    module.put(19, 1)
-    module.put(33, 2, 1)
-    module.put(54, 1, 3, 0, 2)
-    module.put(248, 4)
+    module.put(op.CAPABILITY, 4)
+    module.put(op.CAPABILITY, 6)
+    module.put(op.MEMORY_MODEL, 2, 2)
+    module.put(op.ENTRY_POINT, 6, 3, *text_words("k"))
+    module.put(op.TYPE_VOID, 1)
+    module.put(op.TYPE_FUNCTION, 2, 1)
+    module.put(op.FUNCTION, 1, 3, 0, 2)
+    module.put(op.LABEL, 4)
     module.next = 5
     closed(module)
 
@@ -40,7 +41,7 @@ def straight(module):
     before, last = ONE, TWO
     while module.room() > 5:
         result = module.fresh()
-        module.put(128, INT, result, before, last)
+        module.put(op.I_ADD, INT, result, before, last)
         before, last = last, result
     closed(module)
 
@@ -58,7 +59,7 @@ def put_maths(module):
     while module.room() > 24:
         for number, count in MATHS.items():
             result = module.fresh()
-            module.put(12, INT, result, std, number, *values[:count])
+            module.put(op.EXT_INST, INT, result, std, number, *values[:count])
             values = [result, *values[:2]]
     return std, values[0]
 
@@ -82,7 +83,7 @@ def constants(module):
     opened(module)
     number = 0
     while module.room() > 4:
-        module.put(43, INT, module.fresh(), number)
+        module.put(op.CONSTANT, INT, module.fresh(), number)
         number += 1
     kernel(module)
     closed(module)
@@ -94,7 +95,7 @@ def texts(module):
 
     def strings(module):
         while module.room() > len(words) + 2:
-            module.put(7, module.fresh(), *words)
+            module.put(op.STRING, module.fresh(), *words)
 
     opened(module, strings)
     kernel(module)
@@ -106,7 +107,7 @@ def names(module):
 
     def put_names(module):
         while module.room() > 12:
-            module.put(5, ONE, *text_words("value"))
+            module.put(op.NAME, ONE, *text_words("value"))
 
     opened(module, put_names)
     kernel(module)
@@ -120,7 +121,7 @@ def longer_names(module):
     def put_names(module):
         while module.room() > 20:
             for words in texts:
-                module.put(5, ONE, *words)
+                module.put(op.NAME, ONE, *words)
 
     opened(module, put_names)
     kernel(module)
@@ -132,9 +133,9 @@ def memory(module):
     opened(module)
     kernel(module)
     variable = module.fresh()
-    module.put(59, POINTER, variable, 7)
+    module.put(op.VARIABLE, POINTER, variable, 7)
     while module.room() > 5:
-        module.put(62, variable, ONE, 2, 4)
+        module.put(op.STORE, variable, ONE, 2, 4)
     closed(module)
 
 
@@ -147,10 +148,10 @@ def switches(module):
         after = module.fresh()
         targets = (after, last) * 8_000
         cases = (word for number_and_label in enumerate(targets) for word in number_and_label)
-        module.put(251, ONE, after, *cases)
-        module.put(248, after)
-    module.put(249, last)
-    module.put(248, last)
+        module.put(op.SWITCH, ONE, after, *cases)
+        module.put(op.LABEL, after)
+    module.put(op.BRANCH, last)
+    module.put(op.LABEL, last)
     closed(module)
 
 
@@ -160,9 +161,9 @@ def selected(module):
     opened(module)
     kernel(module)
     value, label = module.fresh(), module.fresh()
-    module.put(128, INT, value, ONE, TWO)
-    module.put(249, label)
-    module.put(248, label)
+    module.put(op.I_ADD, INT, value, ONE, TWO)
+    module.put(op.BRANCH, label)
+    module.put(op.LABEL, label)
     return value, label
 
 
@@ -172,9 +173,9 @@ def switch_same(module):
     while module.room() > 32_010:
         after = module.fresh()
         cases = (word for number in range(16_000) for word in (number, after))
-        module.put(251, value, after, *cases)
-        module.put(248, after)
-        module.put(245, INT, module.fresh(), value, before)
+        module.put(op.SWITCH, value, after, *cases)
+        module.put(op.LABEL, after)
+        module.put(op.PHI, INT, module.fresh(), value, before)
         before = after
     closed(module)
 
@@ -187,15 +188,15 @@ def switch_wide(module):
     cases = [word for number_and_label in enumerate(targets) for word in number_and_label]
     while module.room() > 6_020:
         label = module.fresh()
-        module.put(251, value, label, *cases)
-        module.put(248, label)
+        module.put(op.SWITCH, value, label, *cases)
+        module.put(op.LABEL, label)
     after = module.fresh()
-    module.put(249, after)
-    module.put(248, after)
-    module.put(245, INT, module.fresh(), value, label)
+    module.put(op.BRANCH, after)
+    module.put(op.LABEL, after)
+    module.put(op.PHI, INT, module.fresh(), value, label)
     for target in targets:
-        module.put(253)
-        module.put(248, target)
+        module.put(op.RETURN)
+        module.put(op.LABEL, target)
     closed(module)
 
 
@@ -205,7 +206,7 @@ def longest(module):
 
     def strings(module):
         while module.room() > module.most // 2:
-            module.put(7, module.fresh(), *words)
+            module.put(op.STRING, module.fresh(), *words)
 
     opened(module, strings)
     kernel(module)
@@ -213,10 +214,10 @@ def longest(module):
     while module.room() > LONGEST:
         after = module.fresh()
         cases = (word for number in range(32_765) for word in (number, last))
-        module.put(251, ONE, after, *cases)
-        module.put(248, after)
-    module.put(249, last)
-    module.put(248, last)
+        module.put(op.SWITCH, ONE, after, *cases)
+        module.put(op.LABEL, after)
+    module.put(op.BRANCH, last)
+    module.put(op.LABEL, last)
     closed(module)
 
 
@@ -228,14 +229,14 @@ def phis(module):
     while module.room() > 11 * branches:
         entries = [module.fresh() for _ in range(branches)]
         after = module.fresh()
-        module.put(251, ONE, entries[0], *(w for at, e in enumerate(entries[1:]) for w in (at, e)))
+        module.put(op.SWITCH, ONE, entries[0], *(w for at, e in enumerate(entries[1:]) for w in (at, e)))
         for entry in entries:
-            module.put(248, entry)
-            module.put(249, after)
-        module.put(248, after)
+            module.put(op.LABEL, entry)
+            module.put(op.BRANCH, after)
+        module.put(op.LABEL, after)
         for _ in range(2):
             pairs = (word for entry in entries for word in (ONE, entry))
-            module.put(245, INT, module.fresh(), *pairs)
+            module.put(op.PHI, INT, module.fresh(), *pairs)
     closed(module)
 
 
@@ -244,12 +245,12 @@ def blocks(module):
     opened(module)
     kernel(module)
     second = module.fresh()
-    module.put(249, second)
-    module.put(248, second)
+    module.put(op.BRANCH, second)
+    module.put(op.LABEL, second)
     while module.room() > 6:
         after = module.fresh()
-        module.put(250, TRUE, after, second)
-        module.put(248, after)
+        module.put(op.BRANCH_CONDITIONAL, TRUE, after, second)
+        module.put(op.LABEL, after)
     closed(module)
 
 
@@ -259,10 +260,10 @@ def functions(module):
     callee = None
     while module.room() > 14:
         function = module.fresh()
-        module.put(54, VOID, function, 0, FUNCTION_TYPE)
-        module.put(248, module.fresh())
+        module.put(op.FUNCTION, VOID, function, 0, FUNCTION_TYPE)
+        module.put(op.LABEL, module.fresh())
         if callee is not None:
-            module.put(57, VOID, module.fresh(), callee)
+            module.put(op.FUNCTION_CALL, VOID, module.fresh(), callee)
         closed(module)
         callee = function
     kernel(module)
@@ -272,7 +273,7 @@ def functions(module):
 def added(module, value):
     """An addition to a value; its value."""
     result = module.fresh()
-    module.put(128, INT, result, value, ONE)
+    module.put(op.I_ADD, INT, result, value, ONE)
     return result
 
 
@@ -280,15 +281,15 @@ def put_diamond(module, value):
     """Ends a block by two ways that come together again, and begins the block where they do, with a phi of a value of
     each; its value."""
     left, right, join = module.fresh(), module.fresh(), module.fresh()
-    module.put(250, TRUE, left, right)
+    module.put(op.BRANCH_CONDITIONAL, TRUE, left, right)
     pairs = []
     for label in (left, right):
-        module.put(248, label)
+        module.put(op.LABEL, label)
         pairs += [added(module, added(module, value)), label]
-        module.put(249, join)
-    module.put(248, join)
+        module.put(op.BRANCH, join)
+    module.put(op.LABEL, join)
     result = module.fresh()
-    module.put(245, INT, result, *pairs)
+    module.put(op.PHI, INT, result, *pairs)
     return result
 
 
@@ -296,16 +297,16 @@ def mid_functions(module):
     """Functions of 50 blocks: a loop of 16 diamonds with phis, of values that other blocks define."""
     opened(module)
     while module.room() > 700:
-        module.put(54, VOID, module.fresh(), 0, FUNCTION_TYPE)
-        module.put(248, module.fresh())
+        module.put(op.FUNCTION, VOID, module.fresh(), 0, FUNCTION_TYPE)
+        module.put(op.LABEL, module.fresh())
         value, loop, after = module.fresh(), module.fresh(), module.fresh()
-        module.put(128, INT, value, ONE, TWO)
-        module.put(249, loop)
-        module.put(248, loop)
+        module.put(op.I_ADD, INT, value, ONE, TWO)
+        module.put(op.BRANCH, loop)
+        module.put(op.LABEL, loop)
         for _ in range(16):
             value = put_diamond(module, value)
-        module.put(250, TRUE, loop, after)
-        module.put(248, after)
+        module.put(op.BRANCH_CONDITIONAL, TRUE, loop, after)
+        module.put(op.LABEL, after)
         closed(module)
     kernel(module)
     closed(module)
@@ -314,10 +315,10 @@ def mid_functions(module):
 def lines(module):
     """Line after line, each of which uses the file that an OpString declares."""
     file = module.fresh()
-    opened(module, lambda module: module.put(7, file, *text_words("kernel.cl")))
+    opened(module, lambda module: module.put(op.STRING, file, *text_words("kernel.cl")))
     kernel(module)
     while module.room() > 4:
-        module.put(8, file, len(module.words), 1)
+        module.put(op.LINE, file, len(module.words), 1)
     closed(module)
 
 
@@ -325,7 +326,7 @@ def members(module):
     """Structs of as many members as an instruction holds."""
     opened(module)
     while module.room() > LONGEST:
-        module.put(30, module.fresh(), *[INT] * (LONGEST - 2))
+        module.put(op.TYPE_STRUCT, module.fresh(), *[INT] * (LONGEST - 2))
     kernel(module)
     closed(module)
 
@@ -343,11 +344,11 @@ def named(module):
 
     def put_names(module):
         for number in range(count):
-            module.put(5, first + number, *text_words(f"{number:07}"))
+            module.put(op.NAME, first + number, *text_words(f"{number:07}"))
 
     opened(module, put_names)
     for number in range(count):
-        module.put(43, INT, first + number, number)
+        module.put(op.CONSTANT, INT, first + number, number)
     kernel(module)
     closed(module)
 
@@ -358,11 +359,11 @@ def symbols(module):
 
     def put_names(module):
         for number in range(count):
-            module.put(5, first + number, *text_words(f"variable_{number:07}"))
+            module.put(op.NAME, first + number, *text_words(f"variable_{number:07}"))
 
     opened(module, put_names)
     for number in range(count):
-        module.put(1, INT, first + number)
+        module.put(op.UNDEF, INT, first + number)
     kernel(module)
     closed(module)
 
@@ -373,8 +374,8 @@ def chain(module):
     kernel(module)
     while module.room() > 4:
         after = module.fresh()
-        module.put(249, after)
-        module.put(248, after)
+        module.put(op.BRANCH, after)
+        module.put(op.LABEL, after)
     closed(module)
 
 
@@ -384,13 +385,13 @@ def callers(module):
     function = module.fresh()
     while module.room() > 14:
         after = module.fresh()
-        module.put(54, VOID, function, 0, FUNCTION_TYPE)
-        module.put(248, module.fresh())
-        module.put(57, VOID, module.fresh(), after)
+        module.put(op.FUNCTION, VOID, function, 0, FUNCTION_TYPE)
+        module.put(op.LABEL, module.fresh())
+        module.put(op.FUNCTION_CALL, VOID, module.fresh(), after)
         closed(module)
         function = after
-    module.put(54, VOID, function, 0, FUNCTION_TYPE)
-    module.put(248, module.fresh())
+    module.put(op.FUNCTION, VOID, function, 0, FUNCTION_TYPE)
+    module.put(op.LABEL, module.fresh())
     closed(module)
     kernel(module)
     closed(module)
@@ -403,7 +404,7 @@ def downwards(module):
     last = GREATEST_BOUND
     while module.room() > 3:
         last -= 1
-        module.put(1, INT, last)
+        module.put(op.UNDEF, INT, last)
     closed(module)
     module.next = GREATEST_BOUND
 
@@ -414,9 +415,9 @@ def types(module):
     number = 0
     while module.room() > 13:
         opaque, pointer = module.fresh(), module.fresh()
-        module.put(31, opaque, *text_words(f"{number:07}"))
-        module.put(32, pointer, 5, opaque)
-        module.put(33, module.fresh(), VOID, pointer)
+        module.put(op.TYPE_OPAQUE, opaque, *text_words(f"{number:07}"))
+        module.put(op.TYPE_POINTER, pointer, 5, opaque)
+        module.put(op.TYPE_FUNCTION, module.fresh(), VOID, pointer)
         number += 1
     kernel(module)
     closed(module)
@@ -427,13 +428,13 @@ def chains(module):
     opened(module)
     members = 65_000
     last, struct, pointer, variable = (module.fresh() for _ in range(4))
-    module.put(43, INT, last, members - 1)
-    module.put(30, struct, *[INT] * members)
-    module.put(32, pointer, 7, struct)
+    module.put(op.CONSTANT, INT, last, members - 1)
+    module.put(op.TYPE_STRUCT, struct, *[INT] * members)
+    module.put(op.TYPE_POINTER, pointer, 7, struct)
     kernel(module)
-    module.put(59, pointer, variable, 7)
+    module.put(op.VARIABLE, pointer, variable, 7)
     while module.room() > 5:
-        module.put(66, POINTER, module.fresh(), variable, last)
+        module.put(op.IN_BOUNDS_ACCESS_CHAIN, POINTER, module.fresh(), variable, last)
     closed(module)
 
 
@@ -443,16 +444,16 @@ def arrays(module):
     element = INT
     while module.room() > module.most // 2:
         outer = module.fresh()
-        module.put(28, outer, element, TWO)
+        module.put(op.TYPE_ARRAY, outer, element, TWO)
         element = outer
     depth = min(LONGEST - 535, element - FIRST_FREE)
     pointer, to_reached, variable = (module.fresh() for _ in range(3))
-    module.put(32, pointer, 7, element)
-    module.put(32, to_reached, 7, element - depth)
+    module.put(op.TYPE_POINTER, pointer, 7, element)
+    module.put(op.TYPE_POINTER, to_reached, 7, element - depth)
     kernel(module)
-    module.put(59, pointer, variable, 7)
+    module.put(op.VARIABLE, pointer, variable, 7)
     while module.room() > depth + 4:
-        module.put(66, to_reached, module.fresh(), variable, *[ONE] * depth)
+        module.put(op.IN_BOUNDS_ACCESS_CHAIN, to_reached, module.fresh(), variable, *[ONE] * depth)
     closed(module)
 
 
@@ -462,9 +463,9 @@ def many_types(module):
     element = POINTER
     while module.room() > 12:
         array, struct, pointer = (module.fresh() for _ in range(3))
-        module.put(28, array, element, TWO)
-        module.put(30, struct, array, INT)
-        module.put(32, pointer, 7, struct)
+        module.put(op.TYPE_ARRAY, array, element, TWO)
+        module.put(op.TYPE_STRUCT, struct, array, INT)
+        module.put(op.TYPE_POINTER, pointer, 7, struct)
         element = pointer
     kernel(module)
     closed(module)
@@ -479,19 +480,20 @@ def deep_struct(module):
         struct = INT
         for _ in range(depth):
             outer = module.fresh()
-            module.put(30, outer, INT, struct)
+            module.put(op.TYPE_STRUCT, outer, INT, struct)
             struct = outer
         outermost.append(struct)
     pointers = [(module.fresh(), struct) for struct in outermost]
     for pointer, struct in pointers:
-        module.put(32, pointer, 7, struct)
+        module.put(op.TYPE_POINTER, pointer, 7, struct)
     kernel(module)
     variables = [(module.fresh(), pointer) for pointer, _ in pointers]
     for variable, pointer in variables:
-        module.put(59, pointer, variable, 7)
+        module.put(op.VARIABLE, pointer, variable, 7)
     at = 0
     while variables and module.room() > depth + 4:
-        module.put(66, POINTER, module.fresh(), variables[at % len(variables)][0], *[ONE] * depth)
+        variable = variables[at % len(variables)][0]
+        module.put(op.IN_BOUNDS_ACCESS_CHAIN, POINTER, module.fresh(), variable, *[ONE] * depth)
         at += 1
     closed(module)
 
@@ -500,15 +502,15 @@ def calls(module):
     """Calls of one function that has 200 parameters."""
     opened(module)
     signature, function = module.fresh(), module.fresh()
-    module.put(33, signature, VOID, *[INT] * 200)
-    module.put(54, VOID, function, 0, signature)
+    module.put(op.TYPE_FUNCTION, signature, VOID, *[INT] * 200)
+    module.put(op.FUNCTION, VOID, function, 0, signature)
     for _ in range(200):
-        module.put(55, INT, module.fresh())
-    module.put(248, module.fresh())
+        module.put(op.FUNCTION_PARAMETER, INT, module.fresh())
+    module.put(op.LABEL, module.fresh())
     closed(module)
     kernel(module)
     while module.room() > 204:
-        module.put(57, VOID, module.fresh(), function, *[ONE, TWO] * 100)
+        module.put(op.FUNCTION_CALL, VOID, module.fresh(), function, *[ONE, TWO] * 100)
     closed(module)
 
 
@@ -520,14 +522,14 @@ def entries(module):
 
     def put_entries(module):
         for number in range(count):
-            module.put(15, 6, first + 2 * number, *text_words("k"))
+            module.put(op.ENTRY_POINT, 6, first + 2 * number, *text_words("k"))
         for number in range(count):
-            module.put(16, first + 2 * number, 31)
+            module.put(op.EXECUTION_MODE, first + 2 * number, 31)
 
     opened(module, put_entries)
     for number in range(count):
-        module.put(54, VOID, first + 2 * number, 0, FUNCTION_TYPE)
-        module.put(248, first + 2 * number + 1)
+        module.put(op.FUNCTION, VOID, first + 2 * number, 0, FUNCTION_TYPE)
+        module.put(op.LABEL, first + 2 * number + 1)
         closed(module)
     kernel(module)
     closed(module)
@@ -541,18 +543,18 @@ def decorations(module):
 
     def put_decorations(module):
         for number in range(count):
-            module.put(71, first + 3 * number, 41, *text_words("f"), 1)
-            module.put(71, first + 3 * number + 1, 44, 4)
-            module.put(71, ONE, 44, 8)
+            module.put(op.DECORATE, first + 3 * number, 41, *text_words("f"), 1)
+            module.put(op.DECORATE, first + 3 * number + 1, 44, 4)
+            module.put(op.DECORATE, ONE, 44, 8)
 
-    module.put(17, 5)
+    module.put(op.CAPABILITY, 5)
     opened(module, put_decorations)
     for number in range(count):
-        module.put(54, VOID, first + 3 * number, 0, FUNCTION_TYPE)
-        module.put(56)
+        module.put(op.FUNCTION, VOID, first + 3 * number, 0, FUNCTION_TYPE)
+        module.put(op.FUNCTION_END)
     for number in range(count):
-        module.put(54, VOID, first + 3 * number + 1, 0, FUNCTION_TYPE)
-        module.put(248, first + 3 * number + 2)
+        module.put(op.FUNCTION, VOID, first + 3 * number + 1, 0, FUNCTION_TYPE)
+        module.put(op.LABEL, first + 3 * number + 2)
         closed(module)
     kernel(module)
     closed(module)
@@ -564,12 +566,12 @@ def many_decorates(module):
 
     def put_decorates(module):
         for number in range(count):
-            module.put(71, first + number, 44, 4)
+            module.put(op.DECORATE, first + number, 44, 4)
 
     opened(module, put_decorates)
     kernel(module)
     for number in range(count):
-        module.put(59, POINTER, first + number, 7)
+        module.put(op.VARIABLE, POINTER, first + number, 7)
     closed(module)
 
 
@@ -577,9 +579,9 @@ def composites(module):
     """Constants of one struct type of 30 members."""
     opened(module)
     struct = module.fresh()
-    module.put(30, struct, *[INT] * 30)
+    module.put(op.TYPE_STRUCT, struct, *[INT] * 30)
     while module.room() > 33:
-        module.put(44, struct, module.fresh(), *[ONE, TWO] * 15)
+        module.put(op.CONSTANT_COMPOSITE, struct, module.fresh(), *[ONE, TWO] * 15)
     kernel(module)
     closed(module)
 
@@ -589,10 +591,10 @@ def big_constant(module):
     opened(module)
     count = 65_000
     length, array = module.fresh(), module.fresh()
-    module.put(43, INT, length, count)
-    module.put(28, array, INT, length)
+    module.put(op.CONSTANT, INT, length, count)
+    module.put(op.TYPE_ARRAY, array, INT, length)
     while module.room() > count + 3:
-        module.put(44, array, module.fresh(), *[ONE, TWO] * (count // 2))
+        module.put(op.CONSTANT_COMPOSITE, array, module.fresh(), *[ONE, TWO] * (count // 2))
     kernel(module)
     closed(module)
 
@@ -603,7 +605,7 @@ def again(module):
     kernel(module)
     value = module.fresh()
     while module.room() > 3:
-        module.put(1, INT, value)
+        module.put(op.UNDEF, INT, value)
     closed(module)
 
 
@@ -633,7 +635,7 @@ DEEP_GRAMMAR = {
 def masks(module):
     """Masks of 32 bits, each of which has a parameter; under masks.json."""
     while module.room() > 34:
-        module.put(1, 0xFFFF_FFFF, *range(32))
+        module.put(op.UNDEF, 0xFFFF_FFFF, *range(32))
     module.next = 1
 
 
@@ -660,20 +662,20 @@ def rounds(module):
     """A loop without an end, of additions and of calls of a function of three instructions."""
     opened(module)
     function = module.fresh()
-    module.put(54, VOID, function, 0, FUNCTION_TYPE)
-    module.put(248, module.fresh())
-    module.put(128, INT, module.fresh(), ONE, TWO)
+    module.put(op.FUNCTION, VOID, function, 0, FUNCTION_TYPE)
+    module.put(op.LABEL, module.fresh())
+    module.put(op.I_ADD, INT, module.fresh(), ONE, TWO)
     closed(module)
     kernel(module)
     loop = module.fresh()
-    module.put(249, loop)
-    module.put(248, loop)
+    module.put(op.BRANCH, loop)
+    module.put(op.LABEL, loop)
     while module.room() > 54:
         for _ in range(10):
-            module.put(128, INT, module.fresh(), ONE, TWO)
-        module.put(57, VOID, module.fresh(), function)
-    module.put(249, loop)
-    module.put(56)
+            module.put(op.I_ADD, INT, module.fresh(), ONE, TWO)
+        module.put(op.FUNCTION_CALL, VOID, module.fresh(), function)
+    module.put(op.BRANCH, loop)
+    module.put(op.FUNCTION_END)
 
 
 CHAIN_LENGTH = 40
@@ -684,10 +686,10 @@ def chained(module):
     opened(module)
     functions = [module.fresh() for _ in range(CHAIN_LENGTH)]
     for function, after in zip([KERNEL, *functions], [*functions, None]):
-        module.put(54, VOID, function, 0, FUNCTION_TYPE)
-        module.put(248, module.fresh())
+        module.put(op.FUNCTION, VOID, function, 0, FUNCTION_TYPE)
+        module.put(op.LABEL, module.fresh())
         if after is not None:
-            module.put(57, VOID, module.fresh(), after)
+            module.put(op.FUNCTION_CALL, VOID, module.fresh(), after)
         closed(module)
 
 
@@ -698,8 +700,8 @@ def unchained(module):
     module.words.extend([1 << 16] * (3 * CHAIN_LENGTH))
     closed(module)
     for _ in range(CHAIN_LENGTH):
-        module.put(54, VOID, module.fresh(), 0, FUNCTION_TYPE)
-        module.put(248, module.fresh())
+        module.put(op.FUNCTION, VOID, module.fresh(), 0, FUNCTION_TYPE)
+        module.put(op.LABEL, module.fresh())
         closed(module)
 
 
