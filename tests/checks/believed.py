@@ -359,7 +359,8 @@ def file_of(module):
 
 
 def clauses(crate, file, call, block=None):
-    """The signature and the clauses of a call, or of one in a trait or an `impl` block, and what their names stand for."""
+    """The signature and the clauses of a call, or of one in a trait or an `impl` block, and what their names stand
+    for."""
     text = (CRATES / crate / "src" / file).read_text(encoding="utf-8")
     if block:
         inside = re.search(rf"^(?:pub )?{block} \{{.*?^\}}", text, re.S | re.M)

@@ -27,8 +27,8 @@ HEADS = {
 
 
 def rows():
-    """The rows of the page: a module's name, the program's lines without --extended and with it, and what spirv-val says
-    (None: it accepts)."""
+    """The rows of the page: a module's name, the program's lines without --extended and with it, and what spirv-val
+    says (None: it accepts)."""
     columns = None
     for line in PAGE.read_text(encoding="utf-8").splitlines():
         if line in HEADS:

@@ -80,7 +80,8 @@ def crossed(insts):
 def too_few(struct, parts):
     """What is told of one constituent too few."""
     made = f"%{struct} = OpTypeStruct {ids(parts)}"
-    return ["condition: there are as many constituents as the type has parts", f"operand: 0 %{struct}", f"type: {made}", f"found: {made}"]
+    condition = "condition: there are as many constituents as the type has parts"
+    return [condition, f"operand: 0 %{struct}", f"type: {made}", f"found: {made}"]
 
 
 def unequal(insts):

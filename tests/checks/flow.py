@@ -306,7 +306,8 @@ def space_of(words):
 
 
 def compared(shape, size, program, folder):
-    """A made module of a shape, the answer that is wanted, what is wrong with the one it gets, its words, and the seconds."""
+    """A made module of a shape, the answer that is wanted, what is wrong with the one it gets, its words, and the
+    seconds."""
     module = folder / "module.spv"
     wanted, words = made(shape, size, module)
     got, seconds = measured(program, module, folder, space_of(words))

@@ -477,8 +477,8 @@ def errors(program, folder):
 
 
 def among_options(program, folder):
-    """Names before verdicts are asked for in vain; `--quiet` writes nothing; `--as-1.6`, `--extended` and `--grammar` go
-    with it."""
+    """Names before verdicts are asked for in vain; `--quiet` writes nothing; `--as-1.6`, `--extended` and `--grammar`
+    go with it."""
     placed(folder, a=KERNEL.read_bytes(), b=BROKEN.read_bytes())
     content = KERNEL.read_bytes()
     (folder / "old.spv").write_bytes(content[:4] + struct.pack("<I", 0x00010000) + content[8:])

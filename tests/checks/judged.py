@@ -1,5 +1,5 @@
-"""What `explain` writes, judged line by line by tests/reading: of changed modules (tests/judge), and of those of the table
-of types, whose conditions must all be told."""
+"""What `explain` writes, judged line by line by tests/reading: of changed modules (tests/judge), and of those of the
+table of types, whose conditions must all be told."""
 
 import json
 import re
@@ -46,7 +46,8 @@ def changed(program, folder):
 
 
 def of_types(folder):
-    """The modules of tests/modules, and those that break the table of types, written into a folder: each with its name."""
+    """The modules of tests/modules, and those that break the table of types, written into a folder: each with its
+    name."""
     found = {path: path.name for path in (TESTS / "modules").glob("*.spv")}
     for rule, is_global, rows in typed.ROWS:
         for codes, _, breaks in rows:
@@ -74,7 +75,8 @@ def conditions(program, folder):
 
 
 def spoiled(lines):
-    """Lines of which one has another number, stands twice, or is left out, but for those that may be: each with that one."""
+    """Lines of which one has another number, stands twice, or is left out, but for those that may be: each with that
+    one."""
     is_of_types = lines[0].startswith(MAY_LACK)
     for at, line in enumerate(lines[1:], 1):
         other = re.sub(r"\d+(?=\D*$)", lambda found: str(int(found[0]) + 1), line)

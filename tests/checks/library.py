@@ -45,8 +45,8 @@ INSTALLED = """
 """
 # What README's words for installing need of the repository, beside what is built.
 SOURCES_OF_INSTALL = """
-    crates.txt HANDLES Makefile build include install docs completions bindings README.md SECURITY.md CHANGELOG.md NOTICE
-    LICENSE-MIT LICENSE-APACHE
+    crates.txt HANDLES Makefile build include install docs completions bindings
+    README.md SECURITY.md CHANGELOG.md NOTICE LICENSE-MIT LICENSE-APACHE
 """
 
 

@@ -294,7 +294,8 @@ def completes_files(shell):
         with_files += [["spv", "asm", "--out", "mod"]]
         without = [["spv", "trace", option, "mod"] for option in ("--choices", "--function", "--limit")]
         without += [["spv", "annotate", option, "mod"] for option in ("--color", "--function")]
-        without += [["spv", "graph", "--function", "mod"], ["spv", "mod"], ["spv", "rules", "mod"], ["spv", "help", "mod"]]
+        without += [["spv", "graph", "--function", "mod"], ["spv", "mod"]]
+        without += [["spv", "rules", "mod"], ["spv", "help", "mod"]]
         lines = with_files + without
         offered = {"bash": offered_by_bash, "fish": offered_by_fish}[shell](path, lines, folder)
         wanted = [{"module.spv"}] * len(with_files) + [set()] * len(without)

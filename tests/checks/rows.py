@@ -25,8 +25,8 @@ def stored_cases():
 
 
 def grammar_lines(case, content):
-    """The lines that give a grammar file: `profile`, which stands in a crate, with what the case changes there; else the
-    text as it is where it is one line, or its bytes in hexadecimal."""
+    """The lines that give a grammar file: `profile`, which stands in a crate, with what the case changes there; else
+    the text as it is where it is one line, or its bytes in hexadecimal."""
     if case.one("G") == PROFILE:
         yield "profile"
         for old, new in zip(case.all("old"), case.all("new")):

@@ -214,7 +214,8 @@ def every_code(program, folder):
 
 def no_codes(program, folder):
     """What is no code is `error use`."""
-    texts = ["A", "A0", "A3", "A01", "A1 ", " A1", "a1a", "J0", "J9", "S9", "X9", "X0", "N9", "Z1", "1", "", "W10", "I13"]
+    texts = ["A", "A0", "A3", "A01", "A1 ", " A1", "a1a", "J0", "J9", "S9"]
+    texts += ["X9", "X0", "N9", "Z1", "1", "", "W10", "I13"]
     texts += ["а1", "A١"]
     return first_difference([(["rules", text], BAD_USE) for text in texts], program, folder)
 

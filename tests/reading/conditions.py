@@ -1,8 +1,9 @@
 """The conditions of the table of types (Y2, Y4 and Y5): which there are at an instruction, and when one fails.
 
-From docs/PROFILE.md. Which conditions there are of each opcode stands in types.py, in RULES. A condition is at a seat: the
-result type (`r`), a value operand (`o`, `p`, `q` and on, by its place among these) or an operand that is no value (its
-number). Where it compares types, those that it may want are named too. Each name is one of the page's table of conditions.
+From docs/PROFILE.md. Which conditions there are of each opcode stands in types.py, in RULES. A condition is at a seat:
+the result type (`r`), a value operand (`o`, `p`, `q` and on, by its place among these) or an operand that is no value
+(its number). Where it compares types, those that it may want are named too. Each name is one of the page's table of
+conditions.
 """
 
 from .order import opcodes_in
@@ -90,9 +91,12 @@ class Row:
         return of
 
     def share(self, of):
-        """How many components of the result type, a vector, a constituent of a type gives; None where it is no such one."""
+        """How many components of the result type, a vector, a constituent of a type gives; None where it is no such
+        one."""
         inner = self.component(self.r)
-        return 1 if of == inner else self.types.rest(of)[1] if inner is not None and self.component(of) == inner else None
+        if of == inner:
+            return 1
+        return self.types.rest(of)[1] if inner is not None and self.component(of) == inner else None
 
     def is_filled(self):
         """Whether the constituents give as many components as the result type, a vector, has."""
@@ -126,7 +130,8 @@ def is_forward(row):
 
 
 def led(row, end):
-    """The type that the indexes of an access chain lead to, those before operand `end`; None where they lead to none."""
+    """The type that the indexes of an access chain lead to, those before operand `end`; None where they lead to
+    none."""
     first = 3 if row.inst.opcode in (65, 66) else 4
     of = row.pointee(row.tags[0])
     for _, index in row.inst.operands[first:end]:

@@ -10,7 +10,8 @@ INT, FLOAT, SWITCH = 21, 22, 251
 
 
 class Broken(Exception):
-    """A rule is broken: its code, and where it names them an instruction and a word, and the number of an operand with the kind due there."""
+    """A rule is broken: its code, and where it names them an instruction and a word, and the number of an operand with
+    the kind due there."""
 
     def __init__(self, rule, inst=None, word=None, operand=None, due=None):
         super().__init__(rule)

@@ -68,7 +68,8 @@ def length(start, goal, following):
 
 
 class Judge(ToldOfTargets, extended.ToldOfCalls):
-    """The lines of one fault, in full or not. A method of the name of a key says whether a line with that key is true."""
+    """The lines of one fault, in full or not. A method of the name of a key says whether a line with that key is
+    true."""
 
     def __init__(self, facts, sentences, lines, is_full):
         self.facts, self.sentences, self.is_full = facts, sentences, is_full
@@ -119,7 +120,8 @@ class Judge(ToldOfTargets, extended.ToldOfCalls):
         function, block = open_at(self.facts.insts, number)
         if function is None or function.result is None:
             return None
-        return f"function %{function.result}" + (f", block %{block.result}" if block and block.result is not None else "")
+        within = f", block %{block.result}" if block and block.result is not None else ""
+        return f"function %{function.result}{within}"
 
     def is_in(self, text):
         return text == self.place(self.number)
@@ -182,7 +184,8 @@ class Judge(ToldOfTargets, extended.ToldOfCalls):
         return text == str(words[{"W6": 4, "W7": 3}[self.code]])
 
     def header(self):
-        """The words of the header, in the order of bytes in which the first is the magic number, or else the little one."""
+        """The words of the header, in the order of bytes in which the first is the magic number, or else the little
+        one."""
         content = self.facts.content
         order = "big" if content[:4] == b"\7\x23\2\3" else "little"
         return [int.from_bytes(content[at : at + 4], order) for at in range(0, 20, 4)]
@@ -278,7 +281,8 @@ class Judge(ToldOfTargets, extended.ToldOfCalls):
         return rest in self.told(at) and self.is_at_fault(at)
 
     def told(self, at):
-        """The texts that an operand may have: a value by its name, plain or not, and a mask by its number or its names."""
+        """The texts that an operand may have: a value by its name, plain or not, and a mask by its number or its
+        names."""
         sort, *what = self.inst.operands[at]
         if sort in ("Text", "Number"):
             return [""]
@@ -313,9 +317,9 @@ class Judge(ToldOfTargets, extended.ToldOfCalls):
         return facts.places.section[self.number] in (6, 10) and facts.first[of] >= self.number and not is_ahead
 
     def fails_D5(self, at):
-        facts, of = self.facts, self.facts.uses(self.number)[at][0]
-        functions = facts.local[of]
-        return facts.places.section[self.number] >= 10 and functions and facts.places.function[self.number] not in functions
+        places, of = self.facts.places, self.facts.uses(self.number)[at][0]
+        functions = self.facts.local[of]
+        return places.section[self.number] >= 10 and functions and places.function[self.number] not in functions
 
     def fails_Y1(self, at):
         of, role = self.facts.uses(self.number)[at]
@@ -372,7 +376,8 @@ class Judge(ToldOfTargets, extended.ToldOfCalls):
         other = self.facts.insts[number]
         if self.code == "D2":
             return other.result == self.inst.result
-        return self.inst.opcode in UNLIKE and other.opcode == self.inst.opcode and other.operands[1:] == self.inst.operands[1:]
+        is_alike = other.opcode == self.inst.opcode and other.operands[1:] == self.inst.operands[1:]
+        return self.inst.opcode in UNLIKE and is_alike
 
     # Capabilities and entry points.
 
@@ -425,8 +430,8 @@ class Judge(ToldOfTargets, extended.ToldOfCalls):
 
     def imports(self):
         """The numbers of the instructions that import the function."""
-        insts = self.facts.insts
-        return [at for at, it in enumerate(insts) if it.opcode == 71 and it.operands[0][1] == self.inst.result and is_import(it)]
+        imports = [(at, it) for at, it in enumerate(self.facts.insts) if it.opcode == 71 and is_import(it)]
+        return [at for at, it in imports if it.operands[0][1] == self.inst.result]
 
     def is_part(self, text):
         types, inst = self.facts.types, self.inst
@@ -446,7 +451,8 @@ class Judge(ToldOfTargets, extended.ToldOfCalls):
         }[text]
 
     def is_imported(self, text):
-        return self.inst.opcode == 54 and is_defined(self.facts.types, self.number) and self.numbered(text) in self.imports()
+        is_definition = self.inst.opcode == 54 and is_defined(self.facts.types, self.number)
+        return is_definition and self.numbered(text) in self.imports()
 
     def is_called(self, text):
         number = self.numbered(text)
@@ -506,8 +512,9 @@ class Judge(ToldOfTargets, extended.ToldOfCalls):
         returned, *parameters = types.rest(signature)
         if inst.opcode == 55:
             number = parameters_of(types, self.facts.places.function[self.number]).index(self.number)
-            is_told = self.one("parameter") == str(number)
-            return (parameters[number] if number < len(parameters) else "nothing", inst.type) if is_told else (None, None)
+            if self.one("parameter") != str(number):
+                return None, None
+            return (parameters[number] if number < len(parameters) else "nothing"), inst.type
         given = [types.type_of(it[1]) for it in inst.operands[3:]]
         count = len(given) if inst.opcode == 57 else len(parameters_of(types, self.number))
         if place == "return type":
@@ -523,7 +530,9 @@ class Judge(ToldOfTargets, extended.ToldOfCalls):
         wanted = self.sides()
         if wanted[0] == wanted[1]:
             return False
-        return text == wanted[at] if isinstance(wanted[at], str) else self.is_definition(text) and self.of_line(text) == wanted[at]
+        if isinstance(wanted[at], str):
+            return text == wanted[at]
+        return self.is_definition(text) and self.of_line(text) == wanted[at]
 
     def is_wanted(self, text):
         return self.is_side(text, 0)

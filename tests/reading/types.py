@@ -312,8 +312,8 @@ def constructed(types, inst):
     if types.form(inst.type) != VECTOR or len(given) < 2:
         return False
     inner = part(0)
-    sizes = [1 if it == inner else types.parts(it)[0] if types.form(it) == VECTOR and types.rest(it)[0] == inner else None for it in given]
-    return None not in sizes and sum(sizes) == count
+    are_parts = all(it == inner or types.form(it) == VECTOR and types.rest(it)[0] == inner for it in given)
+    return are_parts and sum(1 if it == inner else types.parts(it)[0] for it in given) == count
 
 
 def is_atomic_sound(types, inst, tags):
@@ -336,7 +336,8 @@ def same(types, scalar, inst, tags):
 
 
 def compared(types, scalar, inst, tags):
-    return types.is_of(scalar, tags[0]) and tags[0] == tags[1] and types.is_of(BOOL, inst.type) and types.count(inst.type) == types.count(tags[0])
+    are_like = types.is_of(scalar, tags[0]) and tags[0] == tags[1]
+    return are_like and types.is_of(BOOL, inst.type) and types.count(inst.type) == types.count(tags[0])
 
 
 def converted(types, given, made, inst, tags, other=False):
@@ -373,11 +374,14 @@ def shuffled(types, inst, tags):
     (inner, count), one, two = types.rest(inst.type), types.rest(tags[0]), types.rest(tags[1])
     literals = [it[1] for it in inst.operands if it[0] == "Word"]
     limit = one[1] + two[1]
-    return inner == one[0] == two[0] and len(literals) == count and all(it < limit or it == 0xFFFFFFFF for it in literals)
+    are_within = all(it < limit or it == 0xFFFFFFFF for it in literals)
+    return inner == one[0] == two[0] and len(literals) == count and are_within
 
 
 def shifted(types, inst, tags):
-    return tags[0] == inst.type and types.is_of(INT, inst.type) and types.is_of(INT, tags[1]) and types.count(tags[1]) == types.count(inst.type)
+    if tags[0] != inst.type or not types.is_of(INT, inst.type):
+        return False
+    return types.is_of(INT, tags[1]) and types.count(tags[1]) == types.count(inst.type)
 
 
 def extracted(types, inst, tags, composite):
@@ -449,10 +453,10 @@ def rows():
 
 ROWS = rows()
 
-# Of each opcode its conditions that are told by themselves: a seat and those that there are at it (conditions.py says what
-# both are). `:` names the type that is wanted: a seat, `*` what it points to, the part at the operand's place, the component
-# type of the result type, or the type that indexes lead to. `+` is each value operand that is not named, `type` each type, and
-# `word` each literal.
+# Of each opcode its conditions that are told by themselves: a seat and those that there are at it (conditions.py says
+# what both are). `:` names the type that is wanted: a seat, `*` what it points to, the part at the operand's place, the
+# component type of the result type, or the type that indexes lead to. `+` is each value operand that is not named,
+# `type` each type, and `word` each literal.
 SAME = "o=Same:r p=Same:r q=Same:r"
 ATOMIC = "+=Int32 o=Pointer,PointsTo:r r=Same:*o"
 RULES = (

@@ -97,8 +97,8 @@ def with_other_header(chance, content):
 
 
 def with_other_words(chance, content):
-    """A module in which one or two words of instructions are those of other instructions at that place, most often ones of
-    the same opcode. Of all changes this one comes furthest: to the rules on types and on flow."""
+    """A module in which one or two words of instructions are those of other instructions at that place, most often ones
+    of the same opcode. Of all changes this one comes furthest: to the rules on types and on flow."""
     insts = split(words_in(content))
     longer = [inst for inst in insts if len(inst) > 1]
     for _ in range(chance.choice((1, 1, 2)) if longer else 0):
@@ -116,7 +116,8 @@ def with_other_words(chance, content):
 # An opcode without a row, and opcodes that most modules have.
 NO_ROW = 204
 COMMON = (1, 14, 15, 17, 19, 20, 21, 32, 33, 41, 43, 54, 55, 57, 61, 62, 128, 245, 246, 247, 248, 249, 250, 251)
-ODD_NAMES = ("", "7", "Op Nop", "Op\nNop", "\x1b[2J", "a\rb", "\x7f\x01", "OpNop", "OpLabel", "Kernel", "None", 'a"b', "back\\slash", "caf\u00e9")
+ODD_NAMES = ("", "7", "Op Nop", "Op\nNop", "\x1b[2J", "a\rb", "\x7f\x01", "OpNop", "OpLabel", "Kernel", "None")
+ODD_NAMES += ('a"b', "back\\slash", "caf\u00e9")
 
 
 def odd_name(chance, tree):
@@ -189,7 +190,8 @@ def odd_capabilities(chance, tree):
     """Gives an instruction or an enumerant other capabilities."""
     kind = chance.choice([it for it in tree["operand_kinds"] if it.get("enumerants")])
     holder = chance.choice((chance.choice(tree["instructions"]), chance.choice(kind["enumerants"])))
-    holder["capabilities"] = chance.sample(("Kernel", "Shader", "Int8", "\x1b[1m", "none such", "Matrix"), chance.randrange(3))
+    names = ("Kernel", "Shader", "Int8", "\x1b[1m", "none such", "Matrix")
+    holder["capabilities"] = chance.sample(names, chance.randrange(3))
 
 
 def one_less(chance, tree):

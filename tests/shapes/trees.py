@@ -28,8 +28,8 @@ ELEMENTS = {
     "kinds": '{"kind":"","category":"Id"}',
 }
 
-# The beginning and the end of a grammar file in which a list of very many elements stands, and these; where an element has
-# a `{}`, each one has a number of its own there.
+# The beginning and the end of a grammar file in which a list of very many elements stands, and these; where an element
+# has a `{}`, each one has a number of its own there.
 LISTED = {
     "operands": ('{"instructions":[{"opname":"A","opcode":1,"operands":[', '{"kind":"A"}', "]}]"),
     "no-needs": ('{"instructions":[{"opname":"A","opcode":1,"capabilities":[', '""', "]}]"),
