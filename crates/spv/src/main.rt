@@ -36,8 +36,8 @@ fn show_text(rt: &HostRuntime, words: &[&str]) -> Result<u8, Trouble> {
     Ok(0)
 }
 
-/// Does what a command asks with its open files, and answers the exit status: `out` gets the lines, and `made` the
-/// module of a text.
+/// Does what a command asks with its open files, and answers the exit status: `out` gets what it tells, and `made` the
+/// module that `asm` makes.
 fn with_made<'a>(
     rt: &HostRuntime,
     why: &Why<'a>,
