@@ -1,0 +1,221 @@
+"""Random kernels in OpenCL C, of what the profile has rules for: arithmetic on all widths and vectors, conversions,
+calls of functions and of OpenCL.std, arrays, a structure, branches, loops, switches, atomics and barriers. What the
+profile leaves out is left out here: bits are not counted, and no conversion saturates."""
+
+import random
+from dataclasses import dataclass
+
+INTEGERS = ("char", "uchar", "short", "ushort", "int", "uint", "long", "ulong")
+FLOATS = ("float", "double")
+WIDTHS = (1, 1, 1, 2, 3, 4, 8)
+# Calls of OpenCL.std with so many operands, all of the type of the result.
+CALLS_OF_INTEGERS = {"min": 2, "max": 2, "mul_hi": 2, "clz": 1, "rotate": 2, "mad_hi": 3}
+CALLS_OF_FLOATS = {"fmin": 2, "pow": 2, "copysign": 2, "sin": 1, "sqrt": 1, "floor": 1, "mad": 3}
+CALLS_OF_ALL = {"clamp": 3}
+EFFECTS = (
+    "barrier(CLK_LOCAL_MEM_FENCE);",
+    "mem_fence(CLK_GLOBAL_MEM_FENCE);",
+    "atomic_inc(counter);",
+    "atomic_add(counter, (int)at);",
+    "atomic_cmpxchg(counter, 1, 2);",
+)
+# How many expressions stand in one another, and how many statements.
+DEPTH = 2
+NESTED = 3
+
+
+@dataclass(frozen=True)
+class Type:
+    """A scalar, or a vector of that."""
+
+    scalar: str
+    width: int = 1
+
+    def __str__(self):
+        return self.scalar + (str(self.width) if self.width > 1 else "")
+
+    def is_float(self):
+        return self.scalar in FLOATS
+
+
+@dataclass(frozen=True)
+class Variable:
+    name: str
+    type: Type
+
+
+INT = Type("int")
+
+
+class Kernel:
+    """The text of a kernel file that a seed gives."""
+
+    def __init__(self, seed):
+        self.chance = random.Random(seed)
+        self.count = 0
+        self.functions = []
+
+    def fresh(self):
+        """A name that nothing has yet."""
+        self.count += 1
+        return f"it{self.count}"
+
+    def type(self):
+        return Type(self.chance.choice(INTEGERS + FLOATS), self.chance.choice(WIDTHS))
+
+    def literal(self, of):
+        number = self.chance.choice(("1.5", "-0.25", "3.0")) if of.is_float() else self.chance.randrange(100)
+        return f"({of})({number})"
+
+    def leaf(self, of, known):
+        """A variable of a type, or a literal of it."""
+        names = [it.name for it in known if it.type == of]
+        return self.chance.choice(names) if names and self.chance.random() < 0.8 else self.literal(of)
+
+    def expression(self, of, known, depth=DEPTH):
+        """An expression of a type. Scalars are cast to it, since those of few bits become an int."""
+        if depth == 0:
+            return self.leaf(of, known)
+        forms = [self.operation, self.operation, self.call, self.conversion]
+        forms += [self.choice, self.component] if of.width == 1 else [self.shuffle]
+        return f"({of})({self.chance.choice(forms)(of, known, depth - 1)})"
+
+    def operation(self, of, known, depth):
+        one, other = (self.expression(of, known, depth) for _ in range(2))
+        if of.is_float():
+            return f"{one} {self.chance.choice('+-*/')} {other}"
+        sign = self.chance.choice(("+", "-", "*", "&", "|", "^", "<<", ">>", "/", "%"))
+        if sign in ("<<", ">>"):
+            other = f"({of})({self.chance.randrange(8)})"
+        return f"{one} {sign} ({other} | ({of})(1))" if sign in ("/", "%") else f"{one} {sign} {other}"
+
+    def call(self, of, known, depth):
+        calls = CALLS_OF_FLOATS if of.is_float() else {**CALLS_OF_INTEGERS, **CALLS_OF_ALL}
+        name = self.chance.choice(list(calls))
+        return f"{name}({', '.join(self.expression(of, known, depth) for _ in range(calls[name]))})"
+
+    def conversion(self, of, known, depth):
+        other = Type(self.chance.choice(INTEGERS + FLOATS), of.width)
+        return f"convert_{of}({self.expression(other, known, depth)})"
+
+    def choice(self, of, known, depth):
+        one, other = (self.expression(of, known, depth) for _ in range(2))
+        return f"{self.condition(known)} ? {one} : {other}"
+
+    def component(self, of, known, depth):
+        vector = Type(of.scalar, self.chance.choice((2, 3, 4)))
+        return f"({self.expression(vector, known, depth)}).{self.chance.choice('xyzw'[: vector.width])}"
+
+    def shuffle(self, of, known, depth):
+        places = "".join(self.chance.choice("01234567"[: of.width]) for _ in range(of.width))
+        return f"({self.expression(of, known, depth)}).s{places}"
+
+    def condition(self, known):
+        of = Type(self.chance.choice(INTEGERS + FLOATS))
+        one, other = (self.expression(of, known, 1) for _ in range(2))
+        return f"({one} {self.chance.choice(('<', '>', '==', '<=', '!='))} {other})"
+
+    def block(self, known, nested, is_looped=False):
+        """The lines of some statements between braces."""
+        known, lines = list(known), ["{"]
+        for _ in range(self.chance.randrange(1, 5)):
+            forms = [self.definition, self.definition, self.assignment, self.output, self.effect]
+            forms += [self.array, self.result]
+            if nested:
+                forms += [self.branch, self.loop, self.countdown, self.switch]
+            if is_looped:
+                forms.append(self.leave)
+            lines += self.chance.choice(forms)(known, nested)
+        return [*lines, "}"]
+
+    def definition(self, known, _):
+        it = Variable(self.fresh(), self.type())
+        line = f"{it.type} {it.name} = {self.expression(it.type, known)};"
+        known.append(it)
+        return [line]
+
+    def assignment(self, known, _):
+        it = self.chance.choice(known)
+        return [f"{it.name} {self.chance.choice(('=', '+=', '-='))} {self.expression(it.type, known)};"]
+
+    def output(self, known, _):
+        it = self.chance.choice(known)
+        return [f"out[at & 255] += (int)({it.name}{'.x' if it.type.width > 1 else ''});"]
+
+    def effect(self, *_):
+        return [self.chance.choice(EFFECTS)]
+
+    def array(self, known, _):
+        it, name = self.chance.choice(known), self.fresh()
+        return [
+            f"{{ {it.type} {name}[4];",
+            f"for (int n = 0; n < 4; ++n) {name}[n] = {self.expression(it.type, known, 1)};",
+            f"{it.name} = {name}[(at + {self.chance.randrange(4)}) & 3]; }}",
+        ]
+
+    def result(self, known, nested):
+        """What a call of a function of the file answers."""
+        if not self.functions:
+            return self.definition(known, nested)
+        name, of, parameters = self.chance.choice(self.functions)
+        it = Variable(self.fresh(), of)
+        given = ", ".join(self.expression(each, known, 1) for each in parameters)
+        line = f"{of} {it.name} = {name}({given}, out, counter, at);"
+        known.append(it)
+        return [line]
+
+    def branch(self, known, nested):
+        lines = [f"if {self.condition(known)}", *self.block(known, nested - 1)]
+        return [*lines, "else", *self.block(known, nested - 1)] if self.chance.random() < 0.5 else lines
+
+    def loop(self, known, nested):
+        it = Variable(self.fresh(), INT)
+        head = f"for (int {it.name} = 0; {it.name} < {self.chance.randrange(2, 9)}; ++{it.name})"
+        return [head, *self.block([*known, it], nested - 1, True)]
+
+    def countdown(self, known, nested):
+        name = self.fresh()
+        lines = [f"int {name} = {self.chance.randrange(9)};", f"while ({name}-- > 0)"]
+        return [*lines, *self.block(known, nested - 1, True)]
+
+    def switch(self, known, nested):
+        lines = [f"switch ({self.expression(INT, known, 1)}) {{"]
+        for case in sorted(self.chance.sample(range(100), self.chance.randrange(1, 5))):
+            lines += [f"case {case}:", *self.block(known, nested - 1)]
+            lines += ["break;"] if self.chance.random() < 0.7 else []
+        return [*lines, "default:", *self.block(known, nested - 1), "}"]
+
+    def leave(self, known, _):
+        return [f"if {self.condition(known)} {self.chance.choice(('break', 'continue'))};"]
+
+    def function(self):
+        """The lines of a function, which the rest of the file may call."""
+        name, of = self.fresh(), self.type()
+        parameters = [Variable(self.fresh(), self.type()) for _ in range(self.chance.randrange(1, 4))]
+        given = ", ".join(f"{it.type} {it.name}" for it in parameters)
+        lines = [f"{of} {name}({given}, global int *out, global volatile int *counter, size_t at)", "{"]
+        lines += self.block(parameters, 1)
+        lines += [f"return {self.expression(of, parameters)};", "}"]
+        self.functions.append((name, of, [it.type for it in parameters]))
+        return lines
+
+    def text(self):
+        """The whole file."""
+        lines = ["struct whole { int one; float4 four; uchar few[5]; long last; };"]
+        for _ in range(self.chance.randrange(4)):
+            lines += self.function()
+        space = self.chance.choice(("global", "constant"))
+        lines += [
+            f"kernel void random(global int *out, {space} const float *in, global volatile int *counter,",
+            "                   local uint *shared, float4 vector, int number)",
+            "{",
+            "size_t at = get_global_id(0), beside = get_local_id(0);",
+            "shared[beside & 63] = (uint)at;",
+            "float first = in[at & 255];",
+            "struct whole own; own.one = number; own.four = vector; own.few[at & 3] = 7; own.last = at;",
+            "struct whole other = own; number += other.one + other.few[1];",
+        ]
+        known = [Variable("first", Type("float")), Variable("vector", Type("float", 4)), Variable("number", INT)]
+        for _ in range(2):
+            lines += self.block(known, NESTED)
+        return "\n".join([*lines, "out[at & 255] = number + (int)shared[(beside + 1) & 63] + (int)first;", "}", ""])
