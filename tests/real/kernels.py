@@ -9,9 +9,8 @@ INTEGERS = ("char", "uchar", "short", "ushort", "int", "uint", "long", "ulong")
 FLOATS = ("float", "double")
 WIDTHS = (1, 1, 1, 2, 3, 4, 8)
 # Calls of OpenCL.std with so many operands, all of the type of the result.
-CALLS_OF_INTEGERS = {"min": 2, "max": 2, "mul_hi": 2, "clz": 1, "rotate": 2, "mad_hi": 3}
-CALLS_OF_FLOATS = {"fmin": 2, "pow": 2, "copysign": 2, "sin": 1, "sqrt": 1, "floor": 1, "mad": 3}
-CALLS_OF_ALL = {"clamp": 3}
+CALLS_OF_INTEGERS = {"min": 2, "max": 2, "mul_hi": 2, "clz": 1, "rotate": 2, "mad_hi": 3, "clamp": 3}
+CALLS_OF_FLOATS = {"fmin": 2, "pow": 2, "copysign": 2, "sin": 1, "sqrt": 1, "floor": 1, "mad": 3, "clamp": 3}
 EFFECTS = (
     "barrier(CLK_LOCAL_MEM_FENCE);",
     "mem_fence(CLK_GLOBAL_MEM_FENCE);",
@@ -90,7 +89,7 @@ class Kernel:
         return f"{one} {sign} ({other} | ({of})(1))" if sign in ("/", "%") else f"{one} {sign} {other}"
 
     def call(self, of, known, depth):
-        calls = CALLS_OF_FLOATS if of.is_float() else {**CALLS_OF_INTEGERS, **CALLS_OF_ALL}
+        calls = CALLS_OF_FLOATS if of.is_float() else CALLS_OF_INTEGERS
         name = self.chance.choice(list(calls))
         return f"{name}({', '.join(self.expression(of, known, depth) for _ in range(calls[name]))})"
 
