@@ -26,6 +26,8 @@ OBJECT = TOP / "out/spvk.o"
 MAP = TOP / "install/spvk.map"
 PROFILE = TESTS / "profile.json"
 KERNEL = TESTS / "modules/smallest-kernel.spv"
+# A module that is refused with `--extended` alone.
+INSIDE = TESTS / "modules/inside-of-an-extended-instruction.spv"
 STRICT = ("-Wall", "-Wextra", "-Wpedantic", "-Werror", "-O2", f"-I{TOP / 'include'}")
 SANITIZED = ("-g", "-fsanitize=address,undefined", "-fno-sanitize-recover=all")
 WRAPPED = ("-Wl,--wrap=malloc,--wrap=realloc,--wrap=free",)
@@ -221,15 +223,19 @@ def instructions(_program, folder):
 
 
 def expect_example(words, folder, where):
-    """Raises Wrong where an example does not tell the kernel valid, or tells a missing file in more than one line."""
+    """Raises Wrong where an example does not tell the kernel valid, calls a module valid whose extended instruction is
+    not sound, or tells a missing file in more than one line."""
     for more in ([], ["--grammar", PROFILE]):
         said = done([*words, *more, KERNEL], folder, **where)
         if said != f"{KERNEL}: valid\n":
             raise Wrong(f"  {words}: {said}")
+    under = {**os.environ, **{name: str(it) for name, it in where.items()}}
+    looked, status = joined([*words, INSIDE], folder, SECONDS, env=under)
+    if status != 1 or not looked.startswith(f"{INSIDE}: fault ".encode()):
+        raise Wrong(f"  {words}: {looked.decode()}, exit {status}")
     for more in ([], ["missing"], ["--grammar", "missing", KERNEL], ["--grammar"]):
         ended = subprocess.run([*map(str, words), *map(str, more)], stdout=subprocess.PIPE, stderr=subprocess.PIPE,
-                               cwd=folder, env={**os.environ, **{name: str(it) for name, it in where.items()}},
-                               timeout=SECONDS, check=False)
+                               cwd=folder, env=under, timeout=SECONDS, check=False)
         if ended.returncode != 2 or ended.stdout or ended.stderr.count(b"\n") != 1:
             raise Wrong(f"  {words} {more}: {ended}")
 
@@ -248,6 +254,22 @@ def in_python(_program, folder):
     where = {"SPVK_LIBRARY": shared(), "PYTHONPATH": place, "PYTHONDONTWRITEBYTECODE": 1}
     done([sys.executable, "-m", "unittest", "discover", place / "tests"], folder, **where)
     expect_example([sys.executable, place / "examples/check.py"], folder, where)
+
+
+def without_its_library(_program, folder):
+    """Where the module for Python finds no library, it says which variable names one; where that names none, so too."""
+    (folder / "spvk.py").write_bytes((TOP / "bindings/python/spvk.py").read_bytes())
+    rows = (
+        ("", rb"OSError: the shared library libspvk\.so\.1 is not loaded \(.*\): SPVK_LIBRARY in the .* may name its file"),
+        (KERNEL, rb"OSError: the file that SPVK_LIBRARY names in the environment is not loaded \(.*\)"),
+    )
+    for named, wanted in rows:
+        # (one that is installed on this machine is not found)
+        here = "import ctypes; load = ctypes.CDLL; ctypes.CDLL = lambda it: load(it if '/' in it else './' + it)"
+        words = [sys.executable, "-B", "-c", f"{here}; import spvk"]
+        said, status = joined(words, folder, SECONDS, env={**os.environ, "SPVK_LIBRARY": str(named)})
+        if status != 1 or not re.fullmatch(wanted, said.splitlines()[-1]):
+            raise Wrong(f"  {said.decode()}, exit {status}")
 
 
 def make(*words):
@@ -281,13 +303,13 @@ def example():
 
 
 def expect_answers(program, folder, **environment):
-    """Raises Wrong where the man page's program does not tell the kernel valid, and the kernel cut to be none."""
+    """Raises Wrong where the man page's program does not tell the kernel valid, and the kernel cut, or a module whose
+    extended instruction is not sound, to be none."""
     cut = folder / "cut.spv"
     cut.write_bytes(KERNEL.read_bytes()[:-4])
     said = done([program, KERNEL], folder, **environment)
-    told = subprocess.run([str(program), str(cut)], stdout=subprocess.PIPE,
-                          env={**os.environ, **environment}, timeout=SECONDS, check=False)
-    if said or told.returncode != 1 or not told.stdout.startswith(b"L2: "):
+    told = [joined([program, file], folder, SECONDS, env={**os.environ, **environment}) for file in (cut, INSIDE)]
+    if said or [status for _, status in told] != [1, 1] or not told[0][0].startswith(b"L2: "):
         raise Wrong(f"  {program}: {said!r}, and then {told}")
 
 
@@ -351,8 +373,14 @@ def header_calls():
     return made - {"spvk_some_bytes", "spvk_shown_by", "spvk_told_by"}, raw
 
 
+def fields_of(text):
+    """The structures that a text declares, each with its fields and their types, as C has them."""
+    found = re.findall(r"^typedef struct (\w+) \{\n(.*?)^\} \1;$", text, re.MULTILINE | re.DOTALL)
+    return {name: re.findall(r"^ +(\w[^;]*);", fields, re.MULTILINE) for name, fields in found}
+
+
 def shown_page(_program, folder):
-    """The man page is shown without warnings, and names the calls and the statuses that the header has."""
+    """The man page is shown without warnings, and names the calls, the statuses and the fields that the header has."""
     ended = subprocess.run(["man", "--warnings", "-E", "UTF-8", "-l", str(PAGE)], stdout=subprocess.PIPE,
                            stderr=subprocess.PIPE, cwd=folder, timeout=SECONDS, check=False)
     if ended.returncode != 0 or ended.stderr:
@@ -367,6 +395,11 @@ def shown_page(_program, folder):
     lacking = [it for it in statuses if it not in page and not re.fullmatch(r"SPVK_J[2-6]", it)]
     if lacking:
         raise Wrong(f"  the page does not name {', '.join(lacking)}")
+    types = page.split(".SS Types", 1)[1].split("\n.SH ", 1)[0]
+    named, listed = fields_of(types), fields_of(header)
+    wrong = [name for name in re.findall(r"^\.B (spvk_\w+)$", types, re.MULTILINE) if named.get(name) != listed[name]]
+    if wrong or not named:
+        raise Wrong(f"  the page has no fields, or others, of {', '.join(wrong) or 'all structures'}")
 
 
 def one_version(_program, _folder):
@@ -440,6 +473,7 @@ def checks():
         for name, it, tools in found
     ]
     made.append(Check("library: man page", some, told(shown_page), frozenset({"man"})))
+    made.append(Check("library: Python without it", some, told(without_its_library)))
     made.append(Check("library: one version", some, told(one_version), frozenset()))
     made.append(Check("library: codes of the header", frozenset({"first path"}), told(codes_of_header)))
     return made
