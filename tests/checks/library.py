@@ -41,14 +41,13 @@ INSTALLED = """
     lib/pkgconfig/spvk.pc lib/cmake/spvk/spvkConfig.cmake lib/cmake/spvk/spvkConfigVersion.cmake
     share/man/man1/spv.1 share/man/man3/spvk.3 share/bash-completion/completions/spv
     share/zsh/site-functions/_spv share/fish/vendor_completions.d/spv.fish
-    share/doc/spv/README.md share/doc/spv/SECURITY.md share/doc/spv/CHANGELOG.md share/doc/spv/NOTICE
-    share/doc/spv/LICENSE-MIT share/doc/spv/LICENSE-APACHE share/doc/spv/PROFILE.md share/doc/spv/PERFORMANCE.md
-    share/doc/spv/PROOFS.md share/doc/spv/explain.schema.json
 """
+# Where the pages are installed.
+PAGES = "share/doc/spv"
 # What README's words for installing need of the repository, beside what is built.
 SOURCES_OF_INSTALL = """
     crates.txt HANDLES Makefile build include install docs completions bindings
-    README.md SECURITY.md CHANGELOG.md NOTICE LICENSE-MIT LICENSE-APACHE
+    README.md SECURITY.md CONTRIBUTING.md CHANGELOG.md NOTICE LICENSE-MIT LICENSE-APACHE tests/README.md
 """
 
 
@@ -282,17 +281,48 @@ def files_below(folder):
     return {str(path.relative_to(folder)) for path in folder.rglob("*") if path.is_symlink() or path.is_file()}
 
 
+def links_of(page):
+    """The files that a page links, by their paths."""
+    # (what stands in code is no link)
+    code = r"(?ms)^```.*?^```$|^    [^\n]*$|`[^`\n]*`"
+    text = re.sub(code, "", page.read_text(encoding="utf-8"))
+    targets = re.findall(r"\]\(([^()#]+)(?:#[^()]*)?\)", text)
+    return {Path(os.path.normpath(page.parent / it)) for it in targets if not re.match(r"[a-z]+:", it)}
+
+
+def lost_links(folder):
+    """The links of pages below a folder that lead to nothing, each with its page."""
+    pages = sorted(folder.rglob("*.md"))
+    return [f"{page.relative_to(folder)}: {it}" for page in pages for it in sorted(links_of(page)) if not it.is_file()]
+
+
+def pages_of_readme():
+    """README and the files that it links, by their names in the repository, but for the man page."""
+    page = TOP / "README.md"
+    files = {page, *(it for it in links_of(page) if it.is_file() and not re.fullmatch(r"\.\d", it.suffix))}
+    return {str(it.relative_to(TOP)) for it in files}
+
+
+def expect_pages(folder):
+    """Raises Wrong where a page that README links is not among those in a folder, or one of these links what is not."""
+    missing, lost = sorted(pages_of_readme() - files_below(folder)), lost_links(folder)
+    if missing or lost:
+        raise Wrong(f"  pages that are not there: {', '.join(missing)}; links that lead nowhere: {', '.join(lost)}")
+
+
 def installed(_program, folder):
     """An installation into an empty folder has its files, runs, and is taken away whole."""
     words = [f"DESTDIR={folder}", "PREFIX=/usr"]
     make("install", *words)
     wanted = set(INSTALLED.format(version=version(), major=version().split(".")[0]).split())
+    expect_pages(folder / "usr" / PAGES)
+    wanted |= {f"{PAGES}/{it}" for it in files_below(folder / "usr" / PAGES) if (TOP / it).is_file()}
     got = files_below(folder / "usr")
     if got != wanted or files_below(folder) != {f"usr/{name}" for name in wanted}:
         raise Wrong(f"  installed besides or not: {', '.join(sorted(got ^ wanted))}")
     done([folder / "usr/bin/spv", "--help"], folder)
     make("uninstall", *words)
-    if files_below(folder):
+    if files_below(folder) or (folder / "usr" / PAGES).exists():
         raise Wrong(f"  left behind: {', '.join(sorted(files_below(folder)))}")
 
 
@@ -353,6 +383,7 @@ def by_readme(_program, folder):
     home.mkdir()
     top.mkdir()
     for name in SOURCES_OF_INSTALL.split():
+        (top / name).parent.mkdir(exist_ok=True)
         (shutil.copytree if (TOP / name).is_dir() else shutil.copy)(TOP / name, top / name)
     for name in ("crates/spv/out/spv", *(it.relative_to(TOP) for it in (ARCHIVE, OBJECT, shared()))):
         (top / name).parent.mkdir(parents=True, exist_ok=True)
