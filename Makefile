@@ -1,7 +1,7 @@
 # Builds, tests and installs the program spv and the library spvk.
 #
 #   make                              proves and builds both (./build), and links the shared library
-#   make check                        all tests of what was built (tests/run)
+#   make check                        the tests of what was built (tests/run); what is not there is skipped, and named
 #   make install PREFIX=/usr/local    installs what was built; DESTDIR=FOLDER puts it all below a folder
 #   make installcheck                 the tests of the program, run on the installed one
 #   make uninstall                    takes away what install put there, by the same variables

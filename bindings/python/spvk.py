@@ -5,7 +5,7 @@
     grammar = spvk.Grammar()
     with open("kernel.spv", "rb") as file:
         module = file.read()
-    verdict = grammar.check(module)
+    verdict = grammar.check(module, extended=True)
     if verdict:
         load(module)
     else:
@@ -13,7 +13,8 @@
 
 A grammar is made once, the built-in one of SPIR-V 1.6 or that of a grammar file, and then answers about
 any number of modules, also from several threads at the same time: the calls run without Python's global
-lock. It is let go with its last reference.
+lock. It is let go with its last reference. By `extended` extended instructions are looked at too: loaders of
+strangers' modules set it.
 
 The shared library is the file that the environment's SPVK_LIBRARY names, or else libspvk.so.1 beside this
 file, as the wheel has it, or where the system finds it. Python 3.8 or later, and nothing else.
@@ -388,7 +389,13 @@ class _Image(ctypes.Structure):
 def _library() -> ctypes.CDLL:
     """The shared library, with what its calls take and answer."""
     beside = os.path.join(os.path.dirname(os.path.abspath(__file__)), _FILE)
-    found = ctypes.CDLL(os.environ.get("SPVK_LIBRARY") or (beside if os.path.exists(beside) else _FILE))
+    named = os.environ.get("SPVK_LIBRARY")
+    try:
+        found = ctypes.CDLL(named or (beside if os.path.exists(beside) else _FILE))
+    except OSError as error:
+        what = "the file that SPVK_LIBRARY names in the environment" if named else f"the shared library {_FILE}"
+        advice = "" if named else ": SPVK_LIBRARY in the environment may name its file"
+        raise OSError(f"{what} is not loaded ({error}){advice}") from None
     to = ctypes.POINTER
     given = [ctypes.c_char_p, ctypes.c_size_t]
     asked = [ctypes.c_void_p, *given]

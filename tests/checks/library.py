@@ -26,6 +26,8 @@ OBJECT = TOP / "out/spvk.o"
 MAP = TOP / "install/spvk.map"
 PROFILE = TESTS / "profile.json"
 KERNEL = TESTS / "modules/smallest-kernel.spv"
+# A module that is refused with `--extended` alone.
+INSIDE = TESTS / "modules/inside-of-an-extended-instruction.spv"
 STRICT = ("-Wall", "-Wextra", "-Wpedantic", "-Werror", "-O2", f"-I{TOP / 'include'}")
 SANITIZED = ("-g", "-fsanitize=address,undefined", "-fno-sanitize-recover=all")
 WRAPPED = ("-Wl,--wrap=malloc,--wrap=realloc,--wrap=free",)
@@ -39,14 +41,13 @@ INSTALLED = """
     lib/pkgconfig/spvk.pc lib/cmake/spvk/spvkConfig.cmake lib/cmake/spvk/spvkConfigVersion.cmake
     share/man/man1/spv.1 share/man/man3/spvk.3 share/bash-completion/completions/spv
     share/zsh/site-functions/_spv share/fish/vendor_completions.d/spv.fish
-    share/doc/spv/README.md share/doc/spv/SECURITY.md share/doc/spv/CHANGELOG.md share/doc/spv/NOTICE
-    share/doc/spv/LICENSE-MIT share/doc/spv/LICENSE-APACHE share/doc/spv/PROFILE.md share/doc/spv/PERFORMANCE.md
-    share/doc/spv/PROOFS.md share/doc/spv/explain.schema.json
 """
+# Where the pages are installed.
+PAGES = "share/doc/spv"
 # What README's words for installing need of the repository, beside what is built.
 SOURCES_OF_INSTALL = """
     crates.txt HANDLES Makefile build include install docs completions bindings
-    README.md SECURITY.md CHANGELOG.md NOTICE LICENSE-MIT LICENSE-APACHE
+    README.md SECURITY.md CONTRIBUTING.md CHANGELOG.md NOTICE LICENSE-MIT LICENSE-APACHE tests/README.md
 """
 
 
@@ -221,15 +222,19 @@ def instructions(_program, folder):
 
 
 def expect_example(words, folder, where):
-    """Raises Wrong where an example does not tell the kernel valid, or tells a missing file in more than one line."""
+    """Raises Wrong where an example does not tell the kernel valid, calls a module valid whose extended instruction is
+    not sound, or tells a missing file in more than one line."""
     for more in ([], ["--grammar", PROFILE]):
         said = done([*words, *more, KERNEL], folder, **where)
         if said != f"{KERNEL}: valid\n":
             raise Wrong(f"  {words}: {said}")
+    under = {**os.environ, **{name: str(it) for name, it in where.items()}}
+    looked, status = joined([*words, INSIDE], folder, SECONDS, env=under)
+    if status != 1 or not looked.startswith(f"{INSIDE}: fault ".encode()):
+        raise Wrong(f"  {words}: {looked.decode()}, exit {status}")
     for more in ([], ["missing"], ["--grammar", "missing", KERNEL], ["--grammar"]):
         ended = subprocess.run([*map(str, words), *map(str, more)], stdout=subprocess.PIPE, stderr=subprocess.PIPE,
-                               cwd=folder, env={**os.environ, **{name: str(it) for name, it in where.items()}},
-                               timeout=SECONDS, check=False)
+                               cwd=folder, env=under, timeout=SECONDS, check=False)
         if ended.returncode != 2 or ended.stdout or ended.stderr.count(b"\n") != 1:
             raise Wrong(f"  {words} {more}: {ended}")
 
@@ -250,6 +255,22 @@ def in_python(_program, folder):
     expect_example([sys.executable, place / "examples/check.py"], folder, where)
 
 
+def without_its_library(_program, folder):
+    """Where the module for Python finds no library, it says which variable names one; where that names none, so too."""
+    (folder / "spvk.py").write_bytes((TOP / "bindings/python/spvk.py").read_bytes())
+    rows = (
+        ("", rb"OSError: the shared library libspvk\.so\.1 is not loaded \(.*\): SPVK_LIBRARY in the .* may name its file"),
+        (KERNEL, rb"OSError: the file that SPVK_LIBRARY names in the environment is not loaded \(.*\)"),
+    )
+    for named, wanted in rows:
+        # (one that is installed on this machine is not found)
+        here = "import ctypes; load = ctypes.CDLL; ctypes.CDLL = lambda it: load(it if '/' in it else './' + it)"
+        words = [sys.executable, "-B", "-c", f"{here}; import spvk"]
+        said, status = joined(words, folder, SECONDS, env={**os.environ, "SPVK_LIBRARY": str(named)})
+        if status != 1 or not re.fullmatch(wanted, said.splitlines()[-1]):
+            raise Wrong(f"  {said.decode()}, exit {status}")
+
+
 def make(*words):
     """Runs make at the top."""
     return done(["make", "--no-print-directory", *words], TOP)
@@ -260,17 +281,48 @@ def files_below(folder):
     return {str(path.relative_to(folder)) for path in folder.rglob("*") if path.is_symlink() or path.is_file()}
 
 
+def links_of(page):
+    """The files that a page links, by their paths."""
+    # (what stands in code is no link)
+    code = r"(?ms)^```.*?^```$|^    [^\n]*$|`[^`\n]*`"
+    text = re.sub(code, "", page.read_text(encoding="utf-8"))
+    targets = re.findall(r"\]\(([^()#]+)(?:#[^()]*)?\)", text)
+    return {Path(os.path.normpath(page.parent / it)) for it in targets if not re.match(r"[a-z]+:", it)}
+
+
+def lost_links(folder):
+    """The links of pages below a folder that lead to nothing, each with its page."""
+    pages = sorted(folder.rglob("*.md"))
+    return [f"{page.relative_to(folder)}: {it}" for page in pages for it in sorted(links_of(page)) if not it.is_file()]
+
+
+def pages_of_readme():
+    """README and the files that it links, by their names in the repository, but for the man page."""
+    page = TOP / "README.md"
+    files = {page, *(it for it in links_of(page) if it.is_file() and not re.fullmatch(r"\.\d", it.suffix))}
+    return {str(it.relative_to(TOP)) for it in files}
+
+
+def expect_pages(folder):
+    """Raises Wrong where a page that README links is not among those in a folder, or one of these links what is not."""
+    missing, lost = sorted(pages_of_readme() - files_below(folder)), lost_links(folder)
+    if missing or lost:
+        raise Wrong(f"  pages that are not there: {', '.join(missing)}; links that lead nowhere: {', '.join(lost)}")
+
+
 def installed(_program, folder):
     """An installation into an empty folder has its files, runs, and is taken away whole."""
     words = [f"DESTDIR={folder}", "PREFIX=/usr"]
     make("install", *words)
     wanted = set(INSTALLED.format(version=version(), major=version().split(".")[0]).split())
+    expect_pages(folder / "usr" / PAGES)
+    wanted |= {f"{PAGES}/{it}" for it in files_below(folder / "usr" / PAGES) if (TOP / it).is_file()}
     got = files_below(folder / "usr")
     if got != wanted or files_below(folder) != {f"usr/{name}" for name in wanted}:
         raise Wrong(f"  installed besides or not: {', '.join(sorted(got ^ wanted))}")
     done([folder / "usr/bin/spv", "--help"], folder)
     make("uninstall", *words)
-    if files_below(folder):
+    if files_below(folder) or (folder / "usr" / PAGES).exists():
         raise Wrong(f"  left behind: {', '.join(sorted(files_below(folder)))}")
 
 
@@ -281,13 +333,13 @@ def example():
 
 
 def expect_answers(program, folder, **environment):
-    """Raises Wrong where the man page's program does not tell the kernel valid, and the kernel cut to be none."""
+    """Raises Wrong where the man page's program does not tell the kernel valid, and the kernel cut, or a module whose
+    extended instruction is not sound, to be none."""
     cut = folder / "cut.spv"
     cut.write_bytes(KERNEL.read_bytes()[:-4])
     said = done([program, KERNEL], folder, **environment)
-    told = subprocess.run([str(program), str(cut)], stdout=subprocess.PIPE,
-                          env={**os.environ, **environment}, timeout=SECONDS, check=False)
-    if said or told.returncode != 1 or not told.stdout.startswith(b"L2: "):
+    told = [joined([program, file], folder, SECONDS, env={**os.environ, **environment}) for file in (cut, INSIDE)]
+    if said or [status for _, status in told] != [1, 1] or not told[0][0].startswith(b"L2: "):
         raise Wrong(f"  {program}: {said!r}, and then {told}")
 
 
@@ -331,6 +383,7 @@ def by_readme(_program, folder):
     home.mkdir()
     top.mkdir()
     for name in SOURCES_OF_INSTALL.split():
+        (top / name).parent.mkdir(exist_ok=True)
         (shutil.copytree if (TOP / name).is_dir() else shutil.copy)(TOP / name, top / name)
     for name in ("crates/spv/out/spv", *(it.relative_to(TOP) for it in (ARCHIVE, OBJECT, shared()))):
         (top / name).parent.mkdir(parents=True, exist_ok=True)
@@ -351,8 +404,14 @@ def header_calls():
     return made - {"spvk_some_bytes", "spvk_shown_by", "spvk_told_by"}, raw
 
 
+def fields_of(text):
+    """The structures that a text declares, each with its fields and their types, as C has them."""
+    found = re.findall(r"^typedef struct (\w+) \{\n(.*?)^\} \1;$", text, re.MULTILINE | re.DOTALL)
+    return {name: re.findall(r"^ +(\w[^;]*);", fields, re.MULTILINE) for name, fields in found}
+
+
 def shown_page(_program, folder):
-    """The man page is shown without warnings, and names the calls and the statuses that the header has."""
+    """The man page is shown without warnings, and names the calls, the statuses and the fields that the header has."""
     ended = subprocess.run(["man", "--warnings", "-E", "UTF-8", "-l", str(PAGE)], stdout=subprocess.PIPE,
                            stderr=subprocess.PIPE, cwd=folder, timeout=SECONDS, check=False)
     if ended.returncode != 0 or ended.stderr:
@@ -367,6 +426,11 @@ def shown_page(_program, folder):
     lacking = [it for it in statuses if it not in page and not re.fullmatch(r"SPVK_J[2-6]", it)]
     if lacking:
         raise Wrong(f"  the page does not name {', '.join(lacking)}")
+    types = page.split(".SS Types", 1)[1].split("\n.SH ", 1)[0]
+    named, listed = fields_of(types), fields_of(header)
+    wrong = [name for name in re.findall(r"^\.B (spvk_\w+)$", types, re.MULTILINE) if named.get(name) != listed[name]]
+    if wrong or not named:
+        raise Wrong(f"  the page has no fields, or others, of {', '.join(wrong) or 'all structures'}")
 
 
 def one_version(_program, _folder):
@@ -440,6 +504,7 @@ def checks():
         for name, it, tools in found
     ]
     made.append(Check("library: man page", some, told(shown_page), frozenset({"man"})))
+    made.append(Check("library: Python without it", some, told(without_its_library)))
     made.append(Check("library: one version", some, told(one_version), frozenset()))
     made.append(Check("library: codes of the header", frozenset({"first path"}), told(codes_of_header)))
     return made

@@ -10,14 +10,13 @@ from shapes.changes import split
 from .cases import written
 from .common import LAYERS as ALL_LAYERS
 from .common import Answer, Check, difference, run
+from .library import INSIDE
 from .many import lines, placed
 from .usage import GRAMMAR, KERNEL, MODULES, under
 from .versions import order_of, turned
 
 LAYERS = frozenset(ALL_LAYERS)
 FLAG = "--extended"
-# A module that is refused with the flag alone.
-INSIDE = MODULES / "inside-of-an-extended-instruction.spv"
 RUN = ("trace", "--function", 10, "--choices", "0", "--limit", 99)
 # How many files go into one run.
 BATCH = 100

@@ -1,5 +1,7 @@
 """Says of each module what shows that it is not valid: the rule, the instruction, and what it names.
 
+Extended instructions are looked at too.
+
 usage: python3 explain.py FILE..
 
 Exit status 0 if all are valid, 1 if one is not, 2 for an error: a file that cannot be read, or no memory.
@@ -29,7 +31,7 @@ def lines_of(found: spvk.Evidence) -> Iterator[str]:
 
 def explain(grammar: spvk.Grammar, name: str) -> bool:
     """Prints what there is to say of a file, and answers whether it is valid."""
-    found = grammar.evidence(Path(name).read_bytes())
+    found = grammar.evidence(Path(name).read_bytes(), extended=True)
     if found:
         print(f"{name}: valid")
     for number, line in enumerate(() if found else lines_of(found)):

@@ -1,7 +1,7 @@
-//! Says of each module whether it is valid: `check [--grammar GRAMMAR] FILE..`. Exit status 0 if all are, 1 if one is not,
-//! 2 for an error.
+//! Says of each module whether it is valid, extended instructions looked at too: `check [--grammar GRAMMAR] FILE..`.
+//! Exit status 0 if all are, 1 if one is not, 2 for an error.
 
-use spvk::{Grammar, Verdict};
+use spvk::{Grammar, Verdict, Version};
 use std::error::Error;
 use std::process::ExitCode;
 use std::{env, fs};
@@ -34,7 +34,7 @@ fn check_all(words: &[&str]) -> Result<bool, Box<dyn Error>> {
     };
     let mut are_valid = true;
     for file in files {
-        let verdict = grammar.check(&read(file)?)?;
+        let verdict = grammar.check_with(&read(file)?, Version::AsTold.extended())?;
         println!("{file}: {}", line(verdict));
         are_valid &= verdict.is_valid();
     }

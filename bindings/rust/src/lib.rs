@@ -6,13 +6,15 @@
 //! ```no_run
 //! # fn main() -> Result<(), Box<dyn std::error::Error>> {
 //! let grammar = spvk::Grammar::default_for_1_6()?;
-//! let verdict = grammar.check(&std::fs::read("kernel.spv")?)?;
+//! let verdict = grammar.check_with(&std::fs::read("kernel.spv")?, spvk::Version::AsTold.extended())?;
 //! if let Some(fault) = verdict.fault() {
 //!     println!("{fault}: {}", fault.code.sentence());
 //! }
 //! # Ok(())
 //! # }
 //! ```
+//!
+//! By `extended` extended instructions are looked at too: loaders of strangers' modules ask for it.
 //!
 //! What each answer means is said in docs/PROFILE.md of the library's repository, and what is proved in its README.md.
 //! This crate adds no logic: it hands slices to the library, and lets go of what the library made. No call prints, and
