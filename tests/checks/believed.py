@@ -237,7 +237,7 @@ TABLES = (
 )
 
 # The lists of the code that definitions name: the crate, the file of its src/, and what they are.
-LISTS = ("spv_extended", "facts.rt", "what extended instructions take (with --extended: D1, D3, D4, D5, Y1, A1, Y9)")
+LISTS = ("spv_extended", "facts.rt", "what extended instructions take (with --extended: D1, D3, D5, Y1, A1, Y9)")
 
 # The enums of the code whose order definitions speak of.
 ORDERS = (
