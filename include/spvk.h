@@ -12,12 +12,14 @@
  *
  * What is proved. The archive's functions, `spvk_raw_..` below, are proved: each returns, touches no memory but
  * what it is handed and what it allocates, and answers what the definitions of the library give, or that it is
- * out of memory. Nothing checks what a C caller owes; it is said here. The functions `spvk_..` are written in this
+ * out of memory. That the built-in grammar, and what is known of extended instructions, agree with Khronos' files is
+ * tested. Nothing checks what a C caller owes; it is said here. The functions `spvk_..` are written in this
  * header, and do nothing but test pointers for null and call those; they are tested and not proved.
  *
  * What a valid module may still hold. No rule of the profile looks at the operands of OpExtInst after its number: there
- * a valid module may name ids that are over the bound or defined nowhere. With the flag SPVK_EXTENDED they are looked
- * at; a loader that follows these ids sets it, or tests them itself.
+ * a valid module may name ids that are over the bound or defined nowhere. With the flag SPVK_EXTENDED their ids
+ * are looked at, and what is asked of them is said there. A loader that follows these ids sets it, or tests them itself.
+ * A check says nothing of what the module computes, nor of the types that extended instructions take.
  *
  * Memory. All of it comes from malloc, realloc and free, which must be one allocator. No call keeps a pointer that
  * it is given after it has returned. Nothing is kept between calls but what grammars and buffers hold.
@@ -117,10 +119,10 @@ typedef enum spvk_text_code {
 
 /** A flag of `spvk_check_with`, `spvk_explain_with` and `spvk_explain_json_with`: extended instructions are looked at
  *  whole, also behind their number. Of the set `OpenCL.std` an id there is used as a value: it breaks SPVK_D1, SPVK_D3,
- *  SPVK_D4, SPVK_D5, SPVK_Y1 or SPVK_A1 where any other use of it would; and SPVK_Y9 is broken where the set has no
- *  instruction of that number, or has one that takes fewer or more operands. Of any other set, as of debug information,
- *  each id is below the bound and defined (SPVK_D1, SPVK_D3). Nothing else is asked, and no type is looked at. Loaders
- *  that follow the ids of extended instructions should set it. */
+ *  SPVK_D5, SPVK_Y1 or SPVK_A1 where any other use of it would; and SPVK_Y9 is broken where that set has no instruction
+ *  of that number, or has one that takes fewer or more operands. Of any other set, as of debug information, each id is
+ *  below the bound and defined (SPVK_D1, SPVK_D3), and nothing else is asked, not even whether the set has the
+ *  instruction. No type is looked at. Loaders that follow the ids of extended instructions should set it. */
 #define SPVK_EXTENDED UINT32_C(2)
 
 /** Stands for no instruction and no word: in the verdict on a valid module, and in one of W2 to W8. */
@@ -268,10 +270,11 @@ static inline spvk_status spvk_grammar_default(spvk_grammar *grammar) {
 }
 
 /** Why `spvk_grammar_new` refuses the `len` bytes of a text, in the lines that `spv --verbose` writes after the code:
- *  `at:` and the path to the first place that breaks the code, as `instructions[12].operands[0].kind`, unless that is
- *  the whole file or the code is J1; `found:` and what is there, or for J1 the line and the column at which
- *  reading stopped; `wanted:` and what is wanted there. Control characters of ASCII are written as `\xNN`. The text is
- *  read once more for it.
+ *  `at:` and the path to a place that breaks the code, as `instructions[12].operands[0].kind`, unless that is the whole
+ *  file or the code is J1; `found:` and what is there, or for J1 the line and the column at which reading stopped;
+ *  `wanted:` and what is wanted there. It is proved that the path leads to what was found; that the code is broken
+ *  there, and what is wanted, is tested. Control characters of ASCII are written as `\xNN`. The text is read once more
+ *  for it.
  *
  *  SPVK_OK: `buffer` holds the lines, until `spvk_buffer_delete`; no bytes where the text gives a grammar. SPVK_MEMORY.
  *  SPVK_NULL: `buffer` is null, or `text` is with a `len` that is not 0. After any status but SPVK_OK `buffer` holds

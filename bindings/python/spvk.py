@@ -535,9 +535,9 @@ class Grammar:
     1.6 without `as_1_6`.
 
     By `extended` extended instructions are looked at whole, also behind their number, as loaders that follow
-    the ids there need it. Of the set `OpenCL.std` an id there is used as a value (D1, D3, D4, D5, Y1, A1),
+    the ids there need it. Of the set `OpenCL.std` an id there is used as a value (D1, D3, D5, Y1, A1),
     and Y9 is broken where the set has no instruction of that number, or has one that takes fewer or more
-    operands; of any other set each id is below the bound and defined (D1, D3).
+    operands; of any other set each id is below the bound and defined (D1, D3), and nothing else is asked.
     """
 
     def __init__(self, text: Optional[bytes] = None) -> None:

@@ -103,6 +103,60 @@ PROMISES = (
             ("spv_words", "writing.rt", "write_all"),
         ),
     ),
+    (
+        "A version in place of another",
+        "`replace_version` puts version 1.6 in place of 1.0 to 1.6 (`as_1_6`), and nothing else in place of anything.",
+        (("spv_words", "version.rt", "replace_version"),),
+    ),
+    (
+        "The table of a run",
+        "`table_of` answers the table that a text gives, or without a text the one that is packed in `WORDS` of "
+        "spv_builtin/src/words.rt; `grammar_text` writes it again. That `WORDS` pack the table of Khronos' grammar "
+        "file is compared by `tests/builtin`, and not proved.",
+        (
+            ("spv_builtin", "source.rt", "table_of"),
+            ("spv_builtin", "text.rt", "grammar_text"),
+            ("spv_builtin", "reason.rt", "grammar_reason"),
+        ),
+    ),
+    (
+        "The words of the command line",
+        "`arguments_in` answers the command that words are, where the environment names a grammar file or none.",
+        (
+            ("spv_command_line", "command_line.rt", "arguments_in"),
+            ("spv_command_line", "command_line.rt", "is_verbose"),
+        ),
+    ),
+    (
+        "The program's answer",
+        "`run` does what a command asks, and `run_each` does it for several files. Their clauses on bytes speak of "
+        "readers and writers that tell them, as slices and vectors do; files tell none.",
+        (
+            ("spv_commands", "program.rt", "run"),
+            ("spv_commands", "files.rt", "read", "trait Files"),
+            ("spv_commands", "each.rt", "run_each"),
+        ),
+    ),
+    (
+        "The library's calls",
+        "The calls of the archive, `spvk_raw_..`; those of `spvk.h` are written in C over them, and tested.",
+        tuple(
+            ("spvk", file, f"spvk_raw_{call}")
+            for file, *calls in (
+                ("grammars.rt", "grammar_new", "grammar_default", "grammar_delete"),
+                ("grammar_reason.rt", "grammar_explain"),
+                ("checking.rt", "check", "check_as_1_6", "check_with"),
+                ("explaining.rt", "explain", "explain_as_1_6", "explain_with"),
+                ("objects.rt", "explain_json", "explain_json_as_1_6", "explain_json_with"),
+                ("showing.rt", "show", "show_as_1_6"),
+                ("assembling.rt", "assemble_little", "assemble_big"),
+                ("buffers.rt", "buffer_delete"),
+                ("rules.rt", "rule_name", "rule_sentence", "version"),
+                ("status_text.rt", "status_text"),
+            )
+            for call in calls
+        ),
+    ),
 )
 
 HEADING = """# What to believe
@@ -114,7 +168,49 @@ What is proved is no more than what the contracts of the calls say, and these ar
 How to read. By rule: begin with the rule's definition in the table below, and go on to what it names, which its file has or its `use` lines bring in (`as` renames). Or in the order of the list: first what a contract names, then what that is made of; for the rules Y begin with Form, Types, Parts and Values of spv_type_forms. Names stand for what their file says or imports: `Form`, `Shape`, `Row`, `Entry`, `Sort`, `Keeps`, `Broken`, `rows`, `row_of`, `row_in`, `class_in`, `constant_of`, `value_in`, `values_of`, `is_number` and `place_of` are said in several crates, of each crate's own things.
 
 - A path with `declared` in it is a type of the code: `Rattle.C.specs.declared.M.T` is `T` of `C/src/M.rt`, a struct with its fields or an enum with its variants (`T.TheVariants`). `tag_of the_type x` is the place of x among the variants, from 0, in the order in which the code declares them (`the_type` comes by the same path with `contracts` for `declared`). Three orders count: {orders}.
-- Of the toolchain's library: `A × B` is and, `A ⊎ B` or, `(x : A) × B x` that there is an x, `(x : A) → B x` that it holds for each, `⊥` what never holds and `Unit` what always does. `IsSome o`: o is there; `IsSomeAnd o P`: it is there and P holds of it; `IfSome o P`: P holds of it, if it is there; `MatchOption o A P`: A where it is missing, else P of it. `slice_get xs n` is element n of a list, from 0, as an option, and `slice_index xs n` the element, 0 where there is none. `All`, `AllByRecursion` and `Any` say it of all or some elements of a list. `codes "a"` are the bytes of a text, and `decimal n` those of a number; `IsUtf8 t`: bytes are UTF-8. `IsTrue b`: a test answers true. `¬ A`: A does not hold; `A ↔ B`: each gives the other. `Contains xs x`: x is an element of the list. `get_or xs n d`: element n, or d where there is none.
+- `opcode.NAME`, or NAME alone, is an opcode of spv_module/src/opcode.rt, by its name in the standard without `Op`; the two tables of the code are written in them too: {opcodes}.
+
+The words of the language, and those of the toolchain's library that stand in these definitions:
+
+| Written | Means |
+|---|---|
+| `-- text` | a comment |
+| `use M.{a, b as c}` | brings in a and b of the file M, b under the name c; `use M as m` brings in all of it, as `m.a` |
+| `f : A → B → C` | the sort of f: it takes an A and a B, and gives a C. What gives a `Type 0` is a statement, or a sort of things |
+| `abbrev pub f : ..` | f is defined by the equations below it; of these the first that fits its arguments counts, and `_` fits anything |
+| `unfoldable pub f : ..` | the same to a reader; the prover does not look into it unasked |
+| `record R (x : A) : Type 0 where` | R holds of x where there is all that its lines name: things and, of them, statements. Of a sort of things, its fields. `r.name` is the one of that name |
+| `record { a = x; b = y }` | the record with these fields |
+| `data D : A → Type 0 where` | D holds of what one of its constructors ends in, where that which stands before its last arrow holds; and of nothing else. Of a sort of things, its variants |
+| `mutual` | the definitions below name one another |
+| `let x = a in b`, `λ x. b` | b, in which x is a; b, as a function of x |
+| `if a then b else c`, `cond a b c` | b where a is true, else c |
+| `(a, b)`, `p.0`, `p.1` | a pair, its first and its second |
+| `A × B`, `A ⊎ B` | both hold; one of them holds |
+| `(x : A) → B`, `(x : A) × B` | B holds for every x; for some x |
+| `A → B`, `A ↔ B`, `¬ A` | where A holds B does; each gives the other; A does not hold |
+| `a ≡ b`, `a ≢ b` | they are the same; they are not |
+| `Unit`, `⊤`, `⊥` | what always holds, under two names; what never holds |
+| `ℕ`, `zero`, `suc n` | the numbers from 0; 0, and n + 1. `a - b` is 0 where b is the greater; `a / b` and `a % b` are the whole quotient and what is left; `a ^ b` is a power |
+| `nat_eq a b`, `nat_lt a b`, `nat_le a b` | tests: whether a is b, is less, is at most b |
+| `not a`, `a && b`, `a \|\| b`, `IsTrue a` | of tests: not, and, or; that a test answers true |
+| `Option`, `Some x`, `None` | something that may be missing; x is there; nothing is |
+| `option_map f o`, `option_and_then f o` | f of what o is, if it is there; the same of an f that may give nothing itself |
+| `unwrap_or o d`, `is_some o`, `option_to_list o` | what o is, or d; whether it is there; a list of it, or the empty one |
+| `IsSome o`, `IsSomeAnd o P`, `IfSome o P`, `MatchOption o A P` | o is there; it is, and P holds of it; P holds of it if it is; A holds if it is missing, else P of it |
+| `List`, `[]`, `x ∷ xs`, `xs ++ ys` | a list; the empty one; x and then xs; xs and then ys |
+| `length xs`, `reverse xs`, `take n xs`, `drop n xs` | how many elements; the last first; the first n; all but these |
+| `slice_get xs n`, `slice_index xs n`, `get_or xs n d` | element n from 0, if there is one; or 0; or d |
+| `map f xs`, `flat_map f xs`, `filter_map f xs` | f of each element; the lists that f gives, joined; what f gives where it gives something |
+| `filter t xs`, `find t xs`, `position t xs`, `count_by t xs` | of the elements that pass the test: all; the first; the place of that one; how many |
+| `list_all t xs`, `list_any t xs` | tests: whether each element passes; whether one does |
+| `All P xs`, `AllByRecursion P xs`, `Any P xs`, `Contains xs x` | P holds of each element; the same; of one; x is one |
+| `sum_by f xs`, `fold f a xs`, `range_with_len a n` | the sum of f over xs; f over xs from the first on, beginning with a; a, a + 1 and so on, n of them |
+| `IsStrictlyIncreasing xs` | each element is less than the next |
+| `codes "a"`, `decimal n`, `string_bytes s`, `bytes_eq a b` | the bytes of a text, of a number in decimal, of a string of the code; a test: whether bytes are the same |
+| `IsUtf8 t`, `IsAscii t` | bytes are UTF-8; they are below 128 |
+| `Result`, `Ok x`, `Err e`, `IfOk r P`, `IfErr r P` | an answer, or an error; P holds of the answer, or of the error, if it is one |
+| `Token`, `Data`, `read` and others of `Rattle.json`, `Rattle.serde_json` | JSON by the definitions of the toolchain's ports; `App`, `Rule`, `Row`, `Text` of `Rattle.clap` what a command line takes; `parse_float` of `Rattle.ryu` the number that a text is |
 """
 
 
@@ -126,7 +222,7 @@ BY_VALID = """What a valid module is, `IsValid` alone: {count}.
 
 TABLES_HEAD = """Two tables are not said again in definitions: `rows` of spv_layout/specs/Rows and `row_of` of spv_ops/specs/Row name the tables of the code, which stand there a row a line, in words and letters that the macros above them turn into values. These rows are to be read too, as definitions are; they are not among the lines that are counted here. Nor are the lists of what extended instructions take, which `facts_of` of spv_extended/specs/Facts names: how their numbers are read stands above them, and `tests/extended` compares them with Khronos' files:"""
 
-BY_RULE = """`check` takes the words of an image, which begin with a good header, and answers `IsAnswer` of them: the checked module (`IsChecked`) or its fault (`IsFault`). It answers the former exactly where the bytes of those words are a valid module (`IsValid`): they begin with a good header (`IsModule`: the rules W), the words behind it spell a list of instructions (`IsListing`: I), and the list breaks no other rule (`IsSound`: P to G). With `--extended` the list is looked at with the operands of extended instructions (`looked_at`), and must not break Y9 either. `check_stream` writes the line of the verdict on the bytes that it reads (`IsVerdict`). That words have one verdict, and bytes one line, is proved beside them (`one_answer`, `one_verdict` and `one_first` of spv_verdict). Which table a grammar file gives is said apart from this list, in spv_grammar/specs (`Answer`), and in prose in PROFILE.md.
+BY_RULE = """`check` takes the words of an image, which begin with a good header, and answers `IsAnswer` of them: the checked module (`IsChecked`) or its fault (`IsFault`). It answers the former exactly where the bytes of those words are a valid module (`IsValid`): they begin with a good header (`IsModule`: the rules W), the words behind it spell a list of instructions (`IsListing`: I), and the list breaks no other rule (`IsSound`: P to G). With `--extended` the list is looked at with the operands of extended instructions (`looked_at`), and must not break Y9 either. `check_stream` writes the line of the verdict on the bytes that it reads (`IsVerdict`). That words have one verdict, and bytes one line, is proved beside them (`one_answer`, `one_verdict` and `one_first` of spv_verdict). Which table a grammar file gives is said in a part of its own below, and in prose in PROFILE.md. [RULES.md](RULES.md) has a line for each code, with the code that answers it, its evidence and a case.
 
 The rules, and the definitions that say what is kept, or (broken) where a rule is broken:
 
@@ -175,8 +271,9 @@ RULES = (
         [("spv_type_rules/specs/roles/Role.antt", "Plays")],
         [("spv_type_rules/specs/roles/Broken.antt", "Broken")],
     ),
-    ("C1, E1", "Kernel and not Shader; an entry point", [(CAPABILITIES, "Keeps")], []),
+    ("C1", "Kernel and not Shader", [(CAPABILITIES, "Keeps")], []),
     ("C2", "the capabilities of an instruction", [("spv_capabilities/specs/Capable.antt", "IsCapable")], []),
+    ("E1", "an entry point, or Linkage", [(CAPABILITIES, "Keeps")], []),
     ("M1", "addressing and memory model", [("spv_capabilities/specs/Memory.antt", "IsModel")], []),
     (
         "E2",
@@ -220,9 +317,10 @@ RULES = (
     ("Y6", "functions and parameters", [("spv_type_rules/specs/Keeps.antt", "KeepsFunctions")], []),
     ("Y7", "returns", [("spv_type_rules/specs/Keeps.antt", "KeepsReturns")], []),
     ("Y8", "calls", [("spv_type_rules/specs/Function.antt", "CallsSoundly")], []),
+    ("F1", "labels of branches and merges", [], [(BRANCHES, "Broken")]),
     ("F2", "branches to entry blocks", [], [(BRANCHES, "Broken"), (TARGET, "IsEntryLabel")]),
     ("F3", "the parents of a phi", [(TARGET, "HasParents")], [(BRANCHES, "Broken")]),
-    ("F besides", "labels, and two that are the same", [], [(BRANCHES, "Broken")]),
+    ("F4", "two labels that are the same", [], [(BRANCHES, "Broken")]),
     ("A1", "values on every walk", [], [(READY, "IsMissing")]),
     ("A2", "values of phis on every walk", [], [(READY, "IsPairMissing")]),
     ("G1", "cycles of calls", [], [("spv_flow/specs/calls/Broken.antt", "Broken")]),
@@ -237,7 +335,10 @@ TABLES = (
 )
 
 # The lists of the code that definitions name: the crate, the file of its src/, and what they are.
-LISTS = ("spv_extended", "facts.rt", "what extended instructions take (with --extended: D1, D3, D4, D5, Y1, A1, Y9)")
+LISTS = ("spv_extended", "facts.rt", "what extended instructions take (with --extended: D1, D3, D5, Y1, A1, Y9)")
+
+# The constants of the code that definitions and tables name opcodes by.
+OPCODES = "spv_module/src/opcode.rt"
 
 # The enums of the code whose order definitions speak of.
 ORDERS = (
@@ -342,7 +443,7 @@ def read(path):
 def models():
     """Of each type of the crates that contracts see as another value: how, and what the names in that stand for."""
     found = {}
-    for path in sorted(CRATES.glob("spv_*/src/**/*.rt")):
+    for path in sorted(CRATES.glob("spv*/src/**/*.rt")):
         text = path.read_text(encoding="utf-8")
         for name, body in MODEL.findall(text):
             found[name] = ("\n".join(VIEW.findall(body)), scope_of(text) | scope_of(body))
@@ -366,7 +467,7 @@ def clauses(crate, file, call, block=None):
         inside = re.search(rf"^(?:pub )?{block} \{{.*?^\}}", text, re.S | re.M)
         found = inside and re.search(rf"^    fn {call}\b.*?(?=\n    \{{|;\n)", inside[0], re.S | re.M)
     else:
-        found = re.search(rf"pub fn {call}\b.*?(?=\n\{{)", text, re.S)
+        found = re.search(rf'pub (?:(?:unsafe )?extern "C" )?fn {call}\b.*?(?=\n\{{)', text, re.S)
     if not found:
         raise NotFound(f"{crate} has no {call} in {file}")
     return re.sub(r"//.*", "", found[0]), scope_of(text)
@@ -461,6 +562,15 @@ def variants(file, name):
     return re.findall(r"^\s*(\w+)\b", body[1], re.M)
 
 
+def opcodes():
+    """The constants of opcodes, each with its number, in the order of the code."""
+    text = (CRATES / OPCODES).read_text(encoding="utf-8")
+    found = re.findall(r"^pub const (\w+): u16 = (\d+);", text, re.M)
+    if not found:
+        raise NotFound(f"{OPCODES} has no constants")
+    return ", ".join(f"{name} {number}" for name, number in found)
+
+
 def orders():
     """The enums whose order counts, with their variants."""
     parts = [f"`{name}` ({', '.join(variants(file, name))})" for file, name in ORDERS]
@@ -503,7 +613,7 @@ def rows(found):
 
 def page():
     """The page as it is to be."""
-    closure, parts = Closure(), [HEADING.replace("{orders}", orders())]
+    closure, parts = Closure(), [HEADING.replace("{orders}", orders()).replace("{opcodes}", opcodes())]
     for title, about, calls in PROMISES:
         begun = len(closure.found)
         for call in calls:
