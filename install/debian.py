@@ -108,8 +108,8 @@ class Release:
         return (
             Package(self.library, (f"{MULTIARCH}/libspvk.so.*",), (f"Depends: libc6 (>= {libc_of_library})", *parted),
                     "same", "libs", LIBRARY),
-            Package("libspvk-dev", ("include/*", f"{MULTIARCH}/*", "share/man/man3"), (needed, "Suggests: spv", *parted),
-                    "same", "libdevel", DEVELOPMENT),
+            Package("libspvk-dev", ("include/*", f"{MULTIARCH}/*", "share/man/man3"),
+                    (needed, "Suggests: spv", *parted), "same", "libdevel", DEVELOPMENT),
             Package("spv", ("bin", "share"), (f"Depends: libc6 (>= {libc_of_program})",), "foreign", "utils", PROGRAM),
         )
 
@@ -139,6 +139,17 @@ def settle_pages(pages):
         (pages / name).unlink()
 
 
+def debian_changes(release, changes):
+    """The changes as Debian writes them: an entry for this version, and one for each released one that had packages."""
+    found = re.findall(r"^## ([\d.]+)\n\nOf (\d+ \w+ \d+)\..*\n\n```text$", changes, re.MULTILINE)
+    released = [(version, time.strptime(day, "%d %B %Y")) for version, day in found if version != release.version]
+    entries = []
+    for version, when in [(release.version, time.gmtime(release.epoch)), *released]:
+        signed = f" -- {release.people}  {time.strftime('%a, %d %b %Y %H:%M:%S +0000', when)}"
+        entries.append(f"spv ({version}-1) unstable; urgency=medium\n\n  * See changelog.gz.\n\n{signed}\n")
+    return "\n".join(entries)
+
+
 def add_pages(release, package, folder, changes):
     """Puts what each package has of its own into its folder of pages: licences and changes."""
     pages = folder / "usr/share/doc" / package.name
@@ -147,9 +158,7 @@ def add_pages(release, package, folder, changes):
     (pages / "copyright").write_text(COPYRIGHT.format(mit=indented), encoding="utf-8")
     (pages / "NOTICE").write_bytes(release.notice)
     (pages / "changelog").write_text(changes, encoding="utf-8")
-    when = time.strftime("%a, %d %b %Y %H:%M:%S +0000", time.gmtime(release.epoch))
-    log = f"spv ({release.version}-1) unstable; urgency=medium\n\n  * See changelog.gz.\n\n -- {release.people}  {when}\n"
-    (pages / "changelog.Debian").write_text(log, encoding="utf-8")
+    (pages / "changelog.Debian").write_text(debian_changes(release, changes), encoding="utf-8")
     (pages / "CHANGELOG.md").unlink(missing_ok=True)
     for path in [*(folder / "usr/share/man").rglob("*.[13]"), pages / "changelog", pages / "changelog.Debian"]:
         pack(path)
@@ -157,7 +166,7 @@ def add_pages(release, package, folder, changes):
 
 def symbols(release, shown):
     """What the shared library shows, each name with its node and the version that had it first."""
-    lines = [f"libspvk.so.{release.major} {release.library} #MINVER#"]
+    lines = [f"libspvk.so.{release.major} {release.library} #MINVER#", "* Build-Depends-Package: libspvk-dev"]
     nodes = sorted(set(re.findall(r"^(SPVK_[\d.]+) \{", shown, re.MULTILINE)))
     for node in nodes:
         part = re.search(rf"^{re.escape(node)} \{{(.*?)^\}}", shown, re.MULTILINE | re.DOTALL)[1]

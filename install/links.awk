@@ -1,4 +1,4 @@
-# A page as it is installed: of its links to files those stay whose file is installed too, and of the others the words alone.
+# A page as it is installed: its links to what is installed too stay, and of the others the words alone.
 #
 # page   the page's name in the repository
 # there  the names of the installed pages, with spaces between

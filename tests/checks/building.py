@@ -66,8 +66,25 @@ REFUSED = [
     r"fn spv_table::table::entry: not proved",
     r"rt: spv_table NOT PROVED",
 ]
+# What install/archive does in the place of the toolchain: it waits, and makes the archive or does not.
+ARCHIVE = r"""#!/bin/sh
+sleep 1
+[ "$STAND_IN" != "no archive" ] || { echo "no archive for you"; exit 1; }
+mkdir -p "$1/out"
+echo built >"$1/out/libspvk.a"
+echo built >"$1/out/spvk.o"
+"""
+WITH_ARCHIVE = [
+    *(line.replace(" of 3", " of 4").replace("about 0", r"about \d") for line in PROVED[:-2]),
+    r" 4 of 4  libspvk\.a {15}made in 0:0[0-3]  \(0 min, about 0 more\)",
+    *PROVED[-2:],
+    r"out/libspvk\.a",
+    r"out/spvk\.o",
+]
 # What out/proved has but for the checksums: the crate that was kept has no line, since no earlier run here proved it.
 LAST_LINES = "spv_table logic=proved functions=1 sum=5\nspv logic=proved functions=2 sum=5\n"
+# The archive's name among the crates.
+ARCHIVE_NAME = "libspvk.a"
 # What begins a line of the terminal anew.
 OVER = "\r\x1b[K"
 
@@ -86,6 +103,8 @@ def repository(folder, seconds):
     for name in ("progress.awk", "proved"):
         shutil.copy(TOP / "install" / name, top / "install")
     (top / "install/seconds").write_text(seconds, encoding="utf-8")
+    (top / "install/archive").write_text(ARCHIVE, encoding="utf-8")
+    (top / "install/archive").chmod(0o755)
     (folder / "commands").mkdir()
     stand_in = folder / "commands/rt"
     stand_in.write_text(STAND_IN, encoding="utf-8")
@@ -130,6 +149,121 @@ def proves(_, folder):
     return None if last == "3 passed, 0 failed" else f"  {log} ends with: {last}"
 
 
+def archives(_, folder):
+    """A line for the archive too, which is made when all is proved; what its making prints goes to the file."""
+    said, status = told(folder, ["program", "library"], seconds="spv_words 100\nspv_table 2\nlibspvk.a 3\n")
+    wrong = differing(said, WITH_ARCHIVE)
+    return wrong or (f"  exit {status}" if status or not (folder / "top/out/spvk.o").exists() else None)
+
+
+def archives_not(_, folder):
+    """An archive that is not made: the end of what was printed, no library, and what was proved is kept."""
+    said, status = told(folder, ["program", "library"], way="no archive")
+    lines = said.splitlines()
+    is_told = re.match(r" 4 of 4  libspvk\.a +NOT MADE ", lines[5]) and lines[-1] == "no archive for you"
+    is_kept = "spv_table" in (folder / "top/out/proved").read_text(encoding="utf-8")
+    if status != 1 or not is_told or not is_kept or (folder / "top/out/libspvk.a").exists():
+        return f"  got: {shown(said)}, exit {status}"
+    return None
+
+
+def knows_sources(_, folder):
+    """A second run knows which crates an earlier one found proved, but for those that have changed since."""
+    told(folder, [])
+    top = folder / "top"
+    (top / "crates/spv_table/src/lib.rt").write_text("// changed\n", encoding="utf-8")
+    said, status = joined([top / "install/proved", "--same"], folder)
+    return None if (said, status) == (b"spv_words\nspv\n", 0) else f"  got: {said}, exit {status}"
+
+
+# How many minutes are left
+
+
+def of_repository():
+    """The crates of the program and the library with those below each, and the seconds of install/seconds."""
+    rows = [line.split("#")[0].split(":") for line in (TOP / "crates.txt").read_text(encoding="utf-8").splitlines()]
+    uses = {row[0].split()[0]: row[1].split() for row in rows if len(row) == 2}
+    due, found = ["spv", "spvk"], {}
+    while due:
+        name = due.pop()
+        if name in uses and name not in found:
+            found[name] = [it for it in uses[name] if it in uses]
+            due += found[name]
+    words = [line.split() for line in (TOP / "install/seconds").read_text(encoding="utf-8").splitlines()]
+    return found, {row[0]: int(row[1]) for row in words if len(row) == 2}
+
+
+def built_by(uses, takes, jobs, archive):
+    """What happens while crates are proved, as rt begins them: the longest chain first. Lines `begun NAME` and their
+    times, the last for the archive."""
+    def chain(name):
+        return takes[name] + max([chain(it) for it in uses if name in uses[it]], default=0)
+
+    lengths = {name: chain(name) for name in uses}
+    now, under_way, ended, events = 0, {}, set(), []
+    while len(ended) < len(uses):
+        ready = [it for it in uses if it not in ended and it not in under_way and ended >= set(uses[it])]
+        for name in sorted(ready, key=lambda it: -lengths[it])[: jobs - len(under_way)]:
+            under_way[name] = now + takes[name]
+            events.append((now, "begun", name))
+        now = min(under_way.values())
+        for name in [it for it in under_way if under_way[it] == now]:
+            del under_way[name]
+            ended.add(name)
+            events.append((now, "ended", name))
+    return [*events, (now, "begun", ARCHIVE_NAME), (now + archive, "ended", ARCHIVE_NAME)]
+
+
+def minutes_left(place, now, lines):
+    """The minutes that install/progress.awk tells at some time, of what has happened."""
+    (place / "past").write_text("".join(f"{line}\n" for line in lines), encoding="utf-8")
+    (place / "news").write_text("", encoding="utf-8")
+    words = ["awk", "-v", f"now={now}", "-v", "jobs=4", "-v", f"archive={ARCHIVE_NAME}"]
+    words += ["-f", TOP / "install/progress.awk", "reads=seconds", TOP / "install/seconds"]
+    for name in ("crates", "same", "past", "news"):
+        words += [f"reads={name}", place / name]
+    said, _ = joined(words, place)
+    return int(re.search(rb"about (\d+) more", said)[1])
+
+
+def right_within_a_half(place, changed, pace, knows):
+    """None if the minutes told, from the first crate's end on, are right within a half, or within two minutes, where
+    these crates have changed, all others but those above them are kept, and the machine takes `pace` times as long."""
+    uses, seconds = of_repository()
+    anew = set(changed)
+    while more := {name for name in uses if anew & set(uses[name])} - anew:
+        anew |= more
+    takes = {name: int(seconds[name] * pace) + len(name) % 7 if name in anew else 1 for name in uses}
+    (place / "crates").write_text("".join(f"{it}: {' '.join(uses[it])}\n" for it in uses), encoding="utf-8")
+    (place / "same").write_text("".join(f"{it}\n" for it in uses if knows and it not in changed), encoding="utf-8")
+    events = built_by(uses, takes, 4, int(seconds[ARCHIVE_NAME] * pace))
+    end, lines = events[-1][0], []
+    for now, what, name in events:
+        how = "made" if name == ARCHIVE_NAME else "proved" if name in anew else "kept"
+        lines.append(f"{what if what == 'begun' else how} {name} {now}")
+        if what == "ended":
+            left, minutes = (end - now) / 60, minutes_left(place, now, lines)
+            if abs(minutes - left) > max(left / 2, 2):
+                return f"  {changed} changed: after {now} s of {end} {minutes} minutes are told, {left:.1f} are left"
+    return None
+
+
+def tells_minutes(_, folder):
+    """The minutes told are right: from nothing, on a machine of another pace, and where crates are kept."""
+    uses, _ = of_repository()
+    rows = [
+        ([it for it in uses if not uses[it]], 1, False),
+        ([it for it in uses if not uses[it]], 2.5, False),
+        ([], 1, True),
+        ([], 1, False),
+        (["spv_commands"], 1, True),
+        (["spv_ops", "spv_command_line"], 1.5, True),
+        (["spv_layout"], 0.7, True),
+        (["spvk"], 1, True),
+    ]
+    return next(filter(None, (right_within_a_half(folder, *row) for row in rows)), None)
+
+
 def refuses(_, folder):
     """A crate that is not proved: the end of what was printed of it, and no program; what was proved is kept."""
     said, status = told(folder, ["program"], way="fails")
@@ -160,7 +294,7 @@ def lacks_the_toolchain(_, folder):
     """Without the toolchain's command it is told which one is needed."""
     top = repository(folder, "")
     said, status = joined([top / "build"], folder, env={**environment(folder), "PATH": PLAIN_PATH})
-    wanted = rb"build: there is no rt on the PATH: the toolchain rattle-kit-\w+ is needed\n"
+    wanted = rb"build: there is no rt on the PATH: the toolchain rattle-kit-\w+ is needed \(README.md, .*\)\n"
     return None if status == 1 and re.fullmatch(wanted, said) else f"  got: {shown(said)}, exit {status}"
 
 
@@ -197,6 +331,10 @@ def checks():
     rows = [
         ("a line for each crate", proves),
         ("a crate that is not proved", refuses),
+        ("the archive", archives),
+        ("an archive that is not made", archives_not),
+        ("the crates that are the same", knows_sources),
+        ("the minutes that are left", tells_minutes),
         ("no times known", knows_no_times),
         ("all that the toolchain prints", prints_all),
         ("no toolchain", lacks_the_toolchain),

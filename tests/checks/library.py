@@ -247,21 +247,33 @@ def in_rust(_program, folder):
     expect_example(["cargo", "run", "-q", *words, "--example", "check", "--"], folder, where)
 
 
+def expect_first_words(folder, where):
+    """Raises Wrong where the lines at the head of the module for Python do not load the kernel, or load a module whose
+    extended instruction is not sound."""
+    head = (TOP / "bindings/python/spvk.py").read_text(encoding="utf-8").split('"""')[1]
+    lines = "".join(f"{line[4:]}\n" for line in head.splitlines() if line.startswith("    "))
+    (folder / "first.py").write_text(f"load = lambda module: print('loaded')\n{lines}", encoding="utf-8")
+    for module, wanted in ((KERNEL, "loaded\n"), (INSIDE, "fault ")):
+        shutil.copy(module, folder / "kernel.spv")
+        said = done([sys.executable, "first.py"], folder, **where)
+        if not said.startswith(wanted):
+            raise Wrong(f"  the lines at the head of spvk.py, of {module}: {said}")
+
+
 def in_python(_program, folder):
     """The tests of bindings/python, and its example."""
     place = TOP / "bindings/python"
     where = {"SPVK_LIBRARY": shared(), "PYTHONPATH": place, "PYTHONDONTWRITEBYTECODE": 1}
     done([sys.executable, "-m", "unittest", "discover", place / "tests"], folder, **where)
     expect_example([sys.executable, place / "examples/check.py"], folder, where)
+    expect_first_words(folder, where)
 
 
 def without_its_library(_program, folder):
     """Where the module for Python finds no library, it says which variable names one; where that names none, so too."""
     (folder / "spvk.py").write_bytes((TOP / "bindings/python/spvk.py").read_bytes())
-    rows = (
-        ("", rb"OSError: the shared library libspvk\.so\.1 is not loaded \(.*\): SPVK_LIBRARY in the .* may name its file"),
-        (KERNEL, rb"OSError: the file that SPVK_LIBRARY names in the environment is not loaded \(.*\)"),
-    )
+    lacks = rb"OSError: the shared library libspvk\.so\.1 is not loaded \(.*\): SPVK_LIBRARY .* may name its file"
+    rows = (("", lacks), (KERNEL, rb"OSError: the file that SPVK_LIBRARY names in the environment is not loaded \(.*\)"))
     for named, wanted in rows:
         # (one that is installed on this machine is not found)
         here = "import ctypes; load = ctypes.CDLL; ctypes.CDLL = lambda it: load(it if '/' in it else './' + it)"

@@ -15,6 +15,7 @@ from .library import Wrong, make
 
 PAGE = TESTS.parent / "docs/USING.md"
 README = TESTS.parent / "README.md"
+SECURITY = TESTS.parent / "SECURITY.md"
 FENCE = "```"
 # The section that makes the modules which the others use.
 MAKES_MODULES = "Two modules"
@@ -183,6 +184,16 @@ def readme(program, folder):
     return None if count >= 6 else f"  README has {count} command lines"
 
 
+def strangers_looked_at(_program, _folder):
+    """Each check in a recipe of SECURITY.md looks at extended instructions too."""
+    text = SECURITY.read_text(encoding="utf-8")
+    lines = [line for _, part in sections_of(text) for it in blocks_of(part) for line in it.text.splitlines()]
+    found = [line for line in lines if re.search(r"/spv check\b", line)]
+    wrong = [line for line in found if "spv check --extended " not in line]
+    return f"  {wrong}, of {len(found)}" if wrong or len(found) < 2 else None
+
+
 def checks():
-    """The recipes, and README. They need all layers of the program."""
-    return [*recipes(), Check("README: its command lines", frozenset({"trace"}), readme)]
+    """The recipes, README and SECURITY.md. They need all layers of the program."""
+    found = [*recipes(), Check("README: its command lines", frozenset({"trace"}), readme)]
+    return [*found, Check("SECURITY: modules of strangers", frozenset(), strangers_looked_at)]
