@@ -161,9 +161,9 @@ PROMISES = (
 
 HEADING = """# What to believe
 
-What is proved is no more than what the contracts of the calls say, and these are said in definitions. This page lists the definitions that the contracts of the main calls rest on: who has read them, and finds them to say what the Khronos specification says, knows what `valid` means, and needs not read the bodies of the code, the other definitions or the proofs.
+What is proved is no more than what the contracts of the calls say, and these are said in definitions. This page lists the definitions that the contracts of the main calls rest on: whoever has read them, and finds that they say what the Khronos specification says, knows what `valid` means, and need not read the bodies of the code, the other definitions or the proofs.
 
-`tests/believe` makes this page from the files, and `tests/run` fails where it differs. The definitions that a promise shares with one above it are not listed again. Each file is in `crates/`; the numbers in square brackets in its comments are sections of the Khronos SPIR-V Specification 1.6, and 'own' marks a choice of the profile, which [PROFILE.md](PROFILE.md) states in prose. Lines of definitions and of comments are counted apart.
+`tests/believe` makes this page from the files, and `tests/run` fails where it differs. Definitions that a promise shares with one above it are not listed again. Each file is in `crates/`; the numbers in square brackets in its comments are sections of the Khronos SPIR-V Specification 1.6, and 'own' marks a choice of the profile, which [PROFILE.md](PROFILE.md) states in prose. Lines of definitions and of comments are counted apart.
 
 How to read. By rule: begin with the rule's definition in the table below, and go on to what it names, which its file has or its `use` lines bring in (`as` renames). Or in the order of the list: first what a contract names, then what that is made of; for the rules Y begin with Form, Types, Parts and Values of spv_type_forms. Names stand for what their file says or imports: `Form`, `Shape`, `Row`, `Entry`, `Sort`, `Keeps`, `Broken`, `rows`, `row_of`, `row_in`, `class_in`, `constant_of`, `value_in`, `values_of`, `is_number` and `place_of` are said in several crates, of each crate's own things.
 
