@@ -17,9 +17,9 @@
  * header, and do nothing but test pointers for null and call those; they are tested and not proved.
  *
  * What a valid module may still hold. No rule of the profile looks at the operands of OpExtInst after its number: there
- * a valid module may name ids that are over the bound or defined nowhere. With the flag SPVK_EXTENDED their ids
- * are looked at, and what is asked of them is said there. A loader that follows these ids sets it, or tests them itself.
- * A check says nothing of what the module computes, nor of the types that extended instructions take.
+ * a valid module may name ids that are over the bound or defined nowhere. With the flag SPVK_EXTENDED these ids are
+ * looked at, and what is asked of them is said there. A loader that follows them sets it, or tests them itself. A check
+ * says nothing of what the module computes, nor of the types that extended instructions take.
  *
  * Memory. All of it comes from malloc, realloc and free, which must be one allocator. No call keeps a pointer that
  * it is given after it has returned. Nothing is kept between calls but what grammars and buffers hold.
@@ -32,7 +32,7 @@
  * With SPVK_AS_1_6 a call copies the bytes of the module once more, and frees the copy before it returns. With
  * SPVK_EXTENDED a module with a fault that is explained is decoded once more, in memory of at most 17 times the module.
  * A text that `spvk_show` or `spvk_explain` makes may be as long as the longest names of the grammar times the number
- * of instructions: if the grammar or the module comes from a stranger, limit what malloc gives, and the call answers
+ * of instructions: if the grammar or the module is untrusted, limit what malloc gives, and the call answers
  * SPVK_MEMORY. A module that `spvk_assemble` makes has at most 16,777,216 bytes; its time and memory go with the
  * text.
  *

@@ -161,9 +161,9 @@ PROMISES = (
 
 HEADING = """# What to believe
 
-What is proved is no more than what the contracts of the calls say, and these are said in definitions. This page lists the definitions that the contracts of the main calls rest on: who has read them, and finds them to say what the Khronos specification says, knows what `valid` means, and needs not read the bodies of the code, the other definitions or the proofs.
+What is proved is no more than what the contracts of the calls say, and these are said in definitions. This page lists the definitions that the contracts of the main calls rest on: whoever has read them, and finds that they say what the Khronos specification says, knows what `valid` means, and need not read the bodies of the code, the other definitions or the proofs.
 
-`tests/believe` makes this page from the files, and `tests/run` fails where it differs. The definitions that a promise shares with one above it are not listed again. Each file is in `crates/`; the numbers in square brackets in its comments are sections of the Khronos SPIR-V Specification 1.6, and 'own' marks a choice of the profile, which [PROFILE.md](PROFILE.md) states in prose. Lines of definitions and of comments are counted apart.
+`tests/believe` makes this page from the files, and `tests/run` fails where it differs. Definitions that a promise shares with one above it are not listed again. Each file is in `crates/`; the numbers in square brackets in its comments are sections of the Khronos SPIR-V Specification 1.6, and 'own' marks a choice of the profile, which [PROFILE.md](PROFILE.md) states in prose. Lines of definitions and of comments are counted apart.
 
 How to read. By rule: begin with the rule's definition in the table below, and go on to what it names, which its file has or its `use` lines bring in (`as` renames). Or in the order of the list: first what a contract names, then what that is made of; for the rules Y begin with Form, Types, Parts and Values of spv_type_forms. Names stand for what their file says or imports: `Form`, `Shape`, `Row`, `Entry`, `Sort`, `Keeps`, `Broken`, `rows`, `row_of`, `row_in`, `class_in`, `constant_of`, `value_in`, `values_of`, `is_number` and `place_of` are said in several crates, of each crate's own things.
 
@@ -221,6 +221,10 @@ BY_VALID = """What a valid module is, `IsValid` alone: {count}.
 """
 
 TABLES_HEAD = """Two tables are not said again in definitions: `rows` of spv_layout/specs/Rows and `row_of` of spv_ops/specs/Row name the tables of the code, which stand there a row a line, in words and letters that the macros above them turn into values. These rows are to be read too, as definitions are; they are not among the lines that are counted here. Nor are the lists of what extended instructions take, which `facts_of` of spv_extended/specs/Facts names: how their numbers are read stands above them, and `tests/extended` compares them with Khronos' files:"""
+
+CONSTANTS_HEAD = """## Constants of the code
+
+Besides opcodes and the tables that are named above, definitions name these constants of the code. They are to be read where they stand:"""
 
 BY_RULE = """`check` takes the words of an image, which begin with a good header, and answers `IsAnswer` of them: the checked module (`IsChecked`) or its fault (`IsFault`). It answers the former exactly where the bytes of those words are a valid module (`IsValid`): they begin with a good header (`IsModule`: the rules W), the words behind it spell a list of instructions (`IsListing`: I), and the list breaks no other rule (`IsSound`: P to G). With `--extended` the list is looked at with the operands of extended instructions (`looked_at`), and must not break Y9 either. `check_stream` writes the line of the verdict on the bytes that it reads (`IsVerdict`). That words have one verdict, and bytes one line, is proved beside them (`one_answer`, `one_verdict` and `one_first` of spv_verdict). Which table a grammar file gives is said in a part of its own below, and in prose in PROFILE.md. [RULES.md](RULES.md) has a line for each code, with the code that answers it, its evidence and a case.
 
@@ -339,6 +343,15 @@ LISTS = ("spv_extended", "facts.rt", "what extended instructions take (with --ex
 
 # The constants of the code that definitions and tables name opcodes by.
 OPCODES = "spv_module/src/opcode.rt"
+
+# The other constants of the code that definitions name: their files, and what they are.
+CONSTANTS = {
+    "spv_builtin/src/words.rt": "the built-in grammar, which `tests/builtin` writes from Khronos' file",
+    "spv_rules/src/table.rt": "of each code of a verdict its name, its number in C, what it says and what breaks it",
+    "spv_rules/src/errors.rt": "the codes of errors, in order",
+    "spv_annotate/src/opencl.rt": "the instructions of OpenCL.std, each with how many operands it takes",
+    "spv_annotate/src/style.rt": "the parts of a page that are the same on each",
+}
 
 # The enums of the code whose order definitions speak of.
 ORDERS = (
@@ -591,6 +604,25 @@ def tables():
     yield f"- {', '.join(found)} of {crate}/src/{file}, {about}"
 
 
+def constants(found):
+    """A line for each file of the code with constants that these definitions name, but for opcodes and the tables."""
+    told = {OPCODES, *(f"{crate}/src/{file}" for crate, file, *_ in (*TABLES, LISTS))}
+    named_in = {}
+    for path, definition in found:
+        scope = read(path)[1]
+        code = "\n".join(re.sub(r"--.*", "", line) for line in definition.lines)
+        for first in (whole.partition(".")[0] for whole in NAME.findall(code)):
+            module, name = scope.names.get(first, ("", ""))
+            place = re.fullmatch(r"Rattle\.(\w+)\.specs\.declared\.(.+)\.TheConstants", module)
+            if place:
+                named_in.setdefault(f"{place[1]}/src/{place[2].replace('.', '/')}.rt", {})[name] = True
+    for file, names in named_in.items():
+        if file not in told:
+            if file not in CONSTANTS:
+                raise NotFound(f"{file} has constants that definitions name, and nothing says what they are")
+            yield f"- {', '.join(f'`{it}`' for it in names)} of {file}: {CONSTANTS[file]}"
+
+
 def of_valid():
     """How much there is to read to know what a valid module is."""
     module, name = VALID
@@ -629,6 +661,7 @@ def page():
             parts.append("\n".join(rules(found)) + "\n")
         parts.append("| File | Definitions | Lines | Comments | Sections |\n|---|---|---:|---:|---|")
         parts.append("\n".join(rows(found)) + "\n")
+    parts.append(CONSTANTS_HEAD + "\n\n" + "\n".join(constants(closure.found)) + "\n")
     return "\n".join(parts)
 
 
