@@ -273,8 +273,8 @@ def without_its_library(_program, folder):
     """Where the module for Python finds no library, it says which variable names one; where that names none, so too."""
     (folder / "spvk.py").write_bytes((TOP / "bindings/python/spvk.py").read_bytes())
     lacks = rb"OSError: the shared library libspvk\.so\.1 is not loaded \(.*\): SPVK_LIBRARY .* may name its file"
-    rows = (("", lacks), (KERNEL, rb"OSError: the file that SPVK_LIBRARY names in the environment is not loaded \(.*\)"))
-    for named, wanted in rows:
+    refuses = rb"OSError: the file that SPVK_LIBRARY names in the environment is not loaded \(.*\)"
+    for named, wanted in (("", lacks), (KERNEL, refuses)):
         # (one that is installed on this machine is not found)
         here = "import ctypes; load = ctypes.CDLL; ctypes.CDLL = lambda it: load(it if '/' in it else './' + it)"
         words = [sys.executable, "-B", "-c", f"{here}; import spvk"]
