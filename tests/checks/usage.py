@@ -173,7 +173,7 @@ def tells_help(program, folder):
     for command in COMMANDS:
         got = run(program, ["help", command], folder, env=under())
         text = got.out.decode()
-        parts = (f"Usage: {command} ", "xit status", f"spv {command}")
+        parts = (f"Usage: spv {command} ", "xit status", f"\n  spv {command} ")
         if (got.err, got.status) != (b"", 0) or not all(part in text for part in parts):
             return f"  help {command}: {got}"
         rows = [([command, flag], got) for flag in ("--help", "-h")]

@@ -1,3 +1,4 @@
 pub mod Asking
 pub mod Numerals
+pub mod OneCommand
 pub mod Table

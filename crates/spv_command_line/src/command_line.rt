@@ -12,7 +12,7 @@ use crate::options::{
     color_in, form_in, is_as_1_6, is_extended, is_set, naming_in, number_if_given, number_of,
     numbers_of,
 };
-use crate::program::all_words;
+use crate::program::{all_words, words_for};
 use clap::ArgMatches;
 use clap::error::ErrorKind;
 use spv_rules::AnyCode;
@@ -521,7 +521,7 @@ pub fn arguments_in<'a>(
 ) -> Result<Command<'a>, UseError>
     ensures { Answers (option_map (λ g. g.now) environment.entry) (map (λ w. w.now) words.now) result }
 {
-    let program = all_words(alloc)?;
+    let program = words_for(alloc, words)?;
     let matches = match program.try_get_matches_from(words) {
         Ok(matches) => matches,
         Err(error) => return Err(refusal(error.kind())),

@@ -1,11 +1,12 @@
 //! The command line that `clap` reads: a table of the commands and of what stands after the name of each.
-ghost use Rattle.std.specs.Prelude.{◌≡◌, ◌∷◌, [], false, IfOk, map};
+ghost use Rattle.std.specs.Prelude.{◌≡◌, ◌∷◌, [], false, IfOk, IfSome, map};
 ghost use Rattle.clap.specs.Words.{app_of, rule_of, shape_of};
 ghost use Rattle.clap.specs.declared.builder.command.Command.TheViews.{out-Command};
 ghost use Rattle.spv_command_line.specs.CommandLine.{annotate_command, asm_command, bare_program, check_command};
 ghost use Rattle.spv_command_line.specs.CommandLine.{explain_command, grammar_command, graph_command, program};
 ghost use Rattle.spv_command_line.specs.CommandLine.{rules_command, show_command, trace_command};
-ghost use Rattle.spv_command_line.specs.inner.Program.{rule_by, shape_by, with_arguments, with_commands};
+ghost use Rattle.spv_command_line.specs.inner.Program.{IsOneOf, IsRowOf, ReadsAsProgram, rule_by, shape_by};
+ghost use Rattle.spv_command_line.specs.inner.Program.{with_arguments, with_command, with_commands};
 
 use crate::manual;
 use clap::{Arg, ArgAction};
@@ -403,6 +404,13 @@ fn bare_words<'a>(alloc: Global) -> clap::Command<'a>
         .subcommand_required(true)
 }
 
+/// The same, which help and errors name before each command.
+fn named_words<'a>(alloc: Global) -> Result<clap::Command<'a>, AllocError>
+    ensures { IfOk result (λ c. app_of c ≡ bare_program) }
+{
+    bare_words(alloc).bin_name("spv")
+}
+
 /// A program with these commands more.
 fn with_commands<'a>(
     alloc: Global,
@@ -443,28 +451,64 @@ fn others() -> &'static [Entry]
 pub fn all_words<'a>(alloc: Global) -> Result<clap::Command<'a>, AllocError>
     ensures { IfOk result (λ c. app_of c ≡ program) }
 {
-    let program = with_commands(alloc, bare_words(alloc), judging())?;
+    let program = with_commands(alloc, named_words(alloc)?, judging())?;
     let program = with_commands(alloc, program, showing())?;
     with_commands(alloc, program, others())
 }
 
-/// The name among these commands that is this word, if one is.
-fn name_among(rows: &'static [Entry], word: &str) -> Option<&'static str> {
+/// The command line of this command alone.
+fn words_of<'a>(alloc: Global, row: &Entry) -> Result<clap::Command<'a>, AllocError>
+    ensures { IfOk result (λ c. app_of c ≡ with_command bare_program row.now) }
+{
+    bare_words(alloc).subcommand(command_of(alloc, row)?)
+}
+
+/// The command of this name among these, if one is.
+fn row_among(rows: &'static [Entry], word: &str) -> Option<&'static Entry>
+    ensures { IfSome result (λ row. (row.now.name.now ≡ word.now)
+        × IsOneOf (shape_by row.now) (map shape_by rows.now)) }
+{
     for row in rows {
         if row.name == word {
-            return Some(row.name);
+            return Some(row);
         }
     }
     None
 }
 
+/// The command of this name, if there is one.
+#[tactic(auto, using(crate::proofs::OneCommand::of_tables))]
+fn row_named(word: &str) -> Option<&'static Entry>
+    ensures { IfSome result (λ row. (row.now.name.now ≡ word.now) × IsOneOf (shape_by row.now) program.subs) }
+{
+    let first = row_among(judging(), word);
+    let next = row_among(showing(), word);
+    let last = row_among(others(), word);
+    first.or(next).or(last)
+}
+
+/// The command that the words begin with, if they begin with one.
+#[tactic(auto, using(crate::proofs::OneCommand::of_first))]
+fn row_of(words: &[&str]) -> Option<&'static Entry>
+    ensures { IfSome result (λ row. IsRowOf row.now (map (λ w. w.now) words.now)) }
+{
+    let word = words.first()?;
+    row_named(word)
+}
+
 /// The name of the command that the words begin with, if they begin with one.
 pub fn command_named(words: &[&str]) -> Option<&'static str> {
-    let word = words.first()?;
-    for rows in [judging(), showing(), others()] {
-        if let Some(name) = name_among(rows, word) {
-            return Some(name);
-        }
+    let row = row_of(words)?;
+    Some(row.name)
+}
+
+/// The command line that these words are read by: where they begin with the name of a command it has this one alone,
+/// since the making of a command costs more than the reading of most words.
+pub fn words_for<'a>(alloc: Global, words: &[&str]) -> Result<clap::Command<'a>, AllocError>
+    ensures { IfOk result (λ c. ReadsAsProgram (app_of c) (map (λ w. w.now) words.now)) }
+{
+    match row_of(words) {
+        Some(row) => words_of(alloc, row),
+        None => all_words(alloc),
     }
-    None
 }
