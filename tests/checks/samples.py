@@ -1,10 +1,14 @@
-"""The constants of crates/spv_samples, which tests of the crates read, as the files here give them."""
+"""What tests of the crates read, as the files here give it: the constants of crates/spv_samples, and the grammar file of
+the stored run of crates/spv."""
 
+import re
 import struct
 
+from .cases import all_cases, pieces
 from .common import TESTS
 
 FOLDER = TESTS.parent / "crates/spv_samples/src"
+STORED = TESTS.parent / "crates/spv/data/profile.json"
 # Each module with its text: the constant's name, the module and the text.
 MODULES = (
     ("SMALLEST_KERNEL", "modules/smallest-kernel.spv", "modules/smallest-kernel.spvasm"),
@@ -20,6 +24,7 @@ MODULES = (
         "modules/call-of-a-later-function.spvasm",
     ),
 )
+REACHES_VALUES = re.compile(r"valid|fault [AG]\d .*")
 
 
 def words(data):
@@ -58,11 +63,37 @@ def modules():
     return "\n".join(parts)
 
 
+def reaches_values(case):
+    """Whether the rules before those of values on walks are unbroken in the module of a case."""
+    run, grammar, out = case.one("run"), case.all("G"), case.all("out")
+    if not run.startswith(("check ", "trace ")) or grammar != ["profile.json"] or case.all("old"):
+        return False
+    if run.startswith("trace ") and not case.all("err"):
+        return bool(out) and not re.match("fault [^AG]", out[0])
+    return bool(out) and REACHES_VALUES.fullmatch(out[0]) is not None
+
+
+def rows():
+    """The file with the modules of all cases that are checked up to the values on walks."""
+    found = {}
+    for case in all_cases():
+        file = case.all("F")
+        is_whole = case.all("text") or len(file) == 1 and re.fullmatch(r"modules/\S+\.spv", file[0])
+        if reaches_values(case) and is_whole:
+            found.setdefault(pieces(case)[0][0], case.one("case"))
+    text = "".join(f"\n{name}:\n{words(content)};" for content, name in found.items())
+    head = "//! Modules that are checked up to the values on walks. Written by `tests/samples`.\n\n"
+    comment = "Each module of such a case under `tests/profile.json`: the case's name, and its words."
+    return head + constant("CHECKED_TO_VALUES", text + "\n", comment)
+
+
 def files():
     """The files that are written, each with its text."""
     return {
         FOLDER / "profile.rt": profile(),
         FOLDER / "modules.rt": modules(),
+        FOLDER / "rows.rt": rows(),
+        STORED: (TESTS / "profile.json").read_text(encoding="utf-8"),
     }
 
 

@@ -110,26 +110,49 @@ fn is_header_refused(alloc: Global, table: &Table, header: Header) -> bool {
     refusal(alloc, table, header, 253, &[Word(1)]) == Ok(Some(n1))
 }
 
-/// Whether an OpName with a name of so many octets is refused so: the longest has 262,131.
-fn is_length_told(alloc: Global, table: &Table, octets: usize, told: Option<EncodeError>) -> bool {
-    let Ok(name) = "a".repeat(alloc, octets) else {
-        return false;
-    };
-    let operands = [Id(1), Text(name.as_str())];
-    refusal(alloc, table, header(0x0001_0600, 5, 0), 5, &operands) == Ok(told)
+/// The length in words of the image of a module of one instruction, or how that is refused.
+fn length_of(
+    alloc: Global,
+    table: &Table,
+    opcode: u16,
+    operands: &[Operand<'_>],
+) -> Result<Result<u32, EncodeError>, Memory> {
+    let mut module = Module::new(alloc, header(0x0001_0600, 5, 0));
+    module.push(opcode, operands)?;
+    Ok(encode(alloc, table, &module).map(|image| image.len()))
+}
+
+/// The same of an OpName with a name of so many octets.
+fn length_with_name(
+    alloc: Global,
+    table: &Table,
+    octets: usize,
+) -> Result<Result<u32, EncodeError>, Memory> {
+    let name = "a".repeat(alloc, octets)?;
+    length_of(alloc, table, 5, &[Id(1), Text(name.as_str())])
+}
+
+/// How the only instruction is refused.
+fn refused(code: EncodeCode) -> Result<u32, EncodeError> {
+    Err(EncodeError { code, inst: 0 })
+}
+
+/// An OpReturn with a word too many, the longest OpName, of 65,535 words behind the five of the header, and a longer one.
+#[test]
+fn one_instruction(rt: HostRuntime) -> Result<(), Fail> {
+    let table = Table::from_slice(rt.alloc(), PROFILE.as_bytes())?;
+    let with_word = length_of(rt.alloc(), &table, 253, &[Word(1)])?;
+    assert!(rt; with_word == refused(EncodeCode::N2));
+    assert!(rt; length_with_name(rt.alloc(), &table, 262_131)? == Ok(65_540));
+    assert!(rt; length_with_name(rt.alloc(), &table, 262_132)? == refused(EncodeCode::N3));
+    Ok(())
 }
 
 #[test]
-fn refuses_headers_and_lengths(rt: HostRuntime) -> Result<(), Fail> {
+fn refuses_headers(rt: HostRuntime) -> Result<(), Fail> {
     let table = Table::from_slice(rt.alloc(), PROFILE.as_bytes())?;
     assert!(rt; is_header_refused(rt.alloc(), &table, header(0x0001_0600, 0, 0)));
     assert!(rt; is_header_refused(rt.alloc(), &table, header(0x0001_0500, 100, 0)));
     assert!(rt; is_header_refused(rt.alloc(), &table, header(0x0001_0600, 100, 1)));
-    let n3 = EncodeError {
-        code: EncodeCode::N3,
-        inst: 1,
-    };
-    assert!(rt; is_length_told(rt.alloc(), &table, 262_131, None));
-    assert!(rt; is_length_told(rt.alloc(), &table, 262_132, Some(n3)));
     Ok(())
 }

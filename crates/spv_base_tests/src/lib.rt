@@ -8,8 +8,6 @@ mod decoding;
 #[cfg(test)]
 mod encoding;
 #[cfg(test)]
-mod fakes;
-#[cfg(test)]
 mod grammar_texts;
 #[cfg(test)]
 mod messages;

@@ -5,8 +5,8 @@ use spv_inst::{Module, Stop, decode};
 use spv_parser::{AsmCode, AsmError, assemble};
 use spv_printer::{EncodeCode, EncodeError, encode, show, show_image, show_inst, show_insts};
 use spv_samples::{
-    CALL_OF_LATER_FUNCTION, LOAD_WITH_MASK, LOOP_WITH_PHI, PROFILE, Told, WrongAnswer,
-    each_refused, image_of,
+    CALL_OF_LATER_FUNCTION, LOAD_WITH_MASK, LOOP_WITH_PHI, PROFILE, SMALLEST_KERNEL, Told,
+    WrongAnswer, each_refused, image_of,
 };
 use spv_words::{FromRead, Image, Order, WordError, read_image};
 use std::alloc::{AllocError, Global};
@@ -133,7 +133,12 @@ fn of_sample(alloc: Global, table: &Table, words: &str, text: &str) -> Result<()
 #[test]
 fn modules(rt: HostRuntime) -> Result<(), Fail> {
     let table = Table::from_slice(rt.alloc(), PROFILE.as_bytes())?;
-    for sample in [LOOP_WITH_PHI, LOAD_WITH_MASK, CALL_OF_LATER_FUNCTION] {
+    for sample in [
+        SMALLEST_KERNEL,
+        LOOP_WITH_PHI,
+        LOAD_WITH_MASK,
+        CALL_OF_LATER_FUNCTION,
+    ] {
         of_sample(rt.alloc(), &table, sample.words, sample.text)?;
     }
     Ok(())
