@@ -28,6 +28,8 @@ SEED = 20_261_126
 LINK = 9
 # How many values a section of waves has: with their labels and branches 510 instructions.
 WAVES = 170
+# How many, where all of them are asked for and fit one word: few rounds do not settle them.
+FEW_WAVES = 60
 # By how far each use is from the one before, where they are spread.
 STEP = 7_919
 # How many blocks stand between one way into a section of waves and the next.
@@ -115,12 +117,12 @@ def irreducible_fault(module):
     closed(module)
 
 
-def put_section(module, head, after):
+def put_section(module, head, after, count=WAVES):
     """A chain of blocks that each have a value, and in front of it one that begins a way beside it, which comes in
-    behind each of them in turn, later than the chain does: so the values are lost one by one. The first value of the
+    behind each of them in turn, later than the chain does: so the values are lost one by one. The values of the
     chain, and what puts the way beside it."""
-    chain = [module.fresh() for _ in range(WAVES)]
-    ways = [[module.fresh() for _ in range(BESIDE)] for _ in range(WAVES - 2)]
+    chain = [module.fresh() for _ in range(count)]
+    ways = [[module.fresh() for _ in range(BESIDE)] for _ in range(count - 2)]
     begun(module, head)
     value = add(module, ONE)
     fork(module, chain[0], ways[0][0])
@@ -128,7 +130,7 @@ def put_section(module, head, after):
     for at, label in enumerate(chain):
         begun(module, label)
         values.append(add(module, value))
-        jump(module, chain[at + 1] if at + 1 < WAVES else after)
+        jump(module, chain[at + 1] if at + 1 < count else after)
 
     def put_ways():
         for at, way in enumerate(ways):
@@ -141,7 +143,7 @@ def put_section(module, head, after):
             else:
                 jump(module, chain[at + 1])
 
-    return values[0], put_ways
+    return values, put_ways
 
 
 # The words of a section of waves.
@@ -160,7 +162,7 @@ def waves(module, sections, value_at_end=None):
         jump(module, label)
         begun(module, label)
     if value_at_end is not None:
-        add(module, found[value_at_end][0])
+        add(module, found[value_at_end][0][0])
     closed_block(module)
     for _, put_ways in found:
         put_ways()
@@ -185,6 +187,26 @@ def waves_fault(module):
     opened(module)
     kernel(module)
     waves(module, 1, value_at_end=0)
+
+
+def few_waves_fault(module):
+    """A1: one section of waves of few values and a long tail, whose last block uses all values but the last, each of
+    which is lost in a round of its own."""
+    opened(module)
+    kernel(module)
+    head, label = module.fresh(), module.fresh()
+    jump(module, head)
+    values, put_ways = put_section(module, head, label, FEW_WAVES)
+    begun(module, label)
+    while module.room() > (4 * BESIDE + 2) * FEW_WAVES + LINK * FEW_WAVES:
+        label = module.fresh()
+        jump(module, label)
+        begun(module, label)
+    for value in values[:-1]:
+        add(module, value)
+    closed_block(module)
+    put_ways()
+    module.put(op.FUNCTION_END)
 
 
 def irreducible_waves_fault(module):
@@ -536,6 +558,7 @@ HOSTILE = {
         irreducible_waves,
         irreducible_waves_fault,
         waves_fault,
+        few_waves_fault,
         irreducible_loops,
         switched_loops,
         climb,

@@ -1,10 +1,14 @@
 mod Beginning
+mod Bits
 mod Climbing
 mod Early
 mod Edged
+mod Lacking
 mod Left
+mod Lines
 mod Meets
 mod Opening
+mod Rounds
 mod Stepping
 mod Targets
 mod Worked

@@ -5,5 +5,6 @@ pub mod Edges
 pub mod First
 pub mod Open
 pub mod Order
+pub mod Rows
 pub mod Spanning
 pub mod Steps

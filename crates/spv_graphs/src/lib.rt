@@ -2,7 +2,10 @@
 //! dominator tree, and shortest ways.
 #![tactic(auto)]
 
+mod asked;
+mod defined;
 mod edge;
+mod few;
 mod first;
 mod forward;
 mod graph;
@@ -14,6 +17,7 @@ mod paths;
 mod queries;
 mod rows;
 mod semidominators;
+mod settle;
 mod spanning;
 mod steps;
 mod tree;
