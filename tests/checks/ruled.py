@@ -23,7 +23,7 @@ GRAMMAR = TESTS / "profile.json"
 # Keys that come with none of these modules.
 SELDOM = ("bit", "opcode", "row")
 BELOW = "see below"
-OPERATIONS = "each operation asks for its own: docs/PROFILE.md has the table of operations"
+OPERATIONS = "each operation has its own conditions: docs/PROFILE.md has the table of operations"
 
 
 @dataclass

@@ -237,7 +237,7 @@ def real_kernels(program, folder):
     names = [it.name for it in made]
     older = [it for it in made if it.read_bytes()[4:8] != struct.pack("<I", WANTED)]
     if len(made) != KERNELS or not older:
-        return f"  {len(made)} modules, {len(older)} of them of another version than 1.6"
+        return f"  {len(made)} modules, {len(older)} of them not of version 1.6"
     place = folder / "replaced"
     place.mkdir()
     for path in made:

@@ -23,19 +23,19 @@ impl Error for OutOfMemory {}
 #[derive(Clone, Copy, Debug, PartialEq, Eq)]
 #[non_exhaustive]
 pub enum GrammarError {
-    /// It is not one JSON value of at most 127 levels.
+    /// It is not one JSON value, at most 127 levels deep.
     J1,
-    /// Something is of another sort than it must be, or a key is missing.
+    /// Something has the wrong JSON type, or a key is missing.
     J2,
-    /// An opcode or a value is out of its range or form.
+    /// An opcode or a value is out of range or ill-formed.
     J3,
-    /// An operand, a parameter or a base names a kind that the file does not have.
+    /// An operand, a parameter or a base names a kind that the file does not define.
     J4,
-    /// A category or a quantifier that there is not.
+    /// A category or a quantifier is unknown.
     J5,
     /// A result kind stands where none may.
     J6,
-    /// A Composite has no bases, or one that is neither of category Id nor Literal.
+    /// A Composite has no bases, or has one whose category is neither Id nor Literal.
     J7,
     /// There was no memory.
     OutOfMemory,

@@ -113,31 +113,36 @@ impl ErrorCode {
     /// What it says, in a sentence, with its sources in brackets.
     pub fn sentence(self) -> &'static str {
         match self {
-            ErrorCode::J1 => "A grammar file is one JSON value of at most 127 levels. [own]",
-            ErrorCode::J2 => "What a table is made of is there, and of its sort. [own]",
-            ErrorCode::J3 => "An opcode and a value have their range and form. [own]",
-            ErrorCode::J4 => "A kind that is named is one of the file. [own]",
-            ErrorCode::J5 => "A category and a quantifier is one that there is. [own]",
+            ErrorCode::J1 => "A grammar file is one JSON value, at most 127 levels deep. [own]",
+            ErrorCode::J2 => {
+                "Required members are present, and all that is read has the right JSON type. [own]"
+            }
+            ErrorCode::J3 => "Each opcode and each value is in range and well formed. [own]",
+            ErrorCode::J4 => "Each kind that is named is defined in the file. [own]",
+            ErrorCode::J5 => "Each category and each quantifier is a known one. [own]",
             ErrorCode::J6 => {
-                "An instruction has a result kind once, without a quantifier; parameters and bases have none. [own]"
+                "An instruction has each result kind at most once, without a quantifier; parameters and bases have \
+                none. [own]"
             }
             ErrorCode::J7 => "A Composite has bases, each of category Id or Literal. [own]",
-            ErrorCode::J8 => "There is memory for the table. [own]",
+            ErrorCode::J8 => "Memory suffices for the table. [own]",
             ErrorCode::S1 => "A text begins with the five lines of its header. [own]",
-            ErrorCode::S2 => "A line has the name of an instruction at its place. [own]",
-            ErrorCode::S3 =>
-                "A line has the operands and the result of its instruction, each in its form. [own]",
+            ErrorCode::S2 => "A line has the name of an instruction in the right place. [own]",
+            ErrorCode::S3 => {
+                "A line has the operands and the result of its instruction, each in the right form. [own]"
+            }
             ErrorCode::S4 => "A number fits its place. [own]",
             ErrorCode::S5 => {
-                "An instruction has at most 65,535 words, and a module 16,777,216 bytes. [2.3; own]"
+                "An instruction has at most 65,535 words, and a module at most 16,777,216 bytes. [2.3; own]"
             }
-            ErrorCode::S6 => "There is memory for the module of a text. [own]",
-            ErrorCode::X1 => "The function of a run is that of an entry point. [own]",
-            ErrorCode::X2 => "The function that is asked for is one of the module. [own]",
-            ErrorCode::N1 => "The header of a module that is encoded keeps W5 to W7. [own]",
-            ErrorCode::N2 => "The grammar file has the instruction, with these operands. [own]",
+            ErrorCode::S6 => "Memory suffices for the module of a text. [own]",
+            ErrorCode::X1 => "The function that is run is that of an entry point. [own]",
+            ErrorCode::X2 => "The requested function is in the module. [own]",
+            ErrorCode::N1 => "The header of a module that is encoded satisfies W5 to W7. [own]",
+            ErrorCode::N2 => "The grammar has the instruction, with these operands. [own]",
             ErrorCode::N3 => {
-                "An instruction that is encoded has at most 65,535 words, and a module 16,777,216 bytes. [2.3; own]"
+                "An instruction that is encoded has at most 65,535 words, and a module at most 16,777,216 bytes. [2.3; \
+                own]"
             }
         }
     }
@@ -149,52 +154,56 @@ impl ErrorCode {
                 "the file is not one JSON value: it is ill-formed, not UTF-8, empty, or deeper than 127 levels"
             }
             ErrorCode::J2 => {
-                "something is of another sort than it must be: what should be an object is none, a key is missing, or \
-                its value is of another sort (null too; a mask's value as a number; an opcode as a text)"
+                "something has the wrong JSON type: what should be an object is not one, a key is missing, or its \
+                value has the wrong type (null too; a mask's value as a number; an opcode as a text)"
             }
             ErrorCode::J3 => {
-                "an opcode or value out of its range or form: 65,536 as an opcode, 1.5, 1.0, a mask's value without 0x \
-                or with nine digits"
+                "an opcode or value is out of range or ill-formed: 65,536 as an opcode, 1.5, 1.0, a mask's value \
+                without 0x or with nine digits"
             }
             ErrorCode::J4 => {
-                "an operand, a parameter or a base names a kind that the file does not have"
+                "an operand, a parameter or a base names a kind that the file does not define"
             }
-            ErrorCode::J5 => "a category or quantifier that there is not",
+            ErrorCode::J5 => "an unknown category or quantifier",
             ErrorCode::J6 => {
                 "the same result kind twice in one instruction, or a result kind with a quantifier, among parameters, \
                 or among bases"
             }
             ErrorCode::J7 => {
-                "a Composite has no bases, or one that is neither of category Id nor Literal"
+                "a Composite has no bases, or has one whose category is neither Id nor Literal"
             }
-            ErrorCode::J8 => "there was no memory for the table: told as error memory",
+            ErrorCode::J8 => "there was not enough memory for the table: reported as error memory",
             ErrorCode::S1 => {
-                "a header line is missing or has another form, or the bound is not from 1 to 4,194,303, however large"
+                "a header line is missing or has the wrong form, or the bound, however large, is not from 1 to \
+                4,194,303"
             }
             ErrorCode::S2 => {
-                "no known instruction's name stands at its place, or a #N of none, however large; an empty line has no \
-                name"
+                "no known instruction's name is in the right place, or a #N there, however large, is the opcode of \
+                none; an empty line has no name"
             }
             ErrorCode::S3 => {
-                "an operand or the result is missing, is one too many, has another form (a text with a zero octet too) \
-                or an unknown name; or a number's width is unknown, which is told before its digits are looked at"
+                "an operand or the result is missing, is one too many, has the wrong form (a text with a zero octet \
+                too) or an unknown name; or a number's width is unknown, which is reported before its digits are read"
             }
             ErrorCode::S4 => {
-                "a decimal number of the right form, that of an operand's #N too, is too large for its place; a number \
-                of one word or two is bounded by its words, not by its width. A generator over 4,294,967,295 is S4"
+                "a decimal number in the right form, also in an operand's #N, is too large for its place; a number of \
+                one or two words is bounded by its words, not by its width. A generator over 4,294,967,295 is S4"
             }
             ErrorCode::S5 => {
-                "an instruction of over 65,535 words, or an image of over 16,777,216 bytes"
+                "an instruction of more than 65,535 words, or a module of more than 16,777,216 bytes"
             }
-            ErrorCode::S6 => "out of memory, told as error memory",
-            ErrorCode::X1 => "the id is the function of no OpEntryPoint: told as error X1",
-            ErrorCode::X2 => "the id is the result of no OpFunction: told as error X2",
-            ErrorCode::N1 => "the version, the schema or the bound of the header does not fit",
+            ErrorCode::S6 => "out of memory: reported as error memory",
+            ErrorCode::X1 => "the id is not the function of an OpEntryPoint: reported as error X1",
+            ErrorCode::X2 => "the id is not the result of an OpFunction: reported as error X2",
+            ErrorCode::N1 => {
+                "the version, the schema or the bound in the header breaks W5, W6 or W7"
+            }
             ErrorCode::N2 => {
-                "the opcode has no entry, the operands are not those of its pattern, or a text has a zero octet"
+                "the grammar has no entry for the opcode, the operands do not match its entry, or a text has a zero \
+                octet"
             }
             ErrorCode::N3 => {
-                "an instruction of over 65,535 words, or an image of over 16,777,216 bytes"
+                "an instruction of more than 65,535 words, or a module of more than 16,777,216 bytes"
             }
         }
     }

@@ -53,9 +53,9 @@ pub static WORD_ROWS: &[Row] = &[
     word!(
         W1,
         1,
-        "The module can be read, and what is answered can be written.",
+        "The module can be read and the output written.",
         "own",
-        "reading FILE or writing the output failed, or the output took nothing"
+        "reading FILE or writing the output failed, or the output accepted no bytes"
     ),
     word!(
         W2,
@@ -67,23 +67,23 @@ pub static WORD_ROWS: &[Row] = &[
     word!(
         W3,
         3,
-        "A module is a sequence of words: its bytes are a multiple of four.",
+        "A module is a sequence of words: its size is a multiple of four bytes.",
         "2.3",
-        "the number of bytes is no multiple of four"
+        "the number of bytes is not a multiple of four"
     ),
     word!(
         W4,
         4,
-        "The first word is the magic number 0x07230203, in one of two byte orders.",
+        "The first word is the magic number 0x07230203, in either byte order.",
         "2.3",
-        "the magic number in neither byte order"
+        "the first word is not the magic number in either byte order"
     ),
     word!(
         W5,
         5,
         "The version, word 1, is 1.6: 0x00010600.",
         "2.3; own",
-        "another version than 1.6"
+        "the version is not 1.6"
     ),
     word!(
         W6,
@@ -104,14 +104,14 @@ pub static WORD_ROWS: &[Row] = &[
         8,
         "A module has at most 16,777,216 bytes.",
         "own",
-        "over 16,777,216 bytes came; no more is read"
+        "there are more than 16,777,216 bytes; the rest is not read"
     ),
     word!(
         W9,
         9,
-        "There is memory for the module.",
+        "Memory suffices for the module.",
         "own",
-        "there was no memory for the module"
+        "there was not enough memory for the module"
     ),
 ];
 
@@ -129,21 +129,21 @@ pub static FORM_ROWS: &[Row] = &[
         102,
         "An instruction ends within the module.",
         "2.3",
-        "the word count passes the end of the module"
+        "the word count reaches past the end of the module"
     ),
     rule!(
         I3,
         103,
-        "The grammar file has an instruction with this opcode, the low half of the first word.",
+        "The grammar has an instruction with this opcode, the low half of the first word.",
         "3.49",
         "the grammar has no instruction with this opcode"
     ),
     rule!(
         I4,
         104,
-        "An instruction has all operands that the grammar asks for.",
+        "An instruction has every operand that the grammar requires.",
         "2.3",
-        "an operand is missing: the instruction's words end too early, also in the middle of a number"
+        "an operand is missing: the instruction's words end too early, perhaps in the middle of a number"
     ),
     rule!(
         I5,
@@ -155,30 +155,30 @@ pub static FORM_ROWS: &[Row] = &[
     rule!(
         I6,
         106,
-        "A value is one that its kind has in the grammar file.",
+        "A value is one that the grammar has for its kind.",
         "3",
-        "a value that the kind has no enumerant for"
+        "a value for which its kind has no enumerant"
     ),
     rule!(
         I7,
         107,
-        "Each bit of a mask is one that its kind has in the grammar file.",
+        "Each set bit of a mask is one that the grammar has for its kind.",
         "3",
-        "a mask has a bit that the kind has no enumerant for"
+        "a mask has a bit for which its kind has no enumerant"
     ),
     rule!(
         I8,
         108,
         "A string ends with a zero octet within its instruction.",
         "2.2.1",
-        "a string has no zero octet in the instruction"
+        "a string has no zero octet within its instruction"
     ),
     rule!(
         I9,
         109,
-        "After the zero octet that ends a string the rest of its last word is zero.",
+        "After the zero octet that ends a string, the rest of its last word is zero.",
         "2.2.1",
-        "after the zero octet of a string its last word is not zero"
+        "after the zero octet of a string, the rest of its last word is not zero"
     ),
     rule!(
         I10,
@@ -190,77 +190,80 @@ pub static FORM_ROWS: &[Row] = &[
     rule!(
         I11,
         111,
-        "The width of a number is told by an earlier type, and is from 1 to 64 bits.",
+        "An earlier type gives the width of a number, from 1 to 64 bits.",
         "2.2.1",
-        "a number whose width no earlier instruction tells, or which is not 1 to 64"
+        "a number whose width no earlier instruction gives, or is not from 1 to 64 bits"
     ),
     rule!(
         I12,
         112,
-        "The words of a literal are known by its kind.",
+        "The kind of a literal says how many words it has.",
         "2.2.1; own",
-        "an operand of a Literal kind that is none of those above, so no one knows its words"
+        "an operand of a kind of category Literal other than LiteralString, LiteralInteger, LiteralFloat, \
+        LiteralExtInstInteger and LiteralContextDependentNumber: its number of words is unknown"
     ),
     rule!(
         P1,
         201,
-        "The instruction is one that this checker knows (docs/PROFILE.md, 'Shapes of the instructions'), with the \
-        operands of its row.",
+        "The instruction has a row in the table of shapes, and the operands of that row: docs/PROFILE.md, 'Shapes of \
+        the instructions'.",
         "own",
         "the opcode has no row, or the operands are not those of its row"
     ),
     rule!(
         L1,
         301,
-        "Instructions stand in the order of sections, functions and blocks; a block ends with its branch, return or \
+        "Instructions come in the order of sections, functions and blocks; a block ends with a branch, return or \
         OpUnreachable before the next OpLabel.",
         "2.4",
-        "the instructions up to this one begin no module, and those before it do"
+        "no module can begin with the instructions up to this one, but one can begin with those before it"
     ),
     rule!(
         L2,
         302,
-        "A module has its memory model, and each function and block its end.",
+        "A module has a memory model, and each function and block has its end.",
         "2.4",
         "the module is incomplete: something is missing at the end"
     ),
     rule!(
         D1,
         401,
-        "An id is not 0, and below the bound.",
+        "An id is not 0 and is below the bound.",
         "2.3",
-        "a result or a use is 0, or not below the bound [2.3]"
+        "a result, a use or, with --extended, an id that an extended instruction names is 0 or not below the bound \
+        [2.3]"
     ),
     rule!(
         D2,
         402,
         "An id is the result of one instruction only.",
         "2.16",
-        "a result that an earlier instruction has too [2.16]"
+        "a result that an earlier instruction already has [2.16]"
     ),
     rule!(
         D3,
         403,
         "An id that is used is the result of some instruction.",
         "2.16",
-        "a use that no instruction of the module has as its result"
+        "a use or, with --extended, an id that an extended instruction names is the result of no instruction of the \
+        module"
     ),
     rule!(
         D4,
         404,
-        "Among types, constants and variables outside functions, and in the first debug section, an id is used after \
-        the instruction whose result it is, a forward pointer aside.",
+        "Among types, constants and variables outside functions, and in the first debug section, an id is used only \
+        after the instruction that defines it, except for forward pointers.",
         "2.4",
-        "a use in section 7a or 9, or by a line there, that no earlier instruction has as its result [2.4, 9]. Two \
-        uses in section 9 are in order all the same: the operand of OpTypeForwardPointer, and a member of an \
+        "a use in section 7a or 9, or by a line there, that is the result of no earlier instruction [2.4, 9]. Two uses \
+        in section 9 may come before the definition: the operand of OpTypeForwardPointer, and a member of an \
         OpTypeStruct that an earlier OpTypeForwardPointer names"
     ),
     rule!(
         D5,
         405,
-        "An id that is defined in a function is used in that function alone, names and decorations aside.",
+        "An id that is defined in a function is used only in that function, except by names and decorations.",
         "2.16",
-        "in sections 9 to 11, a use of a local id by an instruction that is of no function to which the id is local \
+        "in sections 9 to 11, a use of a local id by an instruction outside every function to which the id is local \
         [2.16]"
     ),
     rule!(
@@ -268,10 +271,10 @@ pub static FORM_ROWS: &[Row] = &[
         501,
         "An id is used in the role that it has: type, value, function, string, instruction set or global variable.",
         "2.16; own",
-        "the definition of a used id has not the role that the shape asks for: a type is a result of opcodes 19 to 33; \
-        a value is the result of an instruction with a result type, other than OpFunction; a function is an \
-        OpFunction; a string an OpString; a set an OpExtInstImport; a global an OpVariable before the first function. \
-        Labels are asked for by the rules of flow, any asks for nothing"
+        "the definition of a used id does not have the role that the shape requires: a type is the result of an \
+        instruction with an opcode from 19 to 33; a value is the result of an instruction with a result type, other \
+        than OpFunction; a function is an OpFunction; a string an OpString; a set an OpExtInstImport; a global an \
+        OpVariable before the first function. The rules of flow check labels; any requires nothing"
     ),
 ];
 
@@ -280,26 +283,26 @@ pub static TYPE_ROWS: &[Row] = &[
     rule!(
         C1,
         601,
-        "It is a kernel module: the capability Kernel is declared or implied, and Shader is not.",
+        "The module is a kernel module: the capability Kernel is declared or implied, and Shader is not.",
         "2.16.1; own",
         "OpMemoryModel: Kernel is not implied, or Shader is"
     ),
     rule!(
         C2,
         602,
-        "What needs a capability has one of those it lists declared or implied: an instruction, a value, a width or a \
-        count.",
+        "If an instruction, value, width or count needs one of certain capabilities, at least one of them is declared \
+        or implied.",
         "3.31",
-        "any instruction: the grammar's entry of the instruction, or that of a value or of a set bit of a mask among \
-        its operands (values of the kind Capability aside), lists capabilities, and none of them is implied; a name \
-        that the kind Capability lacks is never implied. Or a width or count asks for one that is not implied: \
-        OpTypeInt of 16 bits Int16, of 64 bits Int64; OpTypeFloat of 64 bits Float64, of 16 bits Float16Buffer or \
-        Float16; OpTypeVector of 8 or 16 components Vector16"
+        "any instruction: the grammar's entry for the instruction, or for a value or a set bit of a mask among its \
+        operands (except values of the kind Capability), lists capabilities, and none of them is implied; a name that \
+        the kind Capability lacks is never implied. Or a width or count needs one that is not implied: OpTypeInt of 16 \
+        bits Int16, of 64 bits Int64; OpTypeFloat of 64 bits Float64, of 16 bits Float16Buffer or Float16; \
+        OpTypeVector of 8 or 16 components Vector16"
     ),
     rule!(
         M1,
         701,
-        "The addressing model is Physical32 or Physical64, and the memory model OpenCL.",
+        "The addressing model is Physical32 or Physical64, and the memory model is OpenCL.",
         "3.4, 3.5; own",
         "OpMemoryModel: the addressing model is neither Physical32 (1) nor Physical64 (2), or the memory model is not \
         OpenCL (2)"
@@ -307,7 +310,7 @@ pub static TYPE_ROWS: &[Row] = &[
     rule!(
         E1,
         801,
-        "The module has an entry point, or the capability Linkage.",
+        "The module has an entry point or the capability Linkage.",
         "2.16.1",
         "OpMemoryModel: there is no OpEntryPoint, and Linkage is not implied"
     ),
@@ -315,17 +318,17 @@ pub static TYPE_ROWS: &[Row] = &[
         E2,
         802,
         "An entry point is a kernel that is defined, returns void and is never called; OpExecutionMode names an entry \
-        point; a function without a body has linkage Import, and one with a body has not.",
+        point; a function has linkage Import if and only if it has no body.",
         "2.16.1",
-        "OpEntryPoint: the execution model is not Kernel (6), or the function is a declaration, has another result \
-        type than void, or is called by an OpFunctionCall\nOpExecutionMode: its function is that of no \
-        OpEntryPoint\nOpFunction: a declaration that no OpDecorate gives the decoration LinkageAttributes (41) with a \
-        text and the LinkageType Import (1), or a definition that one does"
+        "OpEntryPoint: the execution model is not Kernel (6), or the function is a declaration, has a result type \
+        other than void, or is called by an OpFunctionCall\nOpExecutionMode: its function is not that of an \
+        OpEntryPoint\nOpFunction: a declaration to which no OpDecorate gives the decoration LinkageAttributes (41) \
+        with a text and the LinkageType Import (1), or a definition to which one does"
     ),
     rule!(
         Y2,
         502,
-        "A type has a width, signedness (0), count, length and parts that it may have: see `spv rules Y2`.",
+        "A type's width, signedness (0), count, length and parts are allowed ones: see `spv rules Y2`.",
         "3.49.6",
         "OpTypeInt: width 8, 16, 32 or 64, signedness 0. OpTypeFloat: width 16, 32 or 64. OpTypeVector: 2, 3, 4, 8 or \
         16 components of an int, float or bool type. OpTypeArray: elements of a data type, and the length is an \
@@ -337,10 +340,10 @@ pub static TYPE_ROWS: &[Row] = &[
     rule!(
         Y3,
         503,
-        "A type other than an array, a struct or a pointer is declared once.",
+        "A type other than an array, struct or pointer is declared only once.",
         "2.8",
-        "a type: an OpTypeVoid, OpTypeBool, OpTypeInt, OpTypeFloat, OpTypeVector, OpTypeOpaque or OpTypeFunction that \
-        has the opcode and, its result aside, the operands of an earlier one [2.8]"
+        "a type: an OpTypeVoid, OpTypeBool, OpTypeInt, OpTypeFloat, OpTypeVector, OpTypeOpaque or OpTypeFunction with \
+        the same opcode and, apart from its result, the same operands as an earlier one [2.8]"
     ),
     rule!(
         Y4,
@@ -357,23 +360,24 @@ pub static TYPE_ROWS: &[Row] = &[
     rule!(
         Y5,
         505,
-        "The types of the result and the operands are those that the operation takes: docs/PROFILE.md, 'Operations'.",
+        "The result and the operands have the types that the operation requires: docs/PROFILE.md, 'Operations'.",
         "3.49",
-        "each operation asks for its own: docs/PROFILE.md has the table of operations"
+        "each operation has its own conditions: docs/PROFILE.md has the table of operations"
     ),
     rule!(
         Y6,
         506,
         "A function and its parameters have the types that its function type names.",
         "3.49.9",
-        "OpFunction: its last operand is no OpTypeFunction, or one with another return type than the result type, or \
-        with another number of parameters than the function has\nOpFunctionParameter: its type is not the one at its \
-        place in the function's OpTypeFunction"
+        "OpFunction: its last operand is not an OpTypeFunction, or is one whose return type is not the result type, or \
+        whose number of parameters is not the function's\nOpFunctionParameter: its type is not the one at its place in \
+        the function's OpTypeFunction"
     ),
     rule!(
         Y7,
         507,
-        "A return hands back what the function's type says: nothing, or a value of that type.",
+        "OpReturn is used only in a function that returns void, and OpReturnValue returns a value of the function's \
+        result type.",
         "3.49.17",
         "OpReturn, OpReturnValue: OpReturn in a function whose result type is not void; OpReturnValue of a value whose \
         type is not the function's result type"
@@ -381,7 +385,7 @@ pub static TYPE_ROWS: &[Row] = &[
     rule!(
         Y8,
         508,
-        "A call has the result and the arguments of the callee's function type.",
+        "The result type and the arguments of a call match the callee's function type.",
         "3.49.9",
         "OpFunctionCall: its result type, or the types of its arguments in number and order, are not those of the \
         callee's OpTypeFunction, or the callee has none"
@@ -389,16 +393,16 @@ pub static TYPE_ROWS: &[Row] = &[
     rule!(
         F1,
         901,
-        "A branch or a merge names labels.",
+        "Each label that a branch or a merge names is an OpLabel.",
         "2.4",
-        "a terminator or a merge: a label that it names is no OpLabel [2.4]"
+        "a terminator or a merge: a label that it names is not an OpLabel [2.4]"
     ),
     rule!(
         F2,
         902,
         "No branch leads to the first block of a function.",
         "2.4",
-        "a terminator: a target is the label of an entry block: the first OpLabel of a function [2.4]"
+        "a terminator: a target is the label of an entry block, the first OpLabel of a function [2.4]"
     ),
     rule!(
         F3,
@@ -427,8 +431,8 @@ pub static TYPE_ROWS: &[Row] = &[
         1002,
         "A value that OpPhi pairs with a parent is defined on every walk to that parent's end.",
         "2.16",
-        "OpPhi: some walk ends there, and the value that is paired with the block which the walk came from is local \
-        and the result of no place before the walk's last OpLabel [2.16]"
+        "OpPhi: some walk ends there, and the value paired with the block that the walk came from is local and is the \
+        result of no place before the walk's last OpLabel [2.16]"
     ),
     rule!(
         G1,
@@ -441,10 +445,10 @@ pub static TYPE_ROWS: &[Row] = &[
     rule!(
         Y9,
         509,
-        "An extended instruction is one of its set, with as many operands as that takes.",
+        "OpExtInst with the set OpenCL.std calls an instruction that the set has, with as many operands as it takes.",
         "3.49.4",
-        "OpExtInst of a set that OpExtInstImport names OpenCL.std: the set has no instruction of its number, or one that \
-        takes fewer or more operands; asked only where extended instructions are looked at (own)"
+        "OpExtInst of a set that OpExtInstImport names OpenCL.std: the set has no instruction with its number, or one \
+        that takes fewer or more operands; checked only with --extended (own)"
     ),
 ];
 
