@@ -5,3 +5,5 @@
 pub mod branches;
 pub mod calls;
 pub mod walks;
+
+pub use spv_graphs::meet;
