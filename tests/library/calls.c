@@ -469,10 +469,11 @@ static int statuses(void) {
         const char *said = spvk_status_text(status);
         CHECK((said != NULL) == is_one);
         if (said == NULL) continue;
-        CHECK(strlen(said) > 9 && spvk_status_text(status) == said);
+        CHECK(strlen(said) >= strlen("success") && spvk_status_text(status) == said);
         count++;
     }
-    CHECK(count == 13 && strcmp(spvk_status_text(SPVK_MEMORY), "out of memory") == 0);
+    CHECK(count == 13 && strcmp(spvk_status_text(SPVK_OK), "success") == 0);
+    CHECK(strcmp(spvk_status_text(SPVK_MEMORY), "out of memory") == 0);
     CHECK(spvk_status_text(UINT32_MAX) == NULL);
     return 0;
 }

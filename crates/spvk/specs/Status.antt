@@ -17,7 +17,7 @@ status_of grammar.J8 = 1
 -- what a status says; none where there is no such status
 abbrev pub status_text : ℕ → Option (List ℕ)
 status_text n =
-    if nat_eq n 0 then Some (codes "the call did what it is for") else (
+    if nat_eq n 0 then Some (codes "success") else (
     if nat_eq n 1 then Some (codes "out of memory") else (
     if nat_eq n 2 then Some (codes "there is no grammar") else (
     if nat_eq n 3 then Some (codes "a pointer is null that must not be") else (

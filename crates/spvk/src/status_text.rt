@@ -10,7 +10,7 @@ fn status_text(status: u32) -> Option<&'static str>
     ensures { option_map (λ t. t.now) result ≡ option_map (λ said. said ++ 0 ∷ []) (text_of_status status) }
 {
     match status {
-        0 => Some("the call did what it is for\0"),
+        0 => Some("success\0"),
         1 => Some("out of memory\0"),
         2 => Some("there is no grammar\0"),
         3 => Some("a pointer is null that must not be\0"),
