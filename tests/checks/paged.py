@@ -13,8 +13,10 @@ from dataclasses import dataclass, field
 from html.parser import HTMLParser
 from typing import Dict, List, Optional, Union
 
+from reading.annotate import Reading
 from reading.assemble import assembled
 from reading.facts import FUNCTION, LABEL, Facts
+from reading.text import visible
 from reading.verdict import grammar_in
 
 from .annotated import BEGUN, DECLARATIONS, ENDED, LOOP, asked, code_of, functions_of, text_of
@@ -168,7 +170,7 @@ def form_differs(page, root, wrong, name):
     for word in ("prefers-color-scheme", "@media print"):
         if word not in style:
             found.append(f"the style lacks {word}")
-    if only(root, "title").text() != name:
+    if only(root, "title").text() != visible(name):
         found.append(f"the title {only(root, 'title').text()!r} for {name!r}")
     return found
 
@@ -210,8 +212,6 @@ def links_differ(root, facts, is_part=False):
     On a page of one function a link may lead to an instruction of another part of the module, which is not there."""
     found, marked, (anchors, twice) = [], Marked(root), anchors_of(root)
     lines = marked.lines
-    # (a section that begins twice, in a module that breaks L1, has its anchor twice)
-    twice = {anchor for anchor in twice if not anchor.startswith("s")}
     if twice:
         found.append(f"anchors twice: {sorted(twice)[:5]}")
     linked = set()
@@ -244,9 +244,9 @@ def places_of(lines):
 def unlinked(root, facts, marked, linked):
     """The uses of ids that are no link, although the line that defines them is there; and the definitions that have no
     links to their uses, the first fifty."""
-    place_of, found, users = places_of(marked.lines), [], {}
-    for number, inst in enumerate(facts.insts):
-        for of in dict.fromkeys(what[0] for sort, *what in inst.operands if sort in ("Type", "Id")):
+    place_of, found, users, reading = places_of(marked.lines), [], {}, Reading(facts)
+    for number in range(len(facts.insts)):
+        for of in dict.fromkeys(reading.ids(number, ("Type", "Id"))):
             users.setdefault(facts.first.get(of), []).append(f"#{number}")
             is_shown = number in place_of and facts.first.get(of) in place_of
             if is_shown and (place_of[number], f"%{of}") not in linked:
@@ -368,7 +368,8 @@ def hostile_paged(program, folder):
     content = hostile_content()
     facts = Facts(grammar_in(GRAMMAR), content)
     (folder / "<").mkdir()
-    for name in ("module.spv", "<script>.spv", "</title><b>&amp;.spv", "a\"b'.spv", "größe.spv"):
+    names = ["module.spv", "<script>.spv", "</title><b>&amp;.spv", "a\"b'.spv", "größe.spv", "\x1b\x7f\x85\xa0.spv"]
+    for name in names:
         (folder / name).write_bytes(content)
         wrong = module_differs(program, folder, facts, name)
         if wrong:

@@ -1,5 +1,6 @@
 """The text for reading, from docs/PROFILE.md, 'The text for reading'."""
 
+import html
 import json
 import math
 import re
@@ -7,6 +8,7 @@ import struct
 from functools import lru_cache
 from pathlib import Path
 
+from .extended import HEAD, called, is_id, kinds_of
 from .facts import FUNCTION, FUNCTION_END, LABEL
 from .text import visible
 
@@ -18,8 +20,8 @@ OPENCL_FILE = Path("/usr/include/spirv/unified1/extinst.opencl.std.100.grammar.j
 # The opcodes of each section; any other opcode outside functions is of the section of types and constants.
 SECTIONS = ({17}, {10}, {11}, {14}, {15}, {16}, {2, 3, 4, 5, 6, 7, 330}, {71, 72})
 DECLARED = len(SECTIONS)
-# How many octets of a name are told at most.
-MOST_OF_NAME = 40
+# How many octets a name takes in a page at most, and how many of its own are told: the first of these that fit.
+MOST_OF_NAME, TOLD_OF_NAME = 40, (40, 20, 10, 6)
 # How floats of a width are packed, and those that their decimal value reads back as.
 FORMS = {16: ("<e", "<f"), 32: ("<f", "<f"), 64: ("<d", "<d")}
 IDS = ("Type", "Result", "Id")
@@ -36,15 +38,24 @@ def opencl_names():
     return {it["opcode"]: it["opname"] for it in tree["instructions"]}
 
 
+def beginning(name, at):
+    """The whole characters in so many octets of a name."""
+    octets = name.encode()
+    while at < len(octets) and octets[at] & 0xC0 == 0x80:
+        at -= 1
+    return octets[:at].decode()
+
+
+def room(text):
+    """How many octets a text takes in a page."""
+    return len(html.escape(visible(text)).replace("&#x27;", "&#39;").encode())
+
+
 def short(name):
     """A name as a comment tells it: without control characters, and of a long one the beginning."""
-    octets = name.encode()
-    if len(octets) <= MOST_OF_NAME:
-        return visible(name)
-    at = MOST_OF_NAME
-    while octets[at] & 0xC0 == 0x80:
-        at -= 1
-    return visible(octets[:at].decode()) + ".."
+    fitting = [it for it in TOLD_OF_NAME if room(beginning(name, it)) <= MOST_OF_NAME]
+    told = beginning(name, fitting[0])
+    return visible(told) + ".." * (told != name)
 
 
 def section_of(opcode):
@@ -100,14 +111,14 @@ class Reading:
 
     def __init__(self, facts, printed=()):
         self.facts, self.insts = facts, facts.insts
-        self.names, self.sets = {}, set()
+        self.names, self.sets = {}, {}
         for inst in self.insts:
             if inst.opcode == NAME:
                 self.names.setdefault(inst.operands[0][1], short(inst.operands[1][1]))
         for of, number in facts.first.items():
             inst = self.insts[number]
-            if inst.opcode == IMPORT and inst.operands[1][1] == OPENCL:
-                self.sets.add(of)
+            if inst.opcode == IMPORT:
+                self.sets[of] = inst.operands[1][1]
         self.came_from = self.branches()
         self.finding = list(printed) if printed and printed[0] != "valid" else []
         self.at = self.finding and int(re.match(r"fault \S+ inst (\d+)", self.finding[0])[1])
@@ -135,13 +146,35 @@ class Reading:
                         sources.append(block)
         return found
 
+    def literals(self, number):
+        """The places, behind the number of an extended instruction, of the literals that are read as ids."""
+        call = called(self.sets, self.insts[number])
+        if call is None or any(it[0] != "Id" for it in call[2]):
+            return set()
+        kinds = kinds_of(*call[:2])
+        return {at for at in range(len(call[2])) if not is_id(kinds, at)}
+
+    def ids(self, number, sorts=IDS):
+        """The ids among the operands of an instruction, of these sorts, in order."""
+        literals = {len(HEAD) + at for at in self.literals(number)}
+        operands = enumerate(self.insts[number].operands)
+        return [it[1] for at, it in operands if it[0] in sorts and at not in literals]
+
+    def shown(self, number):
+        """The line of an instruction: that of `show`, and literals without `%`."""
+        words = self.facts.shown(number).split(" ")
+        for at in self.literals(number):
+            # (`%9 = OpExtInst %3 %1 171` stands before them)
+            words[6 + at] = words[6 + at].lstrip("%")
+        return " ".join(words)
+
     def notes(self, number):
         """The notes on an instruction, in order."""
         inst, found = self.insts[number], []
-        for sort, of, *_ in inst.operands if inst.opcode != NAME else ():
-            if sort in IDS and of in self.names:
+        for of in self.ids(number) if inst.opcode != NAME else ():
+            if of in self.names:
                 found.append(f"%{of} {self.names[of]}")
-        if inst.opcode == EXTENDED and inst.operands[2][1] in self.sets:
+        if inst.opcode == EXTENDED and self.sets.get(inst.operands[2][1]) == OPENCL:
             name = opencl_names().get(inst.operands[3][1])
             found += [name] if name else []
         if inst.opcode in (CONSTANT, SPEC_CONSTANT) and inst.type in self.facts.first:
@@ -164,7 +197,7 @@ class Reading:
 
     def line(self, number):
         """An instruction with its comment: the parts of the line, of which a Decimal stands for several texts."""
-        shown = self.facts.shown(number)
+        shown = self.shown(number)
         room = " " * max(COLUMN - len(shown.encode()), 1)
         parts = [f"{shown}{room}; inst {number} word {self.insts[number].word}"]
         for note in self.notes(number):

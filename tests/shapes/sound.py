@@ -1,6 +1,8 @@
 """Modules that are sound, and three that decode and then do not fit the profile. Each shape adds its words to a
 module."""
 
+from functools import partial
+
 from . import opcodes as op
 from .module import (
     FIRST_FREE,
@@ -136,6 +138,40 @@ def memory(module):
     module.put(op.VARIABLE, POINTER, variable, 7)
     while module.room() > 5:
         module.put(op.STORE, variable, ONE, 2, 4)
+    closed(module)
+
+
+def named_stores(module, text):
+    """Stores, with one name of both ids."""
+    variable = module.fresh()
+
+    def put_names(module):
+        for of in (variable, ONE):
+            module.put(op.NAME, of, *text_words(text))
+
+    opened(module, put_names)
+    kernel(module)
+    module.put(op.VARIABLE, POINTER, variable, 7)
+    while module.room() > 3:
+        module.put(op.STORE, variable, ONE)
+    closed(module)
+
+
+def named_constants(module, text):
+    """Constants of one array of 60,000 elements, with one name of both elements."""
+    count = 60_000
+
+    def put_names(module):
+        for of in (ONE, TWO):
+            module.put(op.NAME, of, *text_words(text))
+
+    opened(module, put_names)
+    length, array = module.fresh(), module.fresh()
+    module.put(op.CONSTANT, INT, length, count)
+    module.put(op.TYPE_ARRAY, array, INT, length)
+    while module.room() > count + 3:
+        module.put(op.CONSTANT_COMPOSITE, array, module.fresh(), *[ONE, TWO] * (count // 2))
+    kernel(module)
     closed(module)
 
 
@@ -744,6 +780,13 @@ SHAPES = {
     "again": again,
     "deep": deep,
     "masks": masks,
+}
+
+# Shapes whose names take many octets each where they are told.
+NAMED = {
+    f"{shape}-{kind}": partial(put, text=text * 64)
+    for shape, put in (("stores", named_stores), ("elements", named_constants))
+    for kind, text in (("plain", "n"), ("controls", "\x01"), ("quotes", '"'))
 }
 
 TRACED = {"rounds": rounds, "chained": chained, "unchained": unchained}

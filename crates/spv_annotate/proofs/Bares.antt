@@ -19,7 +19,7 @@ use Rattle.spv_lines.specs.Plain as plain
 use Rattle.spv_lines.specs.Plain.{is_control, is_late_control, plain_byte, plain_of}
 use Rattle.spv_annotate.specs.declared.finding.Finding.{Finding}
 use Rattle.spv_annotate.specs.Bare.{Outside, asked_lines, bare, bare_lines, bare_text, before_comment, is_blank, trimmed}
-use Rattle.spv_annotate.specs.Document.{IsSpelled, IsSubject, Subject, beginning, begun, document, ending, entries, entry, header_piece, is_of, line_pieces, mark_piece, marks}
+use Rattle.spv_annotate.specs.Document.{IsSpelled, IsSubject, Subject, beginning, begun, document, ending, entries, entry, header_piece, is_of, line_of, line_pieces, mark_piece, marks}
 use Rattle.spv_annotate.specs.Module.{inst_at, open_function, section_before, section_of}
 use Rattle.spv_annotate.specs.Notes.{column, comment, gap, notes, place_text}
 use Rattle.spv_annotate.specs.Piece.{PlainPiece, text_of}
@@ -29,6 +29,7 @@ use Rattle.spv_annotate.proofs.Ends.{last_of, plain_last, trimmed_before}
 use Rattle.spv_annotate.proofs.Feeds.{comment_feedless, lines_feedless, plain_feedless, value_feedless}
 use Rattle.spv_annotate.proofs.Shown.{AreQuiet, IsQuiet, shown_count, shown_quiet}
 use Rattle.spv_annotate.proofs.Texts.{header_feedless, no_feed_by}
+use Rattle.spv_annotate.proofs.Told.{told_quiet}
 
 -- The spaces before a comment.
 
@@ -125,7 +126,7 @@ abbrev beginning_lines : List PlainInst → ℕ → List (List ℕ)
 beginning_lines is n = begun_lines (inst_at is n).opcode (section_before is n) (is_some (open_function is n))
 
 abbrev noted : Subject → ℕ → List ℕ
-noted S n = plain_of (inst_line S.lines n) ++ comment S.insts (S.values n) n (plain_of (inst_line S.lines n))
+noted S n = plain_of (line_of S n) ++ comment S.insts (S.values n) n (plain_of (line_of S n))
 
 abbrev entry_lines : Subject → ℕ → List (List ℕ)
 entry_lines S n = if is_of S.insts S.asked n then beginning_lines S.insts n ++ (noted S n ∷ mark_lines S.finding n) else []
@@ -148,7 +149,7 @@ ended-append (l ∷ ls) ms =
 begun_text : (opcode before : ℕ) (inside : Bool) (n : ℕ) → written (begun opcode before inside n) ≡ ended (begun_lines opcode before inside)
 begun_text opcode before inside n = split (nat_eq opcode FUNCTION) (nat_eq opcode LABEL) (not inside && not (nat_eq (section_of opcode) before))
   where
-    split : (a b d : Bool) → written (if a then Rattle.spv_annotate.specs.Piece.Function n ∷ [] else (if b then Rattle.spv_annotate.specs.Piece.Block n ∷ [] else (if d then Rattle.spv_annotate.specs.Piece.Section (section_of opcode) ∷ [] else [])))
+    split : (a b d : Bool) → written (if a then Rattle.spv_annotate.specs.Piece.Function n ∷ [] else (if b then Rattle.spv_annotate.specs.Piece.Block n ∷ [] else (if d then Rattle.spv_annotate.specs.Piece.Section n (section_of opcode) ∷ [] else [])))
         ≡ ended (if a then [] ∷ [] else (if b then [] else (if d then [] ∷ [] else [])))
     split true b d = refl
     split false true d = refl
@@ -167,19 +168,19 @@ marks_text (Some f) n = split (nat_eq f.inst n)
     split true = mark_text (lines_of f.lines.now)
     split false = refl
 
-line_text : (S : Subject) (n : ℕ) → written (line_pieces S n (plain_of (inst_line S.lines n))) ≡ ended (noted S n ∷ [])
+line_text : (S : Subject) (n : ℕ) → written (line_pieces S n (plain_of (line_of S n))) ≡ ended (noted S n ∷ [])
 line_text S n =
-    let line = plain_of (inst_line S.lines n) in
+    let line = plain_of (line_of S n) in
     sym (append_assoc line (comment S.insts (S.values n) n line) (10 ∷ []))
 
 entry_text : (S : Subject) (n : ℕ) → written (entry S n) ≡ ended (entry_lines S n)
 entry_text S n = split (is_of S.insts S.asked n)
   where
-    split : (z : Bool) → written (if z then beginning S.insts n ++ line_pieces S n (plain_of (inst_line S.lines n)) ++ marks S.finding n else [])
+    split : (z : Bool) → written (if z then beginning S.insts n ++ line_pieces S n (plain_of (line_of S n)) ++ marks S.finding n else [])
         ≡ ended (if z then beginning_lines S.insts n ++ (noted S n ∷ mark_lines S.finding n) else [])
     split true =
         let b = beginning S.insts n in
-        let l = line_pieces S n (plain_of (inst_line S.lines n)) in
+        let l = line_pieces S n (plain_of (line_of S n)) in
         let m = marks S.finding n in
         let bl = beginning_lines S.insts n in
         let ml = mark_lines S.finding n in
@@ -253,9 +254,9 @@ entry_feedless S n h = split (is_of S.insts S.asked n)
   where
     split : (z : Bool) → AreLines (if z then beginning_lines S.insts n ++ (noted S n ∷ mark_lines S.finding n) else [])
     split true =
-        let line = plain_of (inst_line S.lines n) in
+        let line = plain_of (line_of S n) in
         lines-append (beginning_lines S.insts n) (noted S n ∷ mark_lines S.finding n) (begun_feedless (inst_at S.insts n).opcode (section_before S.insts n) (is_some (open_function S.insts n)))
-        (feedless-append line (comment S.insts (S.values n) n line) (plain_feedless (inst_line S.lines n)) (comment_feedless S.insts (S.values n) n line h), marks_feedless S.finding n)
+        (feedless-append line (comment S.insts (S.values n) n line) (plain_feedless (line_of S n)) (comment_feedless S.insts (S.values n) n line h), marks_feedless S.finding n)
     split false = tt
 
 range_feedless : (g : ℕ → List (List ℕ)) (a m : ℕ) → ((n : ℕ) → n < a + m → AreLines (g n)) → AreLines (flat_map g (range_with_len a m))
@@ -305,18 +306,18 @@ bare_marks (Some f) n = split (nat_eq f.inst n)
 bare_some : (x l : List ℕ) (ls : List (List ℕ)) → bare x ≡ l → is_blank l ≡ false → bare_lines (x ∷ ls) ≡ l ∷ bare_lines ls
 bare_some x l ls e f = rw (e, f) refl
 
-bare_entry : (S : Subject) (n : ℕ) → IsQuiet (inst_line S.lines n)
-    → bare_lines (entry_lines S n) ≡ (if is_of S.insts S.asked n then plain_of (inst_line S.lines n) ∷ [] else [])
+bare_entry : (S : Subject) (n : ℕ) → IsQuiet (line_of S n)
+    → bare_lines (entry_lines S n) ≡ (if is_of S.insts S.asked n then plain_of (line_of S n) ∷ [] else [])
 bare_entry S n q = split (is_of S.insts S.asked n)
   where
-    split : (z : Bool) → bare_lines (if z then beginning_lines S.insts n ++ (noted S n ∷ mark_lines S.finding n) else []) ≡ (if z then plain_of (inst_line S.lines n) ∷ [] else [])
+    split : (z : Bool) → bare_lines (if z then beginning_lines S.insts n ++ (noted S n ∷ mark_lines S.finding n) else []) ≡ (if z then plain_of (line_of S n) ∷ [] else [])
     split true =
-        let line = plain_of (inst_line S.lines n) in
+        let line = plain_of (line_of S n) in
         let bl = beginning_lines S.insts n in
         let ml = mark_lines S.finding n in
         bare-append bl (noted S n ∷ ml)
         ∙ (ap (λ z. z ++ bare_lines (noted S n ∷ ml)) (bare_begun (inst_at S.insts n).opcode (section_before S.insts n) (is_some (open_function S.insts n)))
-        ∙ (bare_some (noted S n) line ml (bare_line S.insts (S.values n) n (inst_line S.lines n) q) (plain_some (inst_line S.lines n) q.some)
+        ∙ (bare_some (noted S n) line ml (bare_line S.insts (S.values n) n (line_of S n) q) (plain_some (line_of S n) q.some)
         ∙ ap (λ z. line ∷ z) (bare_marks S.finding n)))
     split false = refl
 
@@ -354,7 +355,7 @@ bare_later S q e =
     bare-append (flat_map (entry_lines S) (range_with_len 0 (length S.insts))) (ending_lines S)
     ∙ (ap (λ z. bare_lines (flat_map (entry_lines S) (range_with_len 0 (length S.insts))) ++ z) (bare_ending S)
     ∙ (nothing_behind (bare_lines (flat_map (entry_lines S) (range_with_len 0 (length S.insts))))
-    ∙ bare_range (entry_lines S) (is_of S.insts S.asked) (λ n. plain_of (inst_line S.lines n)) 0 (length S.insts) (λ n l. bare_entry S n (quiet_at S.lines n q (omega arith)))))
+    ∙ bare_range (entry_lines S) (is_of S.insts S.asked) (λ n. plain_of (line_of S n)) 0 (length S.insts) (λ n l. bare_entry S n (told_quiet S.insts (inst_at S.insts n) (inst_line S.lines n) (quiet_at S.lines n q (omega arith))))))
 
 bare_ended : (a b d e f : List ℕ) (ls : List (List ℕ)) → AreLines (a ∷ b ∷ d ∷ e ∷ f ∷ ls)
     → bare_text (ended (a ∷ b ∷ d ∷ e ∷ f ∷ ls)) ≡ ended ((a ∷ b ∷ d ∷ e ∷ f ∷ []) ++ bare_lines ls)
@@ -380,23 +381,12 @@ filter_all : (ns : List ℕ) → filter (λ n. true) ns ≡ ns
 filter_all [] = refl
 filter_all (n ∷ ns) = ap (λ z. n ∷ z) (filter_all ns)
 
-shift : (f : ℕ → List ℕ) (a m : ℕ) → map f (range_with_len (suc a) m) ≡ map (λ n. f (suc n)) (range_with_len a m)
-shift f a zero = refl
-shift f a (suc m) = let e : suc a + 1 ≡ suc (a + 1) = omega arith in ap (λ z. f (suc a) ∷ z) (ap (λ b. map f (range_with_len b m)) e ∙ shift f (a + 1) m)
-
-all_lines : (f : List ℕ → List ℕ) (ls : List (List ℕ)) → map (λ n. f (inst_line ls n)) (range_with_len 0 (length ls)) ≡ map f ls
-all_lines f [] = refl
-all_lines f (l ∷ ls) = ap (λ z. f l ∷ z) (shift (λ n. f (inst_line (l ∷ ls) n)) 0 (length ls) ∙ all_lines f ls)
-
-none_asked : (S : Subject) (o : Option ℕ) → o ≡ None → length S.lines ≡ length S.insts
-    → map (λ n. plain_of (inst_line S.lines n)) (filter (is_of S.insts o) (range_with_len 0 (length S.insts))) ≡ map plain_of S.lines
-none_asked S None e n =
-    ap (map (λ k. plain_of (inst_line S.lines k))) (filter_all (range_with_len 0 (length S.insts)))
-    ∙ (ap (λ k. map (λ j. plain_of (inst_line S.lines j)) (range_with_len 0 k)) (sym n) ∙ all_lines plain_of S.lines)
-none_asked S (Some x) e n = cc
+none_asked : (S : Subject) (o : Option ℕ) → o ≡ None
+    → map (λ n. plain_of (line_of S n)) (filter (is_of S.insts o) (range_with_len 0 (length S.insts))) ≡ map (λ n. plain_of (line_of S n)) (range_with_len 0 (length S.insts))
+none_asked S None e = ap (map (λ k. plain_of (line_of S k))) (filter_all (range_with_len 0 (length S.insts)))
+none_asked S (Some x) e = cc
 
 pub bare_whole : (G : Table) (m : Module) (told : Option Finding) (S : Subject) → IsSpelled G (plain_insts m) → IsSubject G m told None S
-    → bare_text (written (document S)) ≡ ended (S.header ++ map plain_of S.lines)
+    → bare_text (written (document S)) ≡ ended (S.header ++ map (λ n. plain_of (line_of S n)) (range_with_len 0 (length S.insts)))
 bare_whole G m told S s t =
-    let n = shown_count G [] (plain_insts m) S.lines t.lines ∙ ap length (sym t.insts) in
-    bare_document G m told None S s t ∙ ap (λ ls. ended (S.header ++ ls)) (none_asked S S.asked t.asked n)
+    bare_document G m told None S s t ∙ ap (λ ls. ended (S.header ++ ls)) (none_asked S S.asked t.asked)

@@ -5,9 +5,8 @@ use Rattle.std.specs.List.{flat_map, onto_first}
 use Rattle.std.proofs.lemmas.Bool.Decides.{nat_tests}
 use Rattle.spv_table.specs.Lookups.{is_number}
 use Rattle.spv_module.specs.Operand.{PlainInst, result_in}
-use Rattle.spv_module.specs.declared.opcode.TheConstants.{EXT_INST, LABEL, NAME}
+use Rattle.spv_module.specs.declared.opcode.TheConstants.{LABEL, NAME}
 use Rattle.spv_lines.specs.Digits.{hex_digit}
-use Rattle.spv_lines.specs.Line.{before_space}
 use Rattle.spv_lines.specs.Operand.{id_text}
 use Rattle.spv_lines.specs.Text.{lines_of}
 use Rattle.spv_lines.proofs.Back.{NoFeed, feedless-append, tame_feedless}
@@ -17,8 +16,12 @@ use Rattle.spv_lines.specs.Plain.{is_control, is_late_control, plain_byte, plain
 use Rattle.spv_layout.specs.Place.{first_word_of}
 use Rattle.spv_annotate.specs.declared.opencl.TheConstants.{OPENCL}
 use Rattle.spv_annotate.specs.declared.values.Bits.{Bits}
-use Rattle.spv_annotate.specs.Module.{definition_of, defined_by, ids_of, inst_at, naming_of, predecessors, text_in}
-use Rattle.spv_annotate.specs.Notes.{Call, block_note, call_in, call_note, call_text, column, comment, cut_at, from_note, from_text, gap, is_opencl, most, name_note, name_notes, name_text, note, notes, opencl_lines, opencl_name, place_text, short_name}
+use Rattle.spv_extended.specs.declared.call.Call.{Call}
+use Rattle.spv_extended.specs.declared.set.Set.{Set}
+use Rattle.spv_extended.specs.declared.set.Set.TheVariants.{OpenClStd, OpenClDebugInfo, DebugInfo, Other}
+use Rattle.spv_annotate.specs.Called.{called_by, ids_of}
+use Rattle.spv_annotate.specs.Module.{definition_of, inst_at, naming_of, predecessors, text_in}
+use Rattle.spv_annotate.specs.Notes.{block_note, call_name, call_note, call_text, column, comment, cut_at, from_note, from_text, gap, name_note, name_notes, name_text, note, notes, opencl_lines, opencl_name, place_text, short_name, told_most}
 use Rattle.spv_annotate.specs.Values.{IsValue}
 use Rattle.spv_annotate.proofs.Texts.{decimal_feedless, id_feedless, no_feed_by}
 
@@ -71,14 +74,6 @@ line_feedless [] (suc k) h = tt
 line_feedless (l ∷ ls) zero h = h.0
 line_feedless (l ∷ ls) (suc k) h = line_feedless ls k h.1
 
-before_feedless : (t : List ℕ) → NoFeed t → NoFeed (before_space t)
-before_feedless [] h = tt
-before_feedless (b ∷ t) h = split (nat_eq b 32) (before_feedless t h.1)
-  where
-    split : (z : Bool) → NoFeed (before_space t) → NoFeed (if z then [] else b ∷ before_space t)
-    split true g = tt
-    split false g = (h.0, g)
-
 -- Notes.
 
 note_feedless : (t : List ℕ) → NoFeed t → NoFeed (note t)
@@ -90,11 +85,11 @@ flat_feedless f [] h = tt
 flat_feedless f (x ∷ xs) h = feedless-append (f x) (flat_map f xs) (h x) (flat_feedless f xs h)
 
 name_feedless : (t : List ℕ) → NoFeed (short_name t)
-name_feedless t = split (nat_le (length t) most)
+name_feedless t = split (told_most t) (nat_le (length t) (told_most t))
   where
-    split : (z : Bool) → NoFeed (if z then plain_of t else plain_of (take (cut_at t most) t) ++ codes "..")
-    split true = plain_feedless t
-    split false = feedless-append (plain_of (take (cut_at t most) t)) (codes "..") (plain_feedless (take (cut_at t most) t)) (no_feed_by (codes "..") refl)
+    split : (k : ℕ) (z : Bool) → NoFeed (if z then plain_of t else plain_of (take (cut_at t k) t) ++ codes "..")
+    split k true = plain_feedless t
+    split k false = feedless-append (plain_of (take (cut_at t k) t)) (codes "..") (plain_feedless (take (cut_at t k) t)) (no_feed_by (codes "..") refl)
 
 name_note_feedless : (is : List PlainInst) (x : ℕ) (o : Option ℕ) → NoFeed (name_text is x o)
 name_note_feedless is x None = tt
@@ -105,28 +100,26 @@ name_note_feedless is x (Some n) =
 names_feedless : (is : List PlainInst) (i : PlainInst) → NoFeed (name_notes is i)
 names_feedless is i = split (nat_eq i.opcode NAME)
   where
-    split : (z : Bool) → NoFeed (if z then [] else flat_map (name_note is) (ids_of i))
+    split : (z : Bool) → NoFeed (if z then [] else flat_map (name_note is) (ids_of is i))
     split true = tt
-    split false = flat_feedless (name_note is) (ids_of i) (λ x. name_note_feedless is x (naming_of is x))
+    split false = flat_feedless (name_note is) (ids_of is i) (λ x. name_note_feedless is x (naming_of is x))
 
 opencl_feedless : (k : ℕ) → NoFeed (opencl_name k)
 unfolding opencl_lines
-opencl_feedless k = before_feedless (unwrap_or (slice_get opencl_lines k) []) (line_feedless opencl_lines k (lines_feedless OPENCL.now))
+opencl_feedless k = line_feedless opencl_lines k (lines_feedless OPENCL.now)
 
-called_feedless : (is : List PlainInst) (o : Option Call) → NoFeed (call_text is o)
-called_feedless is None = tt
-called_feedless is (Some c) = split (is_opencl (defined_by is c.set))
-  where
-    split : (z : Bool) → NoFeed (if z then note (opencl_name c.number) else [])
-    split true = note_feedless (opencl_name c.number) (opencl_feedless c.number)
-    split false = tt
+named_feedless : (s : Set) (k : ℕ) → NoFeed (call_name s k)
+named_feedless OpenClStd k = note_feedless (opencl_name k) (opencl_feedless k)
+named_feedless OpenClDebugInfo k = tt
+named_feedless DebugInfo k = tt
+named_feedless Other k = tt
+
+called_feedless : (o : Option Call) → NoFeed (call_text o)
+called_feedless None = tt
+called_feedless (Some c) = named_feedless c.set c.number
 
 call_feedless : (is : List PlainInst) (i : PlainInst) → NoFeed (call_note is i)
-call_feedless is i = split (nat_eq i.opcode EXT_INST)
-  where
-    split : (z : Bool) → NoFeed (if z then call_text is (call_in i.operands) else [])
-    split true = called_feedless is (call_in i.operands)
-    split false = tt
+call_feedless is i = called_feedless (called_by is i)
 
 from_feedless : (ys : List ℕ) → NoFeed (from_text ys)
 from_feedless [] = tt

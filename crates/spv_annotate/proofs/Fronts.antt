@@ -12,7 +12,8 @@ use Rattle.spv_printer.proofs.Shorts.{ascii_utf8}
 use Rattle.spv_annotate.specs.declared.linked.Quoting.{Quoting}
 use Rattle.spv_annotate.specs.declared.linked.Quoting.TheVariants.{Outside, Within, Behind, Commented}
 use Rattle.spv_annotate.specs.Html.{escaped}
-use Rattle.spv_annotate.specs.Page.{after_byte, begins_id, behind_digits, cut_from, digits_in, id_html, id_of, link_to, linked, part_html}
+use Rattle.spv_annotate.specs.Page.{behind_digits, cut_from, digits_in, id_html, id_of, link_to, linked, part_html}
+use Rattle.spv_annotate.specs.Quoted.{after_byte, begins_id}
 use Rattle.spv_annotate.specs.inner.Draft.{IsAdded, IsCopied, IsFront, is_plain}
 use Rattle.spv_annotate.specs.inner.Linked.{base, is_bare_byte, is_steady, part_len, until_id}
 use Rattle.spv_annotate.proofs.Drafts.{all_ascii, plain_bare}

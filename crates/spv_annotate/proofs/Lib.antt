@@ -18,6 +18,7 @@ pub mod Reading
 pub mod Shown
 pub mod Small
 pub mod Texts
+pub mod Told
 pub mod Walks
 pub mod Writings
 pub mod Usings

@@ -97,7 +97,7 @@ and_nothing html end text r e more = reads_both html end text [] r e more ∙ ap
 
 pub reads_piece : (S : Scene) (p : PlainPiece) → Reads (page_of S p) (text_of false p)
 reads_piece S (Header t) = reads_tag (codes "div") (escaped t) t refl (reads_escaped t)
-reads_piece S (Section s) = reads_tag (codes "br id=s" ++ decimal s) (10 ∷ []) (10 ∷ []) (inside_both (codes "br id=s") (decimal s) refl (decimal_inside s)) (λ m. refl)
+reads_piece S (Section n s) = λ m. refl
 reads_piece S (Function n) = λ m. refl
 reads_piece S (Block n) = λ m. refl
 reads_piece S (Line n t) =

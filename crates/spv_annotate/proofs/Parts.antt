@@ -13,7 +13,8 @@ use Rattle.spv_lines.proofs.Numbers.{decimal_number, decimal_value}
 use Rattle.spv_annotate.specs.declared.linked.Quoting.{Quoting}
 use Rattle.spv_annotate.specs.declared.linked.Quoting.TheVariants.{Outside, Within, Behind, Commented}
 use Rattle.spv_annotate.specs.Html.{escaped}
-use Rattle.spv_annotate.specs.Page.{after_byte, begins_id, cut_from, id_of, ids_at, id_html, digits_in, behind_digits, part_html, linked}
+use Rattle.spv_annotate.specs.Page.{cut_from, id_of, ids_at, id_html, digits_in, behind_digits, part_html, linked}
+use Rattle.spv_annotate.specs.Quoted.{after_byte, begins_id}
 use Rattle.spv_annotate.specs.inner.Linked.{base, until_id, part_len}
 
 pub same_base : (q : Quoting) (b : ℕ) → base (after_byte q b) ≡ base q
@@ -109,14 +110,14 @@ joined q (b ∷ line) = by (begins_id q b) refl (joined q line) (joined (after_b
     by true e f g = rw e (onto_front b (cut_from q line) ∙ ap (λ z. b ∷ z) f)
     by false e f g = rw e (onto_front b (cut_from (after_byte q b) line) ∙ ap (λ z. b ∷ z) g)
 
-begins_mark : (q : Quoting) (b : ℕ) → begins_id q b ≡ true → b ≡ 37
+pub begins_mark : (q : Quoting) (b : ℕ) → begins_id q b ≡ true → b ≡ 37
 begins_mark Outside b h = eq_by b 37 h
 begins_mark Within b h = cc
 begins_mark Behind b h = cc
 begins_mark Commented b h = eq_by b 37 h
 
 -- what stands behind the bytes before an id
-at_id : (q : Quoting) (line : List ℕ) → until_id q line < length line → get_or line (until_id q line) 0 ≡ 37
+pub at_id : (q : Quoting) (line : List ℕ) → until_id q line < length line → get_or line (until_id q line) 0 ≡ 37
 at_id q [] l = absurd (omega (arith, l))
 at_id q (b ∷ line) l = by (begins_id q b) refl l (at_id (after_byte q b) line)
   where

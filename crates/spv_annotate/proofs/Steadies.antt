@@ -7,7 +7,8 @@ use Rattle.spv_lines.specs.Digits.{is_digit, is_lean}
 use Rattle.spv_annotate.specs.declared.linked.Quoting.{Quoting}
 use Rattle.spv_annotate.specs.declared.linked.Quoting.TheVariants.{Outside, Within, Behind, Commented}
 use Rattle.spv_annotate.specs.Html.{escaped, escaped_byte}
-use Rattle.spv_annotate.specs.Page.{after_byte, begins_id, cut_from, id_of, linked, part_html}
+use Rattle.spv_annotate.specs.Page.{cut_from, id_of, linked, part_html}
+use Rattle.spv_annotate.specs.Quoted.{after_byte, begins_id}
 use Rattle.spv_annotate.specs.inner.Linked.{base, is_bare_byte, is_steady, until_id}
 
 pub steady_begins : (q : Quoting) (b : ℕ) → is_steady b ≡ true → begins_id q b ≡ false

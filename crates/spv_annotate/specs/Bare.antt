@@ -3,9 +3,9 @@ use Rattle.std.specs.Prelude.{◌++◌, ◌&&◌, ℕ, List, [], ◌∷◌, Bool
 use Rattle.std.specs.Prelude.{drop, filter, map, take}
 use Rattle.std.specs.Prelude.{length}
 use Rattle.std.specs.List.{range_with_len}
-use Rattle.spv_lines.specs.Text.{ended, inst_line, lines_of}
+use Rattle.spv_lines.specs.Text.{ended, lines_of}
 use Rattle.spv_lines.specs.Plain.{plain_of}
-use Rattle.spv_annotate.specs.Document.{Subject, is_of}
+use Rattle.spv_annotate.specs.Document.{Subject, is_of, line_of}
 
 -- where in a line an octet stands: outside of quotes, within them, or behind a `\` within them
 pub data Quoting : Type 0 where
@@ -52,7 +52,7 @@ bare_lines ls = filter (λ l. if is_blank l then false else true) (map bare ls)
 abbrev pub bare_text : List ℕ → List ℕ
 bare_text t = ended (take 5 (lines_of t) ++ bare_lines (drop 5 (lines_of t)))
 
--- the lines of the instructions that are asked for, without control characters
+-- the lines of the instructions that are asked for, as they are told, without control characters
 abbrev pub asked_lines : Subject → List (List ℕ)
-asked_lines S = map (λ n. plain_of (inst_line S.lines n))
+asked_lines S = map (λ n. plain_of (line_of S n))
     (filter (is_of S.insts S.asked) (range_with_len 0 (length S.insts)))

@@ -15,6 +15,7 @@ use Rattle.spv_lines.specs.Plain.{plain_of}
 use Rattle.spv_annotate.specs.declared.finding.Finding.{Finding}
 use Rattle.spv_annotate.specs.Piece.{PlainPiece, Header, Section, Function, Block, Line, Comment, Mark, Break}
 use Rattle.spv_annotate.specs.Module.{function_of, inst_at, open_function, section_before, section_of}
+use Rattle.spv_annotate.specs.Called.{told_line}
 use Rattle.spv_annotate.specs.Notes.{comment}
 use Rattle.spv_annotate.specs.Values.{AreValues}
 
@@ -48,7 +49,7 @@ abbrev pub begun : ℕ → ℕ → Bool → ℕ → List PlainPiece
 begun opcode before inside n =
     if nat_eq opcode FUNCTION then Function n ∷ []
     else (if nat_eq opcode LABEL then Block n ∷ []
-    else (if not inside && not (nat_eq (section_of opcode) before) then Section (section_of opcode) ∷ [] else []))
+    else (if not inside && not (nat_eq (section_of opcode) before) then Section n (section_of opcode) ∷ [] else []))
 
 abbrev pub beginning : List PlainInst → ℕ → List PlainPiece
 beginning is n = begun (inst_at is n).opcode (section_before is n) (is_some (open_function is n)) n
@@ -69,11 +70,15 @@ marks (Some f) n = if nat_eq f.inst n then flat_map mark_piece (lines_of f.lines
 abbrev pub line_pieces : Subject → ℕ → List ℕ → List PlainPiece
 line_pieces S n line = Line n line ∷ Comment (comment S.insts (S.values n) n line) ∷ Break ∷ []
 
+-- the line of instruction n, in which literals that are read as ids have no `%`
+abbrev pub line_of : Subject → ℕ → List ℕ
+line_of S n = told_line S.insts (inst_at S.insts n) (inst_line S.lines n)
+
 -- all pieces of instruction n, if it is asked for
 abbrev pub entry : Subject → ℕ → List PlainPiece
 entry S n =
     if is_of S.insts S.asked n
-    then beginning S.insts n ++ line_pieces S n (plain_of (inst_line S.lines n)) ++ marks S.finding n else []
+    then beginning S.insts n ++ line_pieces S n (plain_of (line_of S n)) ++ marks S.finding n else []
 
 -- what is told of a fault behind the last instruction
 abbrev pub ending : Subject → List PlainPiece

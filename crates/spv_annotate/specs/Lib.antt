@@ -1,11 +1,13 @@
 pub mod Piece
+pub mod Html
 pub mod Module
+pub mod Quoted
+pub mod Called
 pub mod Values
 pub mod Notes
 pub mod Document
 pub mod Example
 pub mod Bare
-pub mod Html
 pub mod Page
 pub mod Scenes
 pub mod inner

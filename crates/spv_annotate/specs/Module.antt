@@ -52,10 +52,6 @@ id_in (Argument x) = Some x
 id_in (Mention x) = Some x
 id_in _ = None
 
--- the ids on the line of an instruction, in the order of its operands
-abbrev pub ids_of : PlainInst → List ℕ
-ids_of i = filter_map id_in i.operands
-
 -- the section in which instructions of a class stand before the first function: 1 to 9 [2.4]
 abbrev pub section_in : Class → ℕ
 section_in kind.Capability = 1

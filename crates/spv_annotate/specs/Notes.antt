@@ -1,27 +1,27 @@
 -- The comment behind the line of an instruction. (Own.)
-use Rattle.std.specs.Prelude.{◌++◌, ◌&&◌, ℕ, zero, suc, List, [], ◌∷◌, Option, Some, None, Bool}
-use Rattle.std.specs.Prelude.{nat_eq, nat_le, nat_lt, slice_get, slice_index, unwrap_or, if◌then◌else◌, codes, bytes_eq}
+use Rattle.std.specs.Prelude.{◌+◌, ◌++◌, ◌&&◌, ℕ, zero, suc, List, [], ◌∷◌, Option, Some, None, Bool}
+use Rattle.std.specs.Prelude.{nat_eq, nat_le, nat_lt, slice_get, slice_index, unwrap_or, if◌then◌else◌, codes}
 use Rattle.std.specs.Prelude.{drop, length, take, decimal}
 use Rattle.std.specs.List.{flat_map}
 use Rattle.spv_table.specs.Lookups.{is_number}
-use Rattle.spv_module.specs.Operand.{Plain, OfType, Result, Id, Word, PlainInst, result_in}
-use Rattle.spv_module.specs.declared.opcode.TheConstants.{NAME, LABEL, EXT_INST, EXT_INST_IMPORT}
+use Rattle.spv_module.specs.Operand.{PlainInst, result_in}
+use Rattle.spv_module.specs.declared.opcode.TheConstants.{NAME, LABEL}
+use Rattle.spv_extended.specs.declared.call.Call.{Call}
+use Rattle.spv_extended.specs.declared.set.Set.{Set}
+use Rattle.spv_extended.specs.declared.set.Set.TheVariants.{OpenClStd}
 use Rattle.spv_layout.specs.Place.{first_word_of}
-use Rattle.spv_lines.specs.Line.{before_space}
 use Rattle.spv_lines.specs.Operand.{id_text}
 use Rattle.spv_lines.specs.Text.{lines_of}
-use Rattle.spv_lines.specs.Plain.{plain_of}
+use Rattle.spv_lines.specs.Plain.{is_control, is_late_control, plain_of}
 use Rattle.spv_annotate.specs.declared.opencl.TheConstants.{OPENCL}
-use Rattle.spv_annotate.specs.Module.{defined_by, definition_of, ids_of, inst_at, naming_of, predecessors, text_in}
+use Rattle.spv_annotate.specs.Called.{called_by, ids_of}
+use Rattle.spv_annotate.specs.Html.{escaped_byte}
+use Rattle.spv_annotate.specs.Module.{definition_of, inst_at, naming_of, predecessors, text_in}
 
 -- a text behind a comma and a space; nothing where it is empty
 abbrev pub note : List ℕ → List ℕ
 note [] = []
 note (b ∷ t) = codes ", " ++ (b ∷ t)
-
--- how many octets of a name are told at most
-abbrev pub most : ℕ
-most = 40
 
 -- the last place of a text, up to a greatest one, at which a character begins
 unfoldable pub cut_at : List ℕ → ℕ → ℕ
@@ -29,9 +29,34 @@ cut_at t zero = 0
 cut_at t (suc k) =
     if nat_le 128 (slice_index t (suc k)) && nat_lt (slice_index t (suc k)) 192 then cut_at t k else suc k
 
+-- a text up to so many octets, in whole characters
+abbrev pub beginning_of : ℕ → List ℕ → List ℕ
+beginning_of k t = if nat_le (length t) k then t else take (cut_at t k) t
+
+-- how many octets an octet takes in a page: four as `\xNN`, or as many as its character reference
+abbrev pub octet_room : ℕ → ℕ
+octet_room b = if is_control b then 4 else length (escaped_byte b)
+
+-- how many a text takes there
+abbrev pub room : List ℕ → ℕ
+room [] = 0
+room (a ∷ []) = octet_room a
+room (a ∷ b ∷ t) = if is_late_control a b then 8 + room t else octet_room a + room (b ∷ t)
+
+-- do so many octets of a name take at most forty in a page
+abbrev pub fits : List ℕ → ℕ → Bool
+fits t k = nat_le (room (beginning_of k t)) 40
+
+-- how many octets of a name are told at most: of 40, 20, 10 and 6 the first that fits
+abbrev pub told_most : List ℕ → ℕ
+told_most t = if fits t 40 then 40 else (if fits t 20 then 20 else (if fits t 10 then 10 else 6))
+
 -- a name without its control characters; of a long one the beginning, and two points
+abbrev pub short_by : ℕ → List ℕ → List ℕ
+short_by k t = if nat_le (length t) k then plain_of t else plain_of (take (cut_at t k) t) ++ codes ".."
+
 abbrev pub short_name : List ℕ → List ℕ
-short_name t = if nat_le (length t) most then plain_of t else plain_of (take (cut_at t most) t) ++ codes ".."
+short_name t = short_by (told_most t) t
 
 -- `, %17 sum`, where the first OpName of an id is the one of that number
 abbrev pub name_text : List PlainInst → ℕ → Option ℕ → List ℕ
@@ -43,37 +68,27 @@ name_note is x = name_text is x (naming_of is x)
 
 -- the names of the ids on a line, but for that of an OpName, which has the name itself
 abbrev pub name_notes : List PlainInst → PlainInst → List ℕ
-name_notes is i = if nat_eq i.opcode NAME then [] else flat_map (name_note is) (ids_of i)
+name_notes is i = if nat_eq i.opcode NAME then [] else flat_map (name_note is) (ids_of is i)
 
--- the table of src/opencl.rt, where each number of an instruction of OpenCL.std has a line
+-- the table of src/opencl.rt, where each number of an instruction of OpenCL.std has a line with its name
 unfoldable pub opencl_lines : List (List ℕ)
 opencl_lines = lines_of OPENCL.now
 
 -- the name of an instruction of OpenCL.std
 abbrev pub opencl_name : ℕ → List ℕ
-opencl_name k = before_space (unwrap_or (slice_get opencl_lines k) [])
-
--- does an instruction import OpenCL.std [3.49.4]
-abbrev pub is_opencl : PlainInst → Bool
-is_opencl i = nat_eq i.opcode EXT_INST_IMPORT && bytes_eq (text_in i.operands) (codes "OpenCL.std")
-
--- the set and the number of an instruction that is called
-pub record Call : Type 0 where
-  pub set : ℕ
-  pub number : ℕ
-
--- what operands of an OpExtInst call [3.49.4]
-abbrev pub call_in : List Plain → Option Call
-call_in (OfType t ∷ Result r ∷ Id s ∷ Word k ∷ os) = Some (record { set = s; number = k })
-call_in _ = None
+opencl_name k = unwrap_or (slice_get opencl_lines k) []
 
 -- `, sqrt`, where the set is OpenCL.std
-abbrev pub call_text : List PlainInst → Option Call → List ℕ
-call_text is None = []
-call_text is (Some c) = if is_opencl (defined_by is c.set) then note (opencl_name c.number) else []
+abbrev pub call_name : Set → ℕ → List ℕ
+call_name OpenClStd k = note (opencl_name k)
+call_name _ k = []
+
+abbrev pub call_text : Option Call → List ℕ
+call_text None = []
+call_text (Some c) = call_name c.set c.number
 
 abbrev pub call_note : List PlainInst → PlainInst → List ℕ
-call_note is i = if nat_eq i.opcode EXT_INST then call_text is (call_in i.operands) else []
+call_note is i = call_text (called_by is i)
 
 -- `, from %13 %14`
 abbrev pub from_text : List ℕ → List ℕ

@@ -13,31 +13,20 @@ use Rattle.spv_module.specs.declared.opcode.TheConstants.{FUNCTION, LABEL}
 use Rattle.spv_lines.specs.Digits as digits
 use Rattle.spv_lines.specs.Digits.{is_digit, value}
 use Rattle.spv_lines.specs.Operand.{id_text}
+use Rattle.spv_lines.specs.Plain.{plain_of}
 use Rattle.spv_lines.specs.Text.{lines_of}
 use Rattle.spv_annotate.specs.declared.edges.Edge.{Edge}
 use Rattle.spv_annotate.specs.declared.finding.Finding.{Finding}
 use Rattle.spv_annotate.specs.declared.linked.Quoting.{Quoting}
-use Rattle.spv_annotate.specs.declared.linked.Quoting.TheVariants.{Outside, Within, Behind, Commented}
+use Rattle.spv_annotate.specs.declared.linked.Quoting.TheVariants.{Outside, Commented}
 use Rattle.spv_annotate.specs.declared.style.TheConstants.{HEAD, STYLE, LIST, MIDDLE, END}
+use Rattle.spv_annotate.specs.Called.{told_operands}
 use Rattle.spv_annotate.specs.Document.{Subject, IsSubject, beginning, document, is_of}
 use Rattle.spv_annotate.specs.Html.{escaped}
 use Rattle.spv_annotate.specs.Module.{definition_of, inst_at, naming_of, once, text_in}
 use Rattle.spv_annotate.specs.Notes.{short_name}
+use Rattle.spv_annotate.specs.Quoted.{after_byte, begins_id}
 use Rattle.spv_annotate.specs.Piece.{PlainPiece, Header, Section, Function, Block, Line, Comment, Mark, Break}
-
--- where a reader of a line stands after one byte more: outside quotes, in them, or in them behind a `\`; or in a
--- comment, where a quote is like any other byte
-abbrev pub after_byte : Quoting → ℕ → Quoting
-after_byte Outside b = if b == 34 then Within else Outside
-after_byte Within b = if b == 34 then Outside else (if b == 92 then Behind else Within)
-after_byte Behind b = Within
-after_byte Commented b = Commented
-
--- does an id begin with a byte: with a `%` outside quotes
-abbrev pub begins_id : Quoting → ℕ → Bool
-begins_id Outside b = b == 37
-begins_id Commented b = b == 37
-begins_id _ b = false
 
 -- a line from there on, cut before each id
 abbrev pub cut_from : Quoting → List ℕ → List (List ℕ)
@@ -99,12 +88,12 @@ used_in (Argument x) = Some x
 used_in (Mention x) = Some x
 used_in _ = None
 
--- the uses of ids by operands of instruction n, each as an edge from the instruction to the id
+-- the uses of ids by operands of instruction n, each as an edge from the instruction to the id; literals are none
 abbrev pub uses_from : ℕ → List Plain → List Edge
 uses_from n os = map (λ x. record { from = n; to = x }) (filter_map used_in os)
 
 abbrev pub uses_at : List PlainInst → ℕ → List Edge
-uses_at is n = uses_from n (inst_at is n).operands
+uses_at is n = uses_from n (told_operands is (inst_at is n))
 
 -- all uses, in the order of the instructions
 abbrev pub uses_of : List PlainInst → List Edge
@@ -159,7 +148,7 @@ use_links S n (Some x) = if is_number n (S.definition x)
 -- instruction's number as its anchor
 abbrev pub page_of : Scene → PlainPiece → List ℕ
 page_of S (Header t) = codes "<div>" ++ escaped t
-page_of S (Section s) = codes "<br id=s" ++ (decimal s ++ codes ">\n")
+page_of S (Section n s) = codes "<br>\n"
 page_of S (Function n) = codes "<br>\n"
 page_of S (Block n) = []
 page_of S (Line n t) = codes "<div id=" ++ (decimal n ++ (line_class S n ++ (62 ∷
@@ -192,13 +181,13 @@ label_of S (Some x) = id_text x ++ name_behind S (S.naming x)
 abbrev pub entry_link : Scene → ℕ → List ℕ
 entry_link S n = link_to n (escaped (label_of S (result_in (inst_at S.insts n).operands)))
 
--- a link to a section
-abbrev pub section_link : ℕ → List ℕ
-section_link s = codes "<a href=#s" ++ (decimal s ++ (62 ∷ (section_title s ++ codes "</a>\n")))
+-- a link to the first instruction of a section
+abbrev pub section_link : ℕ → ℕ → List ℕ
+section_link n s = codes "<a href=#" ++ (decimal n ++ (62 ∷ (section_title s ++ codes "</a>\n")))
 
 -- what stands in the list of contents for a piece: a link to a section or a block, and for a function a list of its own
 abbrev pub contents_of : Scene → PlainPiece → List ℕ
-contents_of S (Section s) = section_link s
+contents_of S (Section n s) = section_link n s
 contents_of S (Function n) = codes "</details>\n<details>\n<summary>" ++ (entry_link S n ++ codes "</summary>\n")
 contents_of S (Block n) = entry_link S n ++ codes "\n"
 contents_of S _ = []
@@ -210,9 +199,12 @@ outlined is asked n = if is_of is asked n then beginning is n else []
 abbrev pub beginnings : List PlainInst → Option ℕ → List PlainPiece
 beginnings is asked = flat_map (outlined is asked) (range_with_len 0 (length is))
 
--- what stands before the list of contents, by the parts of src/style.rt
+-- what stands before the list of contents, by the parts of src/style.rt: the title, without control characters, twice
+abbrev pub front_of : List ℕ → List ℕ
+front_of title = HEAD.now ++ (title ++ (STYLE.now ++ (title ++ LIST.now)))
+
 abbrev pub page_front : List ℕ → List ℕ
-page_front title = HEAD.now ++ (escaped title ++ (STYLE.now ++ (escaped title ++ LIST.now)))
+page_front title = front_of (escaped (plain_of title))
 
 -- What is known where the page of a module is written, whose instructions these are, and of which this is told.
 pub record IsScene (is : List PlainInst) (finding : Option Finding) (S : Scene) : Type 0 where

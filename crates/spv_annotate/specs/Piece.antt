@@ -4,12 +4,12 @@ use Rattle.std.specs.List.{flat_map}
 use Rattle.spv_annotate.specs.declared.piece.Piece.{Piece}
 use Rattle.spv_annotate.specs.declared.piece.Piece.TheVariants as code
 
--- a piece, without where its text lies in memory: a line of the header; a section of that number, a function or a block
--- of that instruction begins here; the line of an instruction of that number; a comment behind it; a line of evidence;
--- the end of a line
+-- a piece, without where its text lies in memory: a line of the header; with the instruction of that number a section
+-- begins, told by its own number, a function or a block; the line of that instruction; a comment behind it; a line of
+-- evidence; the end of a line
 pub data PlainPiece : Type 0 where
   Header : List ℕ → PlainPiece
-  Section : ℕ → PlainPiece
+  Section : ℕ → ℕ → PlainPiece
   Function : ℕ → PlainPiece
   Block : ℕ → PlainPiece
   Line : ℕ → List ℕ → PlainPiece
@@ -20,7 +20,7 @@ pub data PlainPiece : Type 0 where
 -- a piece of the code
 abbrev pub plain_piece : Piece → PlainPiece
 plain_piece (code.Header t) = Header t.now
-plain_piece (code.Section s) = Section s
+plain_piece (code.Section n s) = Section n s
 plain_piece (code.Function n) = Function n
 plain_piece (code.Block n) = Block n
 plain_piece (code.Line n t) = Line n t.now
@@ -36,7 +36,7 @@ colored false begin text = text
 -- what a piece is in the text for reading, in colours or without: a section and a function begin with an empty line
 abbrev pub text_of : Bool → PlainPiece → List ℕ
 text_of color (Header t) = t
-text_of color (Section s) = 10 ∷ []
+text_of color (Section n s) = 10 ∷ []
 text_of color (Function n) = 10 ∷ []
 text_of color (Block n) = []
 text_of color (Line n t) = t

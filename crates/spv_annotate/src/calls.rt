@@ -1,14 +1,17 @@
-//! The names of instructions of extended sets.
+//! What extended instructions call.
 
-ghost use Rattle.std.specs.Prelude.{◌≡◌, ◌++◌, ℕ, OnOk, IsTrue, map, option_map, string_bytes};
-ghost use Rattle.spv_module.specs.Module.{plain_inst, plain_operands};
-ghost use Rattle.spv_annotate.specs.Module.{defined_by, definition_of};
-ghost use Rattle.spv_annotate.specs.Notes as specs;
+ghost use Rattle.std.specs.Prelude.{◌≡◌, ◌++◌, ℕ, OnOk, map, string_bytes};
+ghost use Rattle.spv_module.specs.Module.{plain_inst};
+ghost use Rattle.spv_extended.specs.Sets as sets;
+ghost use Rattle.spv_annotate.specs.Called as specs;
+ghost use Rattle.spv_annotate.specs.Called.{set_of};
+ghost use Rattle.spv_annotate.specs.Module.{definition_of};
 ghost use Rattle.spv_annotate.specs.Notes.{call_note, note, opencl_lines};
 ghost use Rattle.spv_annotate.specs.inner.Numbers.{kept};
 
 use crate::numbers::Numbers;
 use crate::opencl::opencl_name;
+use spv_extended::{Call, Set};
 use spv_module::{Inst, Operand, opcode};
 use std::alloc::AllocError;
 
@@ -23,27 +26,69 @@ pub fn push_note(out: &mut String, text: &str) -> Result<(), AllocError>
     out.push_str(text)
 }
 
-/// Whether an instruction imports the set OpenCL.std.
-fn is_opencl(inst: &Inst<'_>) -> bool
-    ensures { result ≡ specs.is_opencl (plain_inst inst.now) }
+/// The set of a name.
+fn set_named(name: &str) -> Set
+    ensures { result ≡ sets.set_named name.now }
+{
+    if name == "OpenCL.std" {
+        return Set::OpenClStd;
+    }
+    if name == "OpenCL.DebugInfo.100" {
+        return Set::OpenClDebugInfo;
+    }
+    if name == "DebugInfo" {
+        return Set::DebugInfo;
+    }
+    Set::Other
+}
+
+/// The set that an instruction imports.
+fn set_imported(inst: &Inst<'_>) -> Set
+    ensures { result ≡ specs.set_imported (sets.imported_by (plain_inst inst.now)) }
 {
     match (inst.opcode, inst.operands.as_slice()) {
-        (opcode::EXT_INST_IMPORT, [_, Operand::Text(name), ..]) => *name == "OpenCL.std",
-        _ => false,
+        (opcode::EXT_INST_IMPORT, [Operand::Result(_), Operand::Text(name), ..]) => {
+            set_named(name)
+        }
+        _ => Set::Other,
     }
 }
 
-/// Whether the first instruction that defines an id imports the set OpenCL.std.
-fn is_opencl_set(insts: &[Inst<'_>], definition: Option<u32>) -> bool
+/// The set that an id stands for, by the first instruction that defines it.
+fn set_at(insts: &[Inst<'_>], definition: Option<u32>) -> Set
     ensures { (x : ℕ) → definition ≡ definition_of (map plain_inst insts.now) x
-        → result ≡ specs.is_opencl (defined_by (map plain_inst insts.now) x) }
+        → result ≡ set_of (map plain_inst insts.now) x }
 {
     let Some(at) = definition else {
-        return false;
+        return Set::Other;
     };
     match insts.get(at as usize) {
-        Some(inst) => is_opencl(inst),
-        None => false,
+        Some(inst) => set_imported(inst),
+        None => Set::Other,
+    }
+}
+
+/// What an instruction calls, if it is an OpExtInst.
+pub fn called_by(insts: &[Inst<'_>], definitions: &Numbers, inst: &Inst<'_>) -> Option<Call>
+    requires { (x : ℕ) → kept definitions.now x ≡ definition_of (map plain_inst insts.now) x }
+    ensures { result ≡ specs.called_by (map plain_inst insts.now) (plain_inst inst.now) }
+{
+    if inst.opcode != opcode::EXT_INST {
+        return None;
+    }
+    match inst.operands.as_slice() {
+        [
+            Operand::OfType(_),
+            Operand::Result(_),
+            Operand::Id(set),
+            Operand::Word(number),
+            behind @ ..,
+        ] => Some(Call {
+            set: set_at(insts, definitions.get(*set)),
+            number: *number,
+            operands: behind.len() as u32,
+        }),
+        _ => None,
     }
 }
 
@@ -62,19 +107,14 @@ pub fn push_call(
     ensures { OnOk result (string_bytes out.new ≡ string_bytes out.old ++ call_note (map plain_inst insts.now)
         (plain_inst inst.now)) }
 {
-    if inst.opcode != opcode::EXT_INST {
-        return Ok(());
-    }
-    match inst.operands.as_slice() {
-        [
-            Operand::OfType(_),
-            Operand::Result(_),
-            Operand::Id(set),
-            Operand::Word(number),
-            ..
-        ] if is_opencl_set(insts, definitions.get(*set)) => {
-            push_note(out, opencl_name(lines, *number))
-        }
+    match called_by(insts, definitions, inst) {
+        Some(
+            Call {
+                set: Set::OpenClStd,
+                number,
+                ..
+            },
+        ) => push_note(out, opencl_name(lines, number)),
         _ => Ok(()),
     }
 }

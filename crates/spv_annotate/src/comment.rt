@@ -72,7 +72,7 @@ fn push_notes(
     ensures { OnOk result (string_bytes out.new ≡ string_bytes out.old ++ notes (map plain_inst insts.now)
         (value_in known.now.values at) at (plain_inst inst.now)) }
 {
-    push_names(out, insts, &known.namings, inst)?;
+    push_names(out, insts, &known.definitions, &known.namings, inst)?;
     push_call(out, insts, &known.definitions, known.calls.as_slice(), inst)?;
     push_note(out, known.values.of(at))?;
     push_block(out, insts, known, at, inst)

@@ -9,8 +9,9 @@ ghost use Rattle.spv_annotate.specs.inner.Look.{scene};
 use crate::buffer::push_between;
 use crate::linked::push_link;
 use crate::look::Look;
-use crate::names::{name_at, push_short};
+use crate::names::name_at;
 use crate::piece::Piece;
+use crate::short::push_short;
 use crate::words::push_id;
 use std::alloc::AllocError;
 
@@ -31,11 +32,11 @@ fn section_title(section: u32) -> &'static str
     }
 }
 
-/// Adds a link to a section.
-fn push_section_link(out: &mut String, section: u32) -> Result<(), AllocError>
-    ensures { OnOk result (string_bytes out.new ≡ string_bytes out.old ++ section_link section) }
+/// Adds a link to the first instruction of a section.
+fn push_section_link(out: &mut String, inst: u32, section: u32) -> Result<(), AllocError>
+    ensures { OnOk result (string_bytes out.new ≡ string_bytes out.old ++ section_link inst section) }
 {
-    push_between(out, "<a href=#s", section, ">")?;
+    push_between(out, "<a href=#", inst, ">")?;
     out.push_str(section_title(section))?;
     out.push_str("</a>\n")
 }
@@ -90,7 +91,7 @@ impl<'p, 'a> Look<'p, 'a> {
             ≡ string_bytes out.old ++ contents_of (scene self.now) (plain_piece piece.entry)) }
     {
         match piece {
-            Piece::Section(section) => push_section_link(out, section),
+            Piece::Section { inst, section } => push_section_link(out, inst, section),
             Piece::Function(inst) => self.push_list(out, inst),
             Piece::Block(inst) => {
                 self.push_entry(out, inst)?;

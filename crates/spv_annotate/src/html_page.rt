@@ -6,7 +6,8 @@ ghost use Rattle.spv_layout.specs.Place.{AreFew, IsShort};
 ghost use Rattle.spv_module.specs.Module.{plain_inst, plain_insts};
 ghost use Rattle.spv_annotate.specs.Document.{IsSpelled, IsSubject, Subject, document};
 ghost use Rattle.spv_annotate.specs.Page as specs;
-ghost use Rattle.spv_annotate.specs.Page.{IsPage, IsScene, beginnings, contents_of, page_of};
+ghost use Rattle.spv_annotate.specs.Html.{escaped};
+ghost use Rattle.spv_annotate.specs.Page.{IsPage, IsScene, beginnings, contents_of, front_of, page_of};
 ghost use Rattle.spv_annotate.specs.inner.Look.{scene};
 
 use crate::draft::SIZE;
@@ -20,19 +21,31 @@ use crate::style::{END, HEAD, LIST, MIDDLE, STYLE};
 use crate::uses::Uses;
 use crate::walk::walk_of;
 use crate::writer::annotate_with;
+use spv_lines::push_plain;
 use spv_module::Module;
 use spv_table::Table;
 use std::alloc::{AllocError, Global};
 
 /// Adds what stands before the list of contents.
 fn push_front(out: &mut String, title: &str) -> Result<(), AllocError>
-    ensures { OnOk result (string_bytes out.new ≡ string_bytes out.old ++ specs.page_front title.now) }
+    ensures { OnOk result (string_bytes out.new ≡ string_bytes out.old ++ front_of (escaped title.now)) }
 {
     out.push_str(HEAD)?;
     push_escaped(out, title)?;
     out.push_str(STYLE)?;
     push_escaped(out, title)?;
     out.push_str(LIST)
+}
+
+/// The page up to the list of contents.
+fn page_front(alloc: Global, title: &str) -> Result<String, AllocError>
+    ensures { IfOk result (λ t. string_bytes t ≡ specs.page_front title.now) }
+{
+    let mut plain = String::new(alloc);
+    push_plain(&mut plain, title)?;
+    let mut out = String::new(alloc);
+    push_front(&mut out, plain.as_str())?;
+    Ok(out)
 }
 
 /// The number of the instruction of a fault.
@@ -55,8 +68,7 @@ fn page_contents(
     ensures { IfOk result (λ t. string_bytes t ≡ specs.page_front title.now
         ++ flat_map (contents_of (scene look.entry)) (beginnings (map plain_inst look.entry.insts.now) function)) }
 {
-    let mut out = String::new(look.alloc);
-    push_front(&mut out, title)?;
+    let out = page_front(look.alloc, title)?;
     let mut pen = ContentsPen { out, look };
     write_beginnings(&mut pen, look.insts, function)?;
     let ContentsPen { out, .. } = pen;
@@ -111,9 +123,10 @@ fn page_by(
 }
 
 /// The page of a module that words spell: what `annotate` writes, as a document of HTML that needs nothing beside it.
-/// It has the title that is given, a list of contents, and in its element `main` the lines: the line of an instruction
-/// has the instruction's number as its anchor, an id leads to the instruction that defines it, functions and blocks are
-/// headings, and what is told of a fault, its instruction and the blocks of its walk are marked.
+/// It has the title that is given, without control characters, a list of contents, and in its element `main` the lines:
+/// the line of an instruction has the instruction's number as its anchor, an id leads to the instruction that defines
+/// it, functions and blocks are headings, and what is told of a fault, its instruction and the blocks of its walk are
+/// marked.
 ///
 /// An `AllocError` comes only where a growth of memory was refused.
 pub fn page(
@@ -131,7 +144,7 @@ pub fn page(
     let insts = module.insts.as_slice();
     let definitions = find_definitions(alloc, insts)?;
     let namings = find_namings(alloc, insts)?;
-    let uses = Uses::new(alloc, insts)?;
+    let uses = Uses::new(alloc, insts, &definitions)?;
     let walk = walk_of(alloc, finding)?;
     let look = Look {
         alloc,

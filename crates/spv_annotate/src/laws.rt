@@ -1,16 +1,21 @@
 //! Laws of the definitions, and worked examples. Each function does nothing: its contract is what is proved.
 
-ghost use Rattle.std.specs.Prelude.{◌≡◌, ◌++◌, ◌∷◌, [], ℕ, List, Option, None, Some, codes, false, map, true};
-ghost use Rattle.std.specs.List.{flat_map};
+ghost use Rattle.std.specs.Prelude.{◌≡◌, ◌++◌, ◌∷◌, [], ℕ, List, Option, None, Some, codes, false, length, map, true};
+ghost use Rattle.std.specs.List.{flat_map, range_with_len};
 ghost use Rattle.spv_table.specs.Table.{Table};
 ghost use Rattle.spv_module.specs.declared.module.Module.{Module};
 ghost use Rattle.spv_module.specs.Module.{plain_insts};
+ghost use Rattle.spv_module.specs.Operand.{Id, OfType, Result, Word};
 ghost use Rattle.spv_lines.specs.Text.{ended};
 ghost use Rattle.spv_lines.specs.Plain.{plain_of};
 ghost use Rattle.spv_annotate.specs.declared.finding.Finding.{Finding};
 ghost use Rattle.spv_annotate.specs.declared.values.Bits.TheVariants.{Single};
 ghost use Rattle.spv_annotate.specs.Bare.{asked_lines, bare, bare_text};
-ghost use Rattle.spv_annotate.specs.Document.{IsSpelled, IsSubject, Subject, beginning, document, is_of};
+ghost use Rattle.spv_annotate.specs.Document.{IsSpelled, IsSubject, Subject, beginning, document, is_of, line_of};
+ghost use Rattle.spv_extended.specs.Example.{call, imports};
+ghost use Rattle.spv_extended.specs.declared.signature.More.TheVariants.{Nothing};
+ghost use Rattle.spv_annotate.specs.declared.linked.Quoting.TheVariants.{Outside};
+ghost use Rattle.spv_annotate.specs.Called.{ids_of, told_operands, unmarked};
 ghost use Rattle.spv_annotate.specs.Example.{two_blocks};
 ghost use Rattle.spv_annotate.specs.Module.{inst_at, predecessors};
 ghost use Rattle.spv_annotate.specs.Notes.{call_note, comment, name_notes, short_name};
@@ -18,15 +23,16 @@ ghost use Rattle.spv_annotate.specs.Piece.{Block, Comment, Function, Section, te
 ghost use Rattle.spv_annotate.specs.Values.{float_of, widened};
 
 /// Taking away the comments of the text for reading, the spaces before them and empty lines gives exactly the shown
-/// lines, each control character as `\xNN`: those of the header, and those of the instructions that were asked for,
-/// which are all where no function was.
+/// lines, each control character as `\xNN`, and literals of extended instructions without `%`: those of the header, and
+/// those of the instructions that were asked for, which are all where no function was.
 pub fn bare_text_is_shown()
     ensures asked { (G : Table) (m : Module) (told : Option Finding) (function : Option ℕ) (S : Subject)
         → IsSpelled G (plain_insts m) → IsSubject G m told function S
         → bare_text (flat_map (text_of false) (document S)) ≡ ended (S.header ++ asked_lines S) }
     ensures whole { (G : Table) (m : Module) (told : Option Finding) (S : Subject)
         → IsSpelled G (plain_insts m) → IsSubject G m told None S
-        → bare_text (flat_map (text_of false) (document S)) ≡ ended (S.header ++ map plain_of S.lines) }
+        → bare_text (flat_map (text_of false) (document S))
+        ≡ ended (S.header ++ map (λ n. plain_of (line_of S n)) (range_with_len 0 (length S.insts))) }
 {}
 
 /// Names and calls.
@@ -38,8 +44,25 @@ pub fn note_examples()
     ensures long { short_name (codes "123456789 123456789 123456789 123456789 12") ≡ codes
         "123456789 123456789 123456789 123456789 .." }
     ensures not_control { ¬ (short_name (27 ∷ []) ≡ 27 ∷ []) }
+    // Ten `<` take forty octets in a page, and eleven take more.
+    ensures marks { short_name (codes "<<<<<<<<<<") ≡ codes "<<<<<<<<<<" }
+    ensures more_marks { short_name (codes "<<<<<<<<<<<") ≡ codes "<<<<<<<<<<.." }
     ensures call { call_note two_blocks (inst_at two_blocks 8) ≡ codes ", sqrt" }
     ensures no_call { call_note two_blocks (inst_at two_blocks 9) ≡ [] }
+{}
+
+/// Literals of extended instructions. vloadn (171) of OpenCL.std takes two ids and a literal, and DebugTypeVector (6)
+/// of OpenCL.DebugInfo.100 an id and a literal; of a set that is not known each place is that of an id.
+pub fn literal_examples()
+    ensures operands { told_operands imports (call 1 171 (Id 7 ∷ Id 8 ∷ Id 4 ∷ []))
+        ≡ OfType 3 ∷ Result 9 ∷ Id 1 ∷ Word 171 ∷ Id 7 ∷ Id 8 ∷ Word 4 ∷ [] }
+    ensures vector { ids_of imports (call 2 6 (Id 7 ∷ Id 4 ∷ [])) ≡ 3 ∷ 9 ∷ 2 ∷ 7 ∷ [] }
+    ensures other { ids_of [] (call 2 6 (Id 7 ∷ Id 4 ∷ [])) ≡ 3 ∷ 9 ∷ 2 ∷ 7 ∷ 4 ∷ [] }
+    // The second operand behind the number is a literal.
+    ensures line { unmarked (record { least = 2; more = Nothing; literals = 2 }) 0 Outside (codes "%9 = %3 %2 6 %7 %4")
+        ≡ codes "%9 = %3 %2 6 %7 4" }
+    ensures not_first { ¬ (unmarked (record { least = 2; more = Nothing; literals = 2 }) 0 Outside
+        (codes "%9 = %3 %2 6 %7 %4") ≡ codes "%9 = %3 %2 6 7 4") }
 {}
 
 /// Blocks and the comment behind a label.
@@ -54,7 +77,7 @@ pub fn block_examples()
 
 /// What begins, and what is asked for.
 pub fn place_examples()
-    ensures section { beginning two_blocks 2 ≡ Section 9 ∷ [] }
+    ensures section { beginning two_blocks 2 ≡ Section 2 9 ∷ [] }
     ensures same_section { beginning two_blocks 3 ≡ [] }
     ensures function { beginning two_blocks 4 ≡ Function 4 ∷ [] }
     ensures block { beginning two_blocks 7 ≡ Block 7 ∷ [] }

@@ -10,8 +10,9 @@ ghost use Rattle.spv_annotate.specs.inner.Linked as specs;
 ghost use Rattle.spv_annotate.specs.inner.Linked.{base, is_steady, part_len, until_id};
 ghost use Rattle.spv_annotate.specs.inner.Numbers.{kept};
 ghost use Rattle.spv_annotate.specs.Html.{escaped};
-ghost use Rattle.spv_annotate.specs.Page as page;
-ghost use Rattle.spv_annotate.specs.Page.{after_byte, id_html, id_of, ids_at, link_to, linked, part_html};
+ghost use Rattle.spv_annotate.specs.Quoted as quoted;
+ghost use Rattle.spv_annotate.specs.Page.{id_html, id_of, ids_at, link_to, linked, part_html};
+ghost use Rattle.spv_annotate.specs.Quoted.{after_byte};
 
 use crate::buffer::{push_between, put_number, put_octets};
 use crate::html::{first_mark, is_mark, push_escaped};
@@ -82,7 +83,7 @@ impl Quoting {
 
     /// Whether an id begins with a byte.
     fn begins_id(self, byte: u8) -> bool
-        ensures { result ≡ page.begins_id self byte }
+        ensures { result ≡ quoted.begins_id self byte }
     {
         match self {
             Quoting::Outside | Quoting::Commented => byte == b'%',
@@ -133,7 +134,7 @@ fn size_past_steady(line: &[u8], quoting: Quoting) -> usize
 
 /// How many bytes stand before the next id.
 #[inline(always)]
-fn size_until_id(line: &[u8], quoting: Quoting) -> usize
+pub fn size_until_id(line: &[u8], quoting: Quoting) -> usize
     ensures size { result ≡ until_id quoting line.now }
     ensures within { result ≤ length line.now }
 {

@@ -59,27 +59,6 @@ fn push_header(out: &mut String, buffer: &[u8], at: usize, text: &str) -> Result
     Ok(0)
 }
 
-/// Adds an empty line where a section begins.
-///
-/// An `AllocError` comes only where a growth of memory was refused, and then nothing is said of what is left.
-fn push_section(
-    out: &mut String,
-    buffer: &mut [u8],
-    at: usize,
-    section: u32,
-) -> Result<usize, AllocError>
-    requires size { SIZE ≤ length buffer.old }
-    requires at { at ≤ FULL }
-    requires utf8 { IsUtf8 (take at buffer.old) }
-    ensures { IfOk result (λ end. IsDrafted (codes "<br id=s" ++ (decimal section ++ codes ">\n"))
-        (string_bytes out.old) at buffer.old (string_bytes out.new) end buffer.new) }
-{
-    let number = add_text(buffer, "<br id=s", at);
-    let behind = add_number(buffer, section, number);
-    let added = add_text(buffer, ">\n", behind);
-    settle(out, buffer, added)
-}
-
 /// Begins the heading that a line is, if it is one, behind a place, and gives where that ends.
 #[inline(always)]
 fn add_heading(buffer: &mut [u8], opcode: u16, at: usize) -> usize
@@ -297,8 +276,7 @@ impl<'p, 'a> Look<'p, 'a> {
     {
         match piece {
             Piece::Header(text) => push_header(out, buffer, at, text),
-            Piece::Section(section) => push_section(out, buffer, at, section),
-            Piece::Function(_) => push_fixed(out, buffer, at, "<br>\n"),
+            Piece::Section { .. } | Piece::Function(_) => push_fixed(out, buffer, at, "<br>\n"),
             Piece::Block(_) => Ok(at),
             Piece::Line { inst, text } => self.push_line(out, buffer, at, inst, text),
             Piece::Comment(text) => self.push_comment(out, buffer, at, text),

@@ -4,37 +4,18 @@ ghost use Rattle.std.specs.Prelude.{◌≡◌, ◌++◌, ◌≤◌, ◌<◌, ℕ
 ghost use Rattle.std.specs.List.{flat_map, filter_map};
 ghost use Rattle.spv_module.specs.Module.{plain_inst, plain_operand, plain_operands};
 ghost use Rattle.spv_annotate.specs.Module as specs;
-ghost use Rattle.spv_annotate.specs.Module.{id_in, ids_of, inst_at, naming_of};
-ghost use Rattle.spv_annotate.specs.Notes.{cut_at, most, name_note, name_notes, name_text, short_name};
+ghost use Rattle.spv_annotate.specs.Called.{told_from};
+ghost use Rattle.spv_annotate.specs.Module.{definition_of, id_in, inst_at, naming_of};
+ghost use Rattle.spv_annotate.specs.Notes.{name_note, name_notes, name_text};
 ghost use Rattle.spv_annotate.specs.inner.Numbers.{kept};
 
+use crate::literals::{signature_at, told};
 use crate::numbers::Numbers;
-use crate::tame::push_tame;
+use crate::short::push_short;
 use crate::words::push_id;
+use spv_extended::Signature;
 use spv_module::{Inst, Operand, opcode};
 use std::alloc::AllocError;
-
-/// How many octets of a name are told at most.
-const MOST: usize = 40;
-
-/// The beginning of a name that is longer than what is told: its whole characters in that.
-fn beginning(name: &str) -> &str
-    requires { most < length name.now }
-    ensures { result.now ≡ take (cut_at name.now most) name.now }
-{
-    &name[..name.floor_char_boundary(MOST)]
-}
-
-/// Adds a name without its control characters, or the beginning of a long one.
-pub fn push_short(out: &mut String, name: &str) -> Result<(), AllocError>
-    ensures { OnOk result (string_bytes out.new ≡ string_bytes out.old ++ short_name name.now) }
-{
-    if name.len() <= MOST {
-        return push_tame(out, name);
-    }
-    push_tame(out, beginning(name))?;
-    out.push_str("..")
-}
 
 /// The name in an OpName.
 fn text_in<'a>(operands: &[Operand<'a>]) -> &'a str
@@ -89,19 +70,21 @@ fn id_of(operand: Operand<'_>) -> Option<u32>
     }
 }
 
-/// Adds the names of the ids that operands are.
+/// Adds the names of the ids that operands are, of which some are literals.
 fn push_operand_names(
     out: &mut String,
     insts: &[Inst<'_>],
     namings: &Numbers,
+    signature: Signature,
     operands: &[Operand<'_>],
 ) -> Result<(), AllocError>
     requires { (x : ℕ) → kept namings.now x ≡ naming_of (map plain_inst insts.now) x }
     ensures { OnOk result (string_bytes out.new ≡ string_bytes out.old ++ flat_map
-        (name_note (map plain_inst insts.now)) (filter_map id_in (plain_operands operands.now))) }
+        (name_note (map plain_inst insts.now))
+        (filter_map id_in (told_from signature 0 (plain_operands operands.now)))) }
 {
-    for operand in operands {
-        if let Some(id) = id_of(*operand) {
+    for (place, operand) in operands.iter().enumerate() {
+        if let Some(id) = id_of(told(signature, place, *operand)) {
             push_name(out, insts, namings, id)?;
         }
     }
@@ -114,15 +97,18 @@ fn push_operand_names(
 pub fn push_names(
     out: &mut String,
     insts: &[Inst<'_>],
+    definitions: &Numbers,
     namings: &Numbers,
     inst: &Inst<'_>,
 ) -> Result<(), AllocError>
-    requires { (x : ℕ) → kept namings.now x ≡ naming_of (map plain_inst insts.now) x }
+    requires definitions { (x : ℕ) → kept definitions.now x ≡ definition_of (map plain_inst insts.now) x }
+    requires namings { (x : ℕ) → kept namings.now x ≡ naming_of (map plain_inst insts.now) x }
     ensures { OnOk result (string_bytes out.new ≡ string_bytes out.old ++ name_notes (map plain_inst insts.now)
         (plain_inst inst.now)) }
 {
     if inst.opcode == opcode::NAME {
         return Ok(());
     }
-    push_operand_names(out, insts, namings, inst.operands.as_slice())
+    let signature = signature_at(insts, definitions, inst);
+    push_operand_names(out, insts, namings, signature, inst.operands.as_slice())
 }

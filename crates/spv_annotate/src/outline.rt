@@ -58,7 +58,7 @@ impl Before {
         if self.function.is_some() || section == self.section {
             return None;
         }
-        Some(Piece::Section(section))
+        Some(Piece::Section { inst: at, section })
     }
 }
 

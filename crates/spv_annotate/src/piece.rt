@@ -10,8 +10,8 @@ use std::alloc::AllocError;
 pub enum Piece<'t> {
     /// A line of the header, without its end.
     Header(&'t str),
-    /// A section of that number begins (SPIR-V Specification 1.6, section 2.4), from 1 to 9.
-    Section(u32),
+    /// A section of that number, from 1 to 9, begins with an instruction (SPIR-V Specification 1.6, section 2.4).
+    Section { inst: u32, section: u32 },
     /// A function begins with the OpFunction of that number.
     Function(u32),
     /// A block begins with the OpLabel of that number.

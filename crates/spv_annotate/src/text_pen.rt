@@ -42,7 +42,7 @@ fn push_piece(out: &mut String, color: bool, piece: Piece<'_>) -> Result<(), All
 {
     match piece {
         Piece::Header(text) => out.push_str(text),
-        Piece::Section(_) | Piece::Function(_) | Piece::Break => out.push('\n'),
+        Piece::Section { .. } | Piece::Function(_) | Piece::Break => out.push('\n'),
         Piece::Block(_) => Ok(()),
         Piece::Line { text, .. } => out.push_str(text),
         Piece::Comment(text) => push_colored(out, color, "\x1b[2m", text),

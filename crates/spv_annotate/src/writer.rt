@@ -11,7 +11,10 @@ ghost use Rattle.spv_lines.specs.Plain.{plain_of};
 ghost use Rattle.spv_annotate.specs.Document as specs;
 ghost use Rattle.spv_annotate.specs.Document.{IsSpelled, IsSubject, Subject, begun, document, entry, header_piece};
 ghost use Rattle.spv_annotate.specs.Document.{is_of, line_pieces, mark_piece, marks};
-ghost use Rattle.spv_annotate.specs.Module.{function_of};
+ghost use Rattle.spv_annotate.specs.declared.linked.Quoting.TheVariants.{Outside};
+ghost use Rattle.spv_annotate.specs.Called as called;
+ghost use Rattle.spv_annotate.specs.Called.{told_line, unmarked};
+ghost use Rattle.spv_annotate.specs.Module.{function_of, inst_at};
 ghost use Rattle.spv_annotate.specs.Notes.{comment, gap, place_text};
 ghost use Rattle.spv_annotate.specs.Piece.{Break, Comment, IsWritten, Line};
 ghost use Rattle.spv_annotate.specs.inner.Known.{IsKnown};
@@ -23,6 +26,7 @@ ghost use Rattle.spv_annotate.specs.inner.Values.{value_in};
 use crate::comment::{PLACE, is_bare, left_out, place_in, push_comment};
 use crate::finding::Finding;
 use crate::known::Known;
+use crate::literals::{push_unmarked, signature_at};
 use crate::outline::{function_at, is_in_asked};
 use crate::piece::{Pen, Piece};
 use crate::section::section_of;
@@ -104,7 +108,7 @@ fn write_beginning<P: Pen>(
     if section == standing.last_section() {
         return Ok(());
     }
-    pen.write(Piece::Section(section))
+    pen.write(Piece::Section { inst: at, section })
 }
 
 /// Writes a line of evidence. `draft` is room for it.
@@ -255,6 +259,54 @@ fn write_tamed<P: Pen>(
     write_plain(pen, task, &mut drafts.comment, at, word, text)
 }
 
+/// Writes the line of an OpExtInst, without the `%` of literals, with its comment.
+fn write_call<P: Pen>(
+    pen: &mut P,
+    task: &Task<'_, '_>,
+    drafts: &mut Drafts,
+    at: u32,
+    word: u32,
+    line: &str,
+) -> Result<(), AllocError>
+    requires known { IsKnown (plain_insts task.now.«module».now) task.now.known.now }
+    requires within { at < length (plain_insts task.now.«module».now) }
+    requires word { word ≡ first_word_of (plain_insts task.now.«module».now) at }
+    ensures { (lines : List (List ℕ)) → OnOk result (IsWritten P.text P.writes
+        (line_pieces (subject_of task.now lines) at (plain_of (unmarked
+        (called.signature_at (plain_insts task.now.«module».now) (inst_at (plain_insts task.now.«module».now) at))
+        0 Outside line.now))) pen.old pen.new) }
+{
+    let insts = task.module.insts.as_slice();
+    let signature = signature_at(insts, &task.known.definitions, &insts[at as usize]);
+    let mut told = String::new(task.alloc);
+    push_unmarked(&mut told, signature, line)?;
+    write_line(pen, task, drafts, at, word, false, told.as_str())
+}
+
+/// Writes the line of an instruction, as it is told, with its comment. `tame` is that of `write_line`.
+fn write_told<P: Pen>(
+    pen: &mut P,
+    task: &Task<'_, '_>,
+    drafts: &mut Drafts,
+    at: u32,
+    word: u32,
+    tame: bool,
+    line: &str,
+) -> Result<(), AllocError>
+    requires known { IsKnown (plain_insts task.now.«module».now) task.now.known.now }
+    requires tame { tame ≡ true → list_all is_tame_octet line.now ≡ true }
+    requires within { at < length (plain_insts task.now.«module».now) }
+    requires word { word ≡ first_word_of (plain_insts task.now.«module».now) at }
+    ensures { (lines : List (List ℕ)) → OnOk result (IsWritten P.text P.writes
+        (line_pieces (subject_of task.now lines) at (plain_of (told_line (plain_insts task.now.«module».now)
+        (inst_at (plain_insts task.now.«module».now) at) line.now))) pen.old pen.new) }
+{
+    if task.module.insts[at as usize].opcode == opcode::EXT_INST {
+        return write_call(pen, task, drafts, at, word, line);
+    }
+    write_line(pen, task, drafts, at, word, tame, line)
+}
+
 /// Whether what stands in a function, or in none, is asked for.
 fn is_asked(task: &Task<'_, '_>, function: Option<u32>) -> bool
     ensures { (n : ℕ) → function ≡ function_of (plain_insts task.now.«module».now) n
@@ -285,7 +337,7 @@ fn write_entry<P: Pen>(
         return Ok(());
     }
     write_beginning(pen, at, code, standing)?;
-    write_line(pen, task, drafts, at, standing.word, tame, line)?;
+    write_told(pen, task, drafts, at, standing.word, tame, line)?;
     write_marks(pen, task, at)
 }
 

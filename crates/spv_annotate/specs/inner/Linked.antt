@@ -3,7 +3,7 @@ use Rattle.std.specs.Prelude.{◌==◌, ◌||◌, ℕ, suc, List, [], ◌∷◌,
 use Rattle.spv_annotate.specs.declared.linked.Quoting.{Quoting}
 use Rattle.spv_annotate.specs.declared.linked.Quoting.TheVariants.{Outside, Commented}
 use Rattle.spv_annotate.specs.Html.{is_marked}
-use Rattle.spv_annotate.specs.Page.{after_byte, begins_id}
+use Rattle.spv_annotate.specs.Quoted.{after_byte, begins_id}
 
 -- where a reader of the line stands at its front
 abbrev pub base : Quoting → Quoting

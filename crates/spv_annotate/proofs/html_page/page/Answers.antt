@@ -11,8 +11,8 @@ find_definitions-requires c = rw (c.as_slice-insts.ensures.value) (few c.args.mo
 pub find_namings-requires : goal.find_namings-requires
 find_namings-requires c = rw (c.as_slice-insts.ensures.value) (few c.args.module.now.insts.items c.requires.words)
 
-pub new-requires : goal.new-requires
-new-requires c = rw (c.as_slice-insts.ensures.value) c.requires.words
+pub new-requires-clause-words : goal.new-requires-clause-words
+new-requires-clause-words c = rw (c.as_slice-insts.ensures.value) c.requires.words
 
 pub page_by-requires-clause-known : goal.page_by-requires-clause-known
 page_by-requires-clause-known c =

@@ -1,10 +1,11 @@
 use Rattle.std.proofs.Common.{refl}
 use Rattle.std.specs.Fmt.{digits}
+use Rattle.spv_extended.specs.Facts.{facts_of}
 use Rattle.spv_annotate.specs.Notes.{cut_at, opencl_lines}
 use Rattle.spv_annotate.proofs.laws.note_examples.Goals as goal
 
 pub returns-clause-names : goal.returns-clause-names
-unfolding digits
+unfolding digits facts_of
 returns-clause-names c = refl
 
 pub returns-clause-long : goal.returns-clause-long
@@ -14,3 +15,7 @@ returns-clause-long c = refl
 pub returns-clause-call : goal.returns-clause-call
 unfolding opencl_lines
 returns-clause-call c = refl
+
+pub returns-clause-more_marks : goal.returns-clause-more_marks
+unfolding cut_at
+returns-clause-more_marks c = refl

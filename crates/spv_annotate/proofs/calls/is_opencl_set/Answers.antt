@@ -1,9 +1,0 @@
-use Rattle.std.proofs.Common.{arith}
-use Rattle.std.proofs.lemmas.Grind.{elements}
-use Rattle.spv_annotate.proofs.calls.is_opencl_set.Goals as goal
-
-pub returns-in-Some-get : goal.returns-in-Some-get
-returns-in-Some-get c = grind (arith, elements)
-
-pub returns-in-None : goal.returns-in-None
-returns-in-None c = grind (arith, elements)
