@@ -59,8 +59,8 @@ const HEAD: &str =
 20014 3 50021 4 1 2 3 50036 1 a 0 4 30037 2 b 30037 3 c";
 
 /// A function of 1,000 blocks in a chain, with a branch from the last to the second. Block N, from 0, has the label
-/// 1000 + N, and defines the value 2000 + N as a sum: of the parameter in the first block, of `of_second` in the second,
-/// and in each other of the value of the block before it (`is_near`), or of the first block's.
+/// 1000 + N, and defines the value 2000 + N as a sum: of the parameter in the first block, of `of_second` in the
+/// second, and in each other of the value of the block before it (`is_near`), or of the first block's.
 fn chain(alloc: Global, of_second: u32, is_near: bool) -> Result<String, AllocError> {
     let mut words = String::from_str(alloc, HEAD)?;
     for block in 0..1000u32 {
