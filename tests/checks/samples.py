@@ -1,5 +1,5 @@
-"""What tests of the crates read, as the files here give it: the constants of crates/spv_samples, and the grammar file of
-the stored run of crates/spv."""
+"""What tests of the crates read, as the files here give it: the constants of crates/spv_samples, and the grammar file
+of the stored run of crates/spv."""
 
 import re
 import struct

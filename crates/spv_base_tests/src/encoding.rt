@@ -137,7 +137,8 @@ fn refused(code: EncodeCode) -> Result<u32, EncodeError> {
     Err(EncodeError { code, inst: 0 })
 }
 
-/// An OpReturn with a word too many, the longest OpName, of 65,535 words behind the five of the header, and a longer one.
+/// An OpReturn with a word too many, the longest OpName, of 65,535 words behind the five of the header, and a longer
+/// one.
 #[test]
 fn one_instruction(rt: HostRuntime) -> Result<(), Fail> {
     let table = Table::from_slice(rt.alloc(), PROFILE.as_bytes())?;

@@ -1,7 +1,7 @@
-//! A small graph of blocks, with answers that were worked out by hand.
+//! A small graph of blocks, and rows of words, with answers that were worked out by hand.
 
 use spv_graphs::{
-    Block, Graph, Query, are_queries, first_unavailable, least_unavailable, open_queries,
+    Block, Graph, Query, are_queries, first_unavailable, least_unavailable, meet, open_queries,
 };
 use std::alloc::{AllocError, Global};
 use std::test::Fail;
@@ -55,4 +55,12 @@ fn values_in_a_diamond(rt: HostRuntime) -> Result<(), Fail> {
     let queries = vec![in rt.alloc(); query(0, 7), query(1, 8)]?;
     assert!(rt; is_told(rt.alloc(), &graph, &queries)?);
     Ok(())
+}
+
+#[test]
+fn common_bits(rt: HostRuntime) {
+    let mut into = [0xF0F0, 1];
+    assert!(rt; meet(&mut into, &[0xFF00, 1]) && into == [0xF000, 1]);
+    assert!(rt; !meet(&mut into, &[0xFF00, 1]) && into == [0xF000, 1]);
+    assert!(rt; !meet(&mut [], &[]));
 }

@@ -3,34 +3,52 @@
 use crate::layers::flow_of;
 use spv_builtin::{FromGrammar, Table};
 use spv_extended::Reach;
-use spv_inst::Stop;
-use spv_samples::{CALL_OF_LATER_FUNCTION, LOOP_WITH_PHI, PROFILE, Told, each_refused, image_of};
+use spv_inst::{Fault, Rule, Stop};
+use spv_samples::{
+    CALL_OF_LATER_FUNCTION, LOAD_WITH_MASK, LOOP_WITH_PHI, PROFILE, SMALLEST_KERNEL, Sample, Told,
+    each_refused, image_of,
+};
 use spv_verdict::{Checked, Ending, TraceError, Verdict, check, check_stream, trace};
 use spv_words::{FromRead, FromWrite, Image, WordError};
 use std::alloc::Global;
 use std::test::Fail;
 
-/// How the layers answer of an image of so many function definitions.
-fn told_of_flow(alloc: Global, table: &Table, image: &Image, definitions: u32) -> Told {
+/// What is said of a load where a module begins.
+const LOAD_FIRST: Fault = Fault {
+    rule: Rule::L1,
+    inst: 0,
+    word: 5,
+};
+
+/// How the layers answer of an image of so many function definitions, or else of that load.
+fn told_of_flow(alloc: Global, table: &Table, image: &Image, definitions: Option<u32>) -> Told {
     match flow_of(alloc, table, image) {
-        Ok(count) if count == definitions => Told::Right,
+        Ok(count) if definitions == Some(count) => Told::Right,
+        Err(Stop::Fault(fault)) if definitions.is_none() && fault == LOAD_FIRST => Told::Right,
         Err(Stop::Memory) => Told::NoMemory,
         _ => Told::Wrong,
     }
 }
 
-/// How the check of a sound module answers, which is looked at so far.
-fn told_of_check(alloc: Global, table: &Table, reach: Reach, image: &Image) -> Told {
+/// How the check of a sound module answers, or else of that load, which is looked at so far.
+fn told_of_check(
+    alloc: Global,
+    table: &Table,
+    reach: Reach,
+    image: &Image,
+    is_sound: bool,
+) -> Told {
     match check(alloc, table, reach, image) {
-        Ok(Verdict::Valid(_)) => Told::Right,
-        Ok(Verdict::Fault(_)) => Told::Wrong,
+        Ok(Verdict::Valid(_)) if is_sound => Told::Right,
+        Ok(Verdict::Fault(fault)) if !is_sound && fault == LOAD_FIRST => Told::Right,
+        Ok(_) => Told::Wrong,
         Err(_) => Told::NoMemory,
     }
 }
 
 /// How the check of its bytes answers. Where there is no memory, nothing is written.
-fn told_of_stream(alloc: Global, table: &Table, image: &Image) -> Told {
-    let mut line = [0u8; 6];
+fn told_of_stream(alloc: Global, table: &Table, image: &Image, is_sound: bool) -> Told {
+    let mut line = [0u8; 23];
     let mut reader = FromRead::new(image.octets());
     let answer = check_stream(
         alloc,
@@ -40,24 +58,31 @@ fn told_of_stream(alloc: Global, table: &Table, image: &Image) -> Told {
         &mut FromWrite::new(&mut line[..]),
     );
     match answer {
-        Ok(true) if line == *b"valid\n" => Told::Right,
-        Err(WordError::W9) if line == [0; 6] => Told::NoMemory,
+        Ok(true) if is_sound && line.starts_with(b"valid\n\0") => Told::Right,
+        Ok(false) if !is_sound && line == *b"fault L1 inst 0 word 5\n" => Told::Right,
+        Err(WordError::W9) if line == [0; 23] => Told::NoMemory,
         _ => Told::Wrong,
     }
 }
 
-/// How one of the calls answers of a sound module of so many function definitions.
-fn told(call: u32, alloc: Global, table: &Table, image: &Image, definitions: u32) -> Told {
+/// How one of the calls answers of a sound module of so many function definitions, or else of that load.
+fn told(call: u32, alloc: Global, table: &Table, image: &Image, definitions: Option<u32>) -> Told {
+    let is_sound = definitions.is_some();
     match call {
         0 => told_of_flow(alloc, table, image, definitions),
-        1 => told_of_check(alloc, table, Reach::Profile, image),
-        2 => told_of_check(alloc, table, Reach::Extended, image),
-        _ => told_of_stream(alloc, table, image),
+        1 => told_of_check(alloc, table, Reach::Profile, image, is_sound),
+        2 => told_of_check(alloc, table, Reach::Extended, image, is_sound),
+        _ => told_of_stream(alloc, table, image, is_sound),
     }
 }
 
 /// Makes each of the calls.
-fn each_call(alloc: Global, table: &Table, words: &str, definitions: u32) -> Result<(), Fail> {
+fn each_call(
+    alloc: Global,
+    table: &Table,
+    words: &str,
+    definitions: Option<u32>,
+) -> Result<(), Fail> {
     let image = image_of(alloc, words)?;
     for call in 0..4 {
         each_refused(alloc, || told(call, alloc, table, &image, definitions))?;
@@ -68,31 +93,88 @@ fn each_call(alloc: Global, table: &Table, words: &str, definitions: u32) -> Res
 #[test]
 fn checks(rt: HostRuntime) -> Result<(), Fail> {
     let table = Table::from_slice(rt.alloc(), PROFILE.as_bytes())?;
-    each_call(rt.alloc(), &table, LOOP_WITH_PHI.words, 1)?;
-    each_call(rt.alloc(), &table, CALL_OF_LATER_FUNCTION.words, 2)
+    for (sample, definitions) in [
+        (SMALLEST_KERNEL, Some(1)),
+        (LOOP_WITH_PHI, Some(1)),
+        (LOAD_WITH_MASK, None),
+        (CALL_OF_LATER_FUNCTION, Some(2)),
+    ] {
+        each_call(rt.alloc(), &table, sample.words, definitions)?;
+    }
+    Ok(())
 }
 
-/// How the run of a function that calls another answers.
-fn told_of_trace(alloc: Global, checked: &Checked<'_>) -> Told {
-    match trace(alloc, checked, 10, &[0], 100) {
-        Ok(run) if run.steps.len() == 10 && run.ending == Ending::Finished => Told::Right,
+/// A run: the function, the choices, and how many steps it has.
+#[derive(Clone, Copy)]
+struct Run {
+    function: u32,
+    choices: &'static [u32],
+    steps: usize,
+}
+
+/// The runs of the samples' entry points.
+const RUNS: [(Sample<'static>, Run); 3] = [
+    (
+        SMALLEST_KERNEL,
+        Run {
+            function: 3,
+            choices: &[],
+            steps: 2,
+        },
+    ),
+    (
+        LOOP_WITH_PHI,
+        Run {
+            function: 10,
+            choices: &[0, 1],
+            steps: 13,
+        },
+    ),
+    (
+        CALL_OF_LATER_FUNCTION,
+        Run {
+            function: 10,
+            choices: &[0],
+            steps: 10,
+        },
+    ),
+];
+
+/// How a run answers.
+fn told_of_trace(alloc: Global, checked: &Checked<'_>, run: Run) -> Told {
+    match trace(alloc, checked, run.function, run.choices, 100) {
+        Ok(told) if told.steps.len() == run.steps && told.ending == Ending::Finished => Told::Right,
         Err(TraceError::Memory) => Told::NoMemory,
         _ => Told::Wrong,
     }
 }
 
-/// Whether a module is checked, and has then its run and what is known of the call in its first function.
-fn is_traced(alloc: Global, table: &Table, image: &Image) -> bool {
+/// Whether a module is checked, and then has its run.
+fn is_traced(alloc: Global, table: &Table, image: &Image, run: Run) -> bool {
     match check(alloc, table, Reach::Profile, image) {
         Ok(Verdict::Valid(checked)) => {
-            is_known(&checked) && each_refused(alloc, || told_of_trace(alloc, &checked)).is_ok()
+            each_refused(alloc, || told_of_trace(alloc, &checked, run)).is_ok()
         }
         _ => false,
     }
 }
 
-/// Whether this is known of that call, instruction 15 at word 52, whose result is %16.
-fn is_known(checked: &Checked<'_>) -> bool {
+#[test]
+fn traces(rt: HostRuntime) -> Result<(), Fail> {
+    let table = Table::from_slice(rt.alloc(), PROFILE.as_bytes())?;
+    for (sample, run) in RUNS {
+        let image = image_of(rt.alloc(), sample.words)?;
+        assert!(rt; is_traced(rt.alloc(), &table, &image, run));
+    }
+    Ok(())
+}
+
+/// Whether a module is checked, and this is known of the call in its first function, instruction 15 at word 52, whose
+/// result is %16.
+fn is_known(alloc: Global, table: &Table, image: &Image) -> bool {
+    let Ok(Verdict::Valid(checked)) = check(alloc, table, Reach::Profile, image) else {
+        return false;
+    };
     let parts = checked.parts();
     match parts.plan.at(15) {
         Some(place) => {
@@ -106,9 +188,9 @@ fn is_known(checked: &Checked<'_>) -> bool {
 }
 
 #[test]
-fn traces(rt: HostRuntime) -> Result<(), Fail> {
+fn parts_of_a_module(rt: HostRuntime) -> Result<(), Fail> {
     let table = Table::from_slice(rt.alloc(), PROFILE.as_bytes())?;
     let image = image_of(rt.alloc(), CALL_OF_LATER_FUNCTION.words)?;
-    assert!(rt; is_traced(rt.alloc(), &table, &image));
+    assert!(rt; is_known(rt.alloc(), &table, &image));
     Ok(())
 }
