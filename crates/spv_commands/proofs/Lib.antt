@@ -1,3 +1,4 @@
+pub mod Answerings
 pub mod Assemblings
 pub mod Parts
 pub mod Showings

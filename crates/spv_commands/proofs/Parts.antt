@@ -7,7 +7,8 @@ use Rattle.std.proofs.lemmas.List.{flat_map_more, length-drop, length-map, lengt
 use Rattle.std.proofs.lemmas.Grind.{flat_map-append}
 use Rattle.std.specs.Borrow.{Bor}
 use Rattle.spv_table.specs.Table.{Table}
-use Rattle.std.specs.Prelude.{Result, Ok, Err, IfErr, IsErrOf, OnOk, flat_map, is_ok}
+use Rattle.std.specs.Prelude.{Result, Ok, Err, IfErr, IfOk, IsErrOf, OnOk, Vec, flat_map, is_ok}
+use Rattle.std.specs.Global.{Global}
 use Rattle.spv_words.specs.declared.words.WordError.{WordError}
 use Rattle.spv_words.specs.declared.words.WordError.TheVariants.{W1}
 use Rattle.spv_builtin.specs.Source.{IsTableOf, breaks}
@@ -18,7 +19,7 @@ use Rattle.spv_commands.specs.declared.judging.Judging.{Judging}
 use Rattle.spv_commands.specs.Each.{AreParts, Ends, IsPart, Known, unread_text}
 use Rattle.spv_commands.specs.Each.{more, none}
 use Rattle.spv_commands.specs.Name.{label, shown_byte}
-use Rattle.spv_commands.specs.inner.Progress.{HasGot, WritesOn, told_line, unread_line}
+use Rattle.spv_commands.specs.inner.Progress.{HasGot, IsUnread, WritesOn, told_line, unread_line}
 use Rattle.spv_commands.specs.declared.judging.Part.{Part}
 use Rattle.spv_commands.specs.declared.files.Unread.{Unread}
 use Rattle.spv_commands.specs.declared.files.Unread.TheVariants.{Failed, Memory}
@@ -207,6 +208,21 @@ part_unread G how name known why part h s (inl t) =
     rw (t.0, s) (unread_by G how name known why part.text.items h t.1)
 part_unread G how name known why part h s (inr t) =
     rw (t.0, s) (IsPart.starved (inr t.1) refl refl)
+
+-- what is written of a file that is known to have the bytes that were read
+of_bytes : (G : Table) (how : Judging) (name bytes : List ℕ) (known : Known) (out err : List ℕ) (status : ℕ) → IfSome known (λ file. file ≡ Some bytes)
+    → IsPart G how name (Some (Some bytes)) out err status → IsPart G how name known out err status
+of_bytes G how name bytes known out err status h (IsPart.judged own valid k d e s) = IsPart.judged own valid (rw (sym k) h) d e s
+of_bytes G how name bytes known out err status h (IsPart.unread k o e s) = cc
+of_bytes G how name bytes known out err status h (IsPart.starved o e s) = IsPart.starved o e s
+
+-- or of what its reading gave
+pub known_part : (G : Table) (how : Judging) (name : List ℕ) (known : Known) (file : Result (Vec ℕ Global) Unread) (part : Part)
+    → IfOk file (λ v. IfSome known (λ file. file ≡ Some v.items)) → (IsErrOf file Failed → IfSome known (λ file. file ≡ None))
+    → IfOk file (λ v. IsPart G how name (Some (Some v.items)) part.text.items (told_line name part.unread) part.status) → IfErr file (λ why. IsUnread how name why part)
+    → IsPart G how name known part.text.items (told_line name part.unread) part.status
+known_part G how name known (Ok v) part given unread judged refused = of_bytes G how name v.items known part.text.items (told_line name part.unread) part.status given judged
+known_part G how name known (Err why) part given unread judged refused = part_unread G how name known why part (λ q. unread (ap Err q)) refused.0 refused.1
 
 -- nothing is told of a file that was judged
 pub nothing_on : (sound : Bool) (here : Option (List ℕ)) (failed : ℕ) → WritesOn sound [] sound here here failed failed

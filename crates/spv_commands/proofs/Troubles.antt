@@ -38,7 +38,7 @@ of_taken take None P h = tt
 of_taken take (Some bytes) P h = h
 
 -- a text is no module, and is taken as it is
-same_text : (command : Command) (known : Option (List ℕ)) → IsNoText command (option_map (taken_by command) known) → IsNoText command known
+pub same_text : (command : Command) (known : Option (List ℕ)) → IsNoText command (option_map (taken_by command) known) → IsNoText command known
 same_text (Judge task g fs v e p q j) known h = absurd h
 same_text (Show g f v) known h = absurd h
 same_text (Asm g f o b x) None h = tt

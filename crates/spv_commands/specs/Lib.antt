@@ -1,7 +1,9 @@
+pub mod Answer
 pub mod Assemble
 pub mod Each
 pub mod Example
 pub mod Name
+pub mod Output
 pub mod Run
 pub mod Show
 pub mod Streams

@@ -1,4 +1,5 @@
 -- Definitions that serve the code alone.
+pub mod Answered
 pub mod Assembly
 pub mod Ending
 pub mod Progress

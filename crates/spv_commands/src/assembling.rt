@@ -137,7 +137,7 @@ fn faulty(
 }
 
 /// What bytes come to as a text. S6 is out of memory, and any other fault is told.
-fn assembly_of(
+pub fn assembly_of(
     alloc: Global,
     table: &Table,
     explain: bool,

@@ -1,10 +1,10 @@
 //! What is written of one file.
-ghost use Rattle.std.specs.Prelude.{◌≡◌, ◌⊎◌, ◌↔◌, ◌≤◌, ℕ, [], Some, None, IfOk, IfSome, IsErrOf, IsTrue};
+ghost use Rattle.std.specs.Prelude.{◌≡◌, ◌⊎◌, ◌↔◌, ◌≤◌, ℕ, [], Some, None, IfErr, IfOk, IsErrOf, IsTrue};
 ghost use Rattle.spv_verdict.specs.declared.verdict_line.Judgment.TheVariants.{Valid};
 ghost use Rattle.spv_commands.specs.Task.{DoesTask, detail_of, reach_of, taken};
 ghost use Rattle.spv_commands.specs.Each.{IsAnswerOf, IsPart, Judges, error_of, heading, unread_text};
 ghost use Rattle.spv_commands.specs.Name.{label};
-ghost use Rattle.spv_commands.specs.inner.Progress.{Adds, told_line, unread_line};
+ghost use Rattle.spv_commands.specs.inner.Progress.{Adds, IsUnread, told_line, unread_line};
 ghost use Rattle.spv_commands.specs.declared.files.Unread.TheVariants.{Failed, Memory};
 
 use crate::files::{Files, Unread};
@@ -99,7 +99,7 @@ fn add_judgment(
 }
 
 /// Has the bytes of a module taken as those of one of 1.6, if that is asked for.
-fn take_as(as_1_6: bool, bytes: &mut Vec<u8>)
+pub fn take_as(as_1_6: bool, bytes: &mut Vec<u8>)
     ensures { bytes.new.items ≡ taken as_1_6 bytes.old.items }
 {
     if as_1_6 {
@@ -206,22 +206,20 @@ fn judged(
     }
 }
 
-/// What is written of the file of a number and a name, if it is read and its module judged.
-fn read_part<F: Files>(
+/// What is written of a file that has these bytes, where its module is judged.
+fn judged_part(
     alloc: Global,
     how: Judging,
     table: &Table,
     name: &str,
-    number: usize,
-    files: &mut F,
+    bytes: Vec<u8>,
 ) -> Result<Part, Unread>
     ensures judged { IfOk result (λ part. (part.unread ≡ None)
-        × IsPart table.now how name.now (F.known files.old number) part.text.items [] part.status) }
-    ensures unread { IsErrOf result Failed → IfSome (F.known files.old number) (λ file. file ≡ None) }
+        × IsPart table.now how name.now (Some (Some bytes.items)) part.text.items [] part.status) }
+    ensures only { ¬ (IsErrOf result Failed) }
     ensures small { IfOk result (λ part. part.status ≤ 1) }
-    ensures kept { (n : ℕ) → F.known files.new n ≡ F.known files.old n }
 {
-    let mut bytes = files.read(alloc, number)?;
+    let mut bytes = bytes;
     take_as(how.as_1_6, &mut bytes);
     let (text, valid) = judged(alloc, how, table, name, bytes.as_slice())?;
     Ok(Part {
@@ -262,6 +260,30 @@ fn unread_part(alloc: Global, telling: Telling, name: &str, why: Unread) -> Part
     part
 }
 
+/// What is written of a file of this name that has these bytes, or was not read: the text on the standard output, why it
+/// was not judged, and the exit status for it alone. Of a module that is too long 16,777,217 of its bytes are enough.
+pub fn judge_file(
+    alloc: Global,
+    how: Judging,
+    table: &Table,
+    name: &str,
+    file: Result<Vec<u8>, Unread>,
+) -> Part
+    ensures judged { IfOk file (λ bytes. IsPart table.now how name.now (Some (Some bytes.items)) result.text.items
+        (told_line name.now result.unread) result.status) }
+    ensures unread { IfErr file (λ why. IsUnread how name.now why result) }
+    ensures small { result.status ≤ 2 }
+{
+    let bytes = match file {
+        Ok(bytes) => bytes,
+        Err(why) => return unread_part(alloc, how.telling, name, why),
+    };
+    match judged_part(alloc, how, table, name, bytes) {
+        Ok(part) => part,
+        Err(why) => unread_part(alloc, how.telling, name, why),
+    }
+}
+
 /// What is written of the file of a number and a name.
 pub fn part_of<F: Files>(
     alloc: Global,
@@ -276,10 +298,8 @@ pub fn part_of<F: Files>(
     ensures small { result.status ≤ 2 }
     ensures kept { (n : ℕ) → F.known files.new n ≡ F.known files.old n }
 {
-    match read_part(alloc, how, table, name, number, files) {
-        Ok(part) => part,
-        Err(why) => unread_part(alloc, how.telling, name, why),
-    }
+    let file = files.read(alloc, number);
+    judge_file(alloc, how, table, name, file)
 }
 
 /// Why a file was not judged, as a line.

@@ -3,12 +3,14 @@
 //! readers and writers, and on any files by a trait.
 #![tactic(auto)]
 
+mod answering;
 mod assembling;
 mod each;
 mod files;
 mod judging;
 pub mod laws;
 mod name;
+mod outgoing;
 mod program;
 mod reasons;
 mod showing;
@@ -17,11 +19,13 @@ mod trace_lines;
 mod tracing;
 mod writing;
 
+pub use answering::{Reply, answer, table_in};
 pub use assembling::{TextError, assemble_stream, read_all};
 pub use each::run_each;
 pub use files::{Files, InMemory, Unread};
-pub use judging::{Judging, Telling};
+pub use judging::{Judging, Part, Telling, judge_file, tell};
 pub use name::write_label;
+pub use outgoing::Output;
 pub use program::{Trouble, report, run};
 pub use reasons::entry_points;
 pub use showing::show_stream;
@@ -31,5 +35,6 @@ pub use spv_command_line::{
     arguments_in, help, is_verbose, text_asked,
 };
 pub use spv_extended::Reach;
+pub use spv_table::Table;
 pub use spv_words::{VersionSource, Versioned};
 pub use tracing::{RunError, trace_stream};

@@ -136,7 +136,7 @@ fn shown<S: Source, W: Sink>(
 }
 
 /// The order in which the bytes of words are written.
-fn order_by(big: bool) -> Order
+pub fn order_by(big: bool) -> Order
     ensures { result ≡ order_of big }
 {
     if big { Order::Big } else { Order::Little }
@@ -202,7 +202,7 @@ fn is_in_color(color: Color) -> bool
 }
 
 /// What `annotate` writes of the file of a name.
-fn view_by(form: Form, color: Color, file: &str) -> View<'_>
+pub fn view_by(form: Form, color: Color, file: &str) -> View<'_>
     ensures { result ≡ view_of form color file.entry }
 {
     match form {
@@ -237,7 +237,7 @@ fn viewed<S: Source, W: Sink>(
 }
 
 /// What codes say, or one of them, as lines or as objects of JSON.
-fn rules_bytes(alloc: Global, code: Option<AnyCode>, json: bool) -> Result<Vec<u8>, AllocError>
+pub fn rules_bytes(alloc: Global, code: Option<AnyCode>, json: bool) -> Result<Vec<u8>, AllocError>
     ensures { IfOk result (λ v. AreRules code json v.items) }
 {
     if json {
@@ -336,7 +336,7 @@ fn done_by<S: Source, W: Sink, O: Sink>(
 }
 
 /// Whether a command takes a module of an earlier version as one of 1.6.
-fn is_as_1_6(command: &Command) -> bool
+pub fn is_as_1_6(command: &Command) -> bool
     ensures { result ≡ takes_as_1_6 command.now }
 {
     match command {

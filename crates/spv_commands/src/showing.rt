@@ -50,7 +50,7 @@ fn unlisted(stop: Stop) -> Result<Shown, WordError>
 /// What is shown of the words of a module.
 ///
 /// `W9`: a growth of memory was refused. There is no other error.
-fn shown_of(alloc: Global, table: &Table, image: &Image) -> Result<Shown, WordError>
+pub fn shown_of(alloc: Global, table: &Table, image: &Image) -> Result<Shown, WordError>
     ensures shown { (bytes : List ℕ) (order : Order) → IsModule order bytes image.now
         → IfOk result (λ s. IsShowing table.now bytes (output_of s) (is_text s)) }
     ensures only { IfErr result (λ e. e ≡ W9) }

@@ -60,7 +60,7 @@ fn stopped(error: TraceError) -> RunError
 }
 
 /// What is written of the words of a module.
-fn traced_of(
+pub fn traced_of(
     alloc: Global,
     table: &Table,
     reach: Reach,

@@ -8,4 +8,4 @@ mod view;
 mod viewing;
 
 pub use view::{View, ViewError};
-pub use viewing::view_stream;
+pub use viewing::{Viewed, view_image, view_stream};

@@ -197,8 +197,12 @@ fn viewed_told(
     Ok(Viewed::Text(text))
 }
 
-/// What is written of the words of a module.
-fn viewed_of(
+/// What people look at of the words of a module, as `view_stream` writes it; or their verdict line.
+///
+/// # Errors
+///
+/// `NoFunction`: the id is the result of no OpFunction. `Memory`: a growth of memory was refused. There is no other.
+pub fn view_image(
     alloc: Global,
     table: &Table,
     how: View<'_>,
@@ -237,7 +241,7 @@ fn viewed_on<R: Source>(
         Ok((image, _)) => image,
         Err(code) => return refused(code),
     };
-    viewed_of(alloc, table, how, function, &image)
+    view_image(alloc, table, how, function, &image)
 }
 
 impl Viewed {

@@ -1,8 +1,11 @@
 -- How far a writer is, and the text of what is told of a file.
-use Rattle.std.specs.Prelude.{◌≡◌, ◌↔◌, ◌++◌, ℕ, List, [], Option, Some, None, Bool, IsTrue}
+use Rattle.std.specs.Prelude.{◌≡◌, ◌⊎◌, ◌↔◌, ◌++◌, ℕ, List, [], Option, Some, None, Bool, IsTrue}
+use Rattle.spv_commands.specs.Each.{unread_text}
 use Rattle.spv_commands.specs.Name.{label}
 use Rattle.spv_commands.specs.Trouble.{Writes, file_line, memory_line}
 use Rattle.spv_commands.specs.declared.files.Unread.{Unread}
+use Rattle.spv_commands.specs.declared.judging.Judging.{Judging}
+use Rattle.spv_commands.specs.declared.judging.Part.{Part}
 use Rattle.spv_commands.specs.declared.files.Unread.TheVariants.{Failed, Memory}
 
 -- A writer that held the bytes `old`, where they are known, has got the text, or after a failed write a beginning of
@@ -33,3 +36,9 @@ unread_line Memory = memory_line
 abbrev pub told_line : List ℕ → Option Unread → List ℕ
 told_line name None = []
 told_line name (Some why) = label name ++ unread_line why
+
+-- what is written of a file that was not read for this reason: maybe no object, where memory was refused for it
+abbrev pub IsUnread : Judging → List ℕ → Unread → Part → Type 0
+IsUnread how name why part = (part.status ≡ 2)
+    × (((part.unread ≡ Some why) × (part.text.items ≡ unread_text how.telling name why))
+    ⊎ ((part.unread ≡ Some Memory) × (part.text.items ≡ [])))

@@ -13,7 +13,7 @@ pub returns-in-Err-clause-count : goal.returns-in-Err-clause-count
 returns-in-Err-clause-count g c = rw c.refused.ensures (refused_count _ c.in-Err.code _ refl c.in-Err.ensures.count)
 
 pub returns-clause-known : goal.returns-clause-known
-returns-clause-known g c = known_viewing c.args.how c.args.table.now c.args.function _ _ c.in-Ok.field-0-1 _ c.in-Ok.ensures.gives c.viewed_of.ensures.viewed
+returns-clause-known g c = known_viewing c.args.how c.args.table.now c.args.function _ _ c.in-Ok.field-0-1 _ c.in-Ok.ensures.gives c.view_image.ensures.viewed
 
 pub returns-clause-stranger : goal.returns-clause-stranger
-returns-clause-stranger g c = known_stranger c.args.table.now c.args.function _ _ c.in-Ok.field-0-1 _ c.in-Ok.ensures.gives c.viewed_of.ensures.stranger
+returns-clause-stranger g c = known_stranger c.args.table.now c.args.function _ _ c.in-Ok.field-0-1 _ c.in-Ok.ensures.gives c.view_image.ensures.stranger

@@ -1,14 +1,14 @@
 use Rattle.std.proofs.Common.{◌≡◌, refl, if◌then◌else◌}
 use Rattle.spv_commands.specs.Each.{IsPart}
 use Rattle.spv_commands.proofs.Parts.{fault_status, valid_status}
-use Rattle.spv_commands.proofs.judging.read_part.Goals as goal
-use Rattle.spv_commands.proofs.judging.read_part.Goals.{then-valid, else-valid}
+use Rattle.spv_commands.proofs.judging.judged_part.Goals as goal
+use Rattle.spv_commands.proofs.judging.judged_part.Goals.{then-valid, else-valid}
 
 pub returns-clause-judged : goal.returns-clause-judged
-returns-clause-judged g c =
+returns-clause-judged c =
     let done = rw (c.as_slice.ensures.value, c.take_as.ensures) at c.in_ok-text.ensures.done in
     let status : c.if-valid.result ≡ (if c.in_ok-text.valid then 0 else 1) = elim c.if-valid.branch [
       | then-valid w ↦ valid_status _ _ w.result-is w.if-valid.true
       | else-valid w ↦ fault_status _ _ w.result-is w.if-valid.false
     ] in
-    (refl, IsPart.judged c.in_ok-bytes.bytes.items c.in_ok-text.valid c.in_ok-bytes.ensures.given done refl status)
+    (refl, IsPart.judged c.args.bytes.items c.in_ok-text.valid refl done refl status)

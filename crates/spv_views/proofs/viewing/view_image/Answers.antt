@@ -1,4 +1,4 @@
-use Rattle.spv_views.proofs.viewing.viewed_of.Goals as goal
+use Rattle.spv_views.proofs.viewing.view_image.Goals as goal
 
 pub viewed_told-requires : goal.viewed_told-requires
 viewed_told-requires c = (c.args.image.now, record { small = c.len-words.ensures.fit; size = c.len-words.ensures.most; read = c.in-Ok.ensures.decoded })
