@@ -30,20 +30,21 @@ def toolchain():
     return ":".join(ran.stdout.split())
 
 
-def crates():
-    """The crates of this repository, with the toolchain that is at hand."""
-    return edit_record.Crates(TOP, toolchain())
+class State:
+    """The edits as they stand, with their checksums, and the toolchain that is at hand."""
 
+    def __init__(self):
+        self.toolchain = toolchain()
+        self.sums = edit_record.Crates(TOP, self.toolchain).sums()
 
-def due():
-    """The edits that the record does not have as they stand."""
-    return edit_record.due(crates(), edit_record.read(RECORD))
+    def due(self):
+        """The edits that the record does not have as they stand."""
+        return edit_record.due(self.sums, self.toolchain, edit_record.read(RECORD))
 
-
-def note(refused):
-    """Writes these edits, which the prover has refused, into the record."""
-    text = edit_record.noted(crates(), edit_record.read(RECORD), refused)
-    RECORD.write_text(text, encoding="utf-8")
+    def note(self, refused):
+        """Writes these edits, which the prover has refused, into the record."""
+        text = edit_record.noted(self.sums, self.toolchain, edit_record.read(RECORD), refused)
+        RECORD.write_text(text, encoding="utf-8")
 
 
 def link(file, to):
@@ -95,34 +96,34 @@ def take_back(folder):
 
 def gate(whole):
     """The gate: all crates with their tests, and all edits or those that are due. Answers its exit status."""
+    state = State()
     if whole:
         status, refused = run(["rt", "ci"], TOP)
     else:
-        edits = due()
-        total = sum(1 for _ in crates().edits())
+        edits = state.due()
+        total = len(state.sums)
         print(f"{total - len(edits)} of {total} must-fail edits are in tests/edits.record as they stand, {len(edits)} are tried")
         with tempfile.TemporaryDirectory(prefix="spv-gate-") as room:
             folder = Path(room)
             lay_out(folder, edits)
             status, refused = run(["rt", "ci"], folder)
             take_back(folder)
-    note(refused)
+    state.note(refused)
     return status
 
 
 def trial(crate, edits):
-    """Tries the edits of a crate by themselves, over the libraries in out/; whether all were refused."""
+    """Tries the edits of a crate by themselves, over the libraries in out/: the exit status, and which were refused."""
     with tempfile.TemporaryDirectory(prefix="spv-edits-") as room:
         lay_out(Path(room), edits, with_libraries=True)
-        status, refused = run(["rt", "must-fail", crate], Path(room))
-    return status, refused
+        return run(["rt", "must-fail", crate], Path(room))
 
 
 def try_due(names):
     """Tries the edits that are due, of all crates or of these, as many crates at once as RT_JOBS says. Answers the exit
     status."""
-    wanted = {}
-    for edit in due():
+    state, wanted = State(), {}
+    for edit in state.due():
         if not names or edit.split("/")[0] in names:
             wanted.setdefault(edit.split("/")[0], []).append(edit)
     jobs = os.environ.get("RT_JOBS", "1")
@@ -130,7 +131,7 @@ def try_due(names):
     with ThreadPoolExecutor(int(jobs) if jobs.isdigit() and jobs != "0" else 1) as pool:
         for status, refused in pool.map(lambda it: trial(*it), wanted.items()):
             worst = max(worst, status)
-            note(refused)
+            state.note(refused)
     if worst:
         print("tests/edits: not all were refused", file=sys.stderr)
     return worst

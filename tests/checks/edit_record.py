@@ -184,16 +184,16 @@ def read(path):
     return found
 
 
-def due(crates, record):
-    """The edits that have to be tried."""
-    return [it for it, checksum in crates.sums().items() if record.get((it, crates.toolchain)) != checksum]
+def due(sums, toolchain, record):
+    """The edits that have to be tried, of those with these checksums."""
+    return [it for it, checksum in sums.items() if record.get((it, toolchain)) != checksum]
 
 
-def noted(crates, record, refused):
-    """The text of the record with these edits, which the prover has just refused, and without those that are gone."""
-    sums = crates.sums()
+def noted(sums, toolchain, record, refused):
+    """The text of the record with these edits, which the prover has refused as they stood when the checksums were taken, and
+    without those that are gone."""
     lines = {key: checksum for key, checksum in record.items() if key[0] in sums}
-    lines.update({(it, crates.toolchain): sums[it] for it in refused})
-    order = list(sums)
-    rows = sorted(lines.items(), key=lambda row: (order.index(row[0][0]), row[0][1]))
+    lines.update({(it, toolchain): sums[it] for it in refused if it in sums})
+    order = {it: place for place, it in enumerate(sums)}
+    rows = sorted(lines.items(), key=lambda row: (order[row[0][0]], row[0][1]))
     return HEAD + "".join(f"{edit} {toolchain} {checksum}\n" for (edit, toolchain), checksum in rows)

@@ -20,7 +20,7 @@ def copied(folder):
 
 def due(folder, record, toolchain="kit"):
     """The crates of the edits that are due in a copy, and how many of these edits there are."""
-    found = edit_record.due(edit_record.Crates(folder, toolchain), record)
+    found = edit_record.due(edit_record.Crates(folder, toolchain).sums(), toolchain, record)
     return {it.split("/")[0] for it in found}, len(found)
 
 
@@ -60,9 +60,9 @@ def body_and_contract(folder):
 
 def is_written_by_the_tool(_program, _folder):
     """Each line of the record is one that the tool writes: of an edit that there is, in order, with a checksum."""
-    crates = edit_record.Crates(TOP, "")
+    sums = edit_record.Crates(TOP, "").sums()
     text = edit_gate.RECORD.read_text(encoding="utf-8")
-    wanted = edit_record.noted(crates, edit_record.read(edit_gate.RECORD), [])
+    wanted = edit_record.noted(sums, "", edit_record.read(edit_gate.RECORD), [])
     return None if text == wanted else "  tests/edits.record is not what tests/edits writes of it"
 
 

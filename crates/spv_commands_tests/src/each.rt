@@ -93,7 +93,15 @@ fn extended_instructions(rt: HostRuntime) -> Result<(), Fail> {
 
 #[test]
 fn messages(rt: HostRuntime) -> Result<(), Fail> {
-    let told = format!(in rt.alloc(); "{}, {}", UseError::NoCommand, UseError::Help)?;
-    assert!(rt; told.as_str() == "the words fit no command, help is asked for");
+    let told = format!(in rt.alloc();
+        "{}, {}, {}, {}",
+        UseError::NoCommand,
+        UseError::Memory,
+        UseError::Help,
+        UseError::Version
+    )?;
+    let wanted =
+        "the words fit no command, out of memory, help is asked for, the version is asked for";
+    assert!(rt; told.as_str() == wanted);
     Ok(())
 }
