@@ -1,48 +1,128 @@
-//! The files of the command line.
-ghost use Rattle.std.specs.Prelude.{None};
-
-use crate::streams::{Input, STANDARD};
-use crate::why::Why;
-use spv_commands::{Files, TextError, Trouble, Unread, read_all};
+//! The files of the command line: they are opened, read whole and made here.
+use crate::why::{Noted, Tried, Why};
+use spv_commands::{TextError, Trouble, Unread, read_all};
 use spv_words::FromRead;
-use std::alloc::Global;
-use std::io::{ErrorKind, Read};
+use std::alloc::{AllocError, Global};
+use std::fs::File;
+use std::io::{ErrorKind, Read, Stdin, Write};
 use std::os::unix::fs::MetadataExt;
 use std::{fs, io};
 
-/// What a failed call of the system is told as.
-pub fn trouble_of(error: io::Error) -> Trouble {
-    match error.kind() {
-        ErrorKind::OutOfMemory => Trouble::Memory,
-        _ => Trouble::File,
+/// The name of the standard input, and of the standard output.
+pub const STANDARD: &str = "-";
+
+/// How many bytes of a module are read: one more than it has at most, so that one that is too long is told (W8).
+const MOST_BYTES: usize = 16_777_217;
+
+/// How many of them are read at a time: few, since each page of the block costs a small module time.
+const BLOCK_SIZE: usize = 8192;
+
+/// An open file, or the standard input.
+#[derive(Drop)]
+pub enum Input {
+    /// The standard input.
+    Standard(Stdin),
+    /// A file.
+    File(File),
+}
+
+impl Read for Input {
+    fn read(&mut self, buf: &mut [u8]) -> io::Result<usize> {
+        match self {
+            Input::Standard(input) => input.read(buf),
+            Input::File(file) => file.read(buf),
+        }
     }
 }
 
-/// Makes an empty file where there is none of this name. Where that fails, there is none still.
-pub fn make_if_absent(rt: &HostRuntime, name: &str) {
-    let _ = fs::File::create_new(rt, name);
+/// What a failed call of the system is told as.
+fn unread_of(error: io::Error) -> Unread {
+    match error.kind() {
+        ErrorKind::OutOfMemory => Unread::Memory,
+        _ => Unread::Failed,
+    }
 }
 
-/// All the bytes that are read. It is apart from its callers, which else pay for its block whatever they do.
+/// What a file that is not read is told as, where it ends a run.
+pub fn trouble_of(why: Unread) -> Trouble {
+    match why {
+        Unread::Failed => Trouble::File,
+        Unread::Memory => Trouble::Memory,
+    }
+}
+
+/// Opens the file of this name.
+pub fn open_file<'a>(rt: &HostRuntime, why: &Why<'a>, name: &'a str) -> Result<Input, Unread> {
+    match fs::open(rt, name) {
+        Ok(file) => Ok(Input::File(file)),
+        Err(error) => {
+            why.note(name, Tried::Open, error);
+            Err(unread_of(error))
+        }
+    }
+}
+
+/// The same, where `-` is the standard input.
+pub fn open<'a>(rt: &HostRuntime, why: &Why<'a>, name: &'a str) -> Result<Input, Unread> {
+    if name == STANDARD {
+        return Ok(Input::Standard(rt.stdin()));
+    }
+    open_file(rt, why, name)
+}
+
+/// All the bytes of the file of this name. It is apart from its callers, which else pay for its block whatever they do.
 #[inline(never)]
-fn bytes_of(alloc: Global, input: Input<'_, '_>) -> Result<Vec<u8>, Trouble> {
+pub fn text_bytes<'a>(
+    alloc: Global,
+    why: &Why<'a>,
+    name: &'a str,
+    input: Input,
+) -> Result<Vec<u8>, Unread> {
+    let input = Noted::new(input, name, Tried::Read, why);
     match read_all(alloc, &mut FromRead::new(input)) {
         Ok(bytes) => Ok(bytes),
-        Err(TextError::Memory) => Err(Trouble::Memory),
-        Err(_) => Err(Trouble::File),
+        Err(TextError::Memory) => Err(Unread::Memory),
+        Err(_) => Err(Unread::Failed),
     }
 }
 
-/// All the bytes of the file of this name.
-pub fn read_file<'a>(rt: &HostRuntime, why: &Why<'a>, name: &'a str) -> Result<Vec<u8>, Trouble> {
-    let input = Input::open_file(rt, why, name).map_err(trouble_of)?;
-    bytes_of(rt.alloc(), input)
+/// Adds bytes. Where there is too little room, it is made at once for all that a module can still take.
+fn add(bytes: &mut Vec<u8>, more: &[u8]) -> Result<(), AllocError> {
+    if bytes.capacity() - bytes.len() < more.len() {
+        bytes.reserve_exact(MOST_BYTES.saturating_sub(bytes.len()))?;
+    }
+    bytes.extend_from_slice(more)
 }
 
-/// All the bytes of the file of this name, where `-` is the standard input.
-pub fn read_whole<'a>(rt: &HostRuntime, why: &Why<'a>, name: &'a str) -> Result<Vec<u8>, Trouble> {
-    let input = Input::open(rt, why, name).map_err(trouble_of)?;
-    bytes_of(rt.alloc(), input)
+/// All the bytes of the module of this name, or so many that it is none.
+#[inline(never)]
+pub fn module_bytes<'a>(
+    alloc: Global,
+    why: &Why<'a>,
+    name: &'a str,
+    input: Input,
+) -> Result<Vec<u8>, Unread> {
+    let mut input = Noted::new(input, name, Tried::Read, why);
+    let Ok(mut bytes) = Vec::with_capacity(alloc, BLOCK_SIZE) else {
+        return Err(Unread::Memory);
+    };
+    let mut block = [0u8; BLOCK_SIZE];
+    for _ in 0..=MOST_BYTES {
+        let room = MOST_BYTES.saturating_sub(bytes.len()).min(BLOCK_SIZE);
+        if room == 0 {
+            break;
+        }
+        let Ok(size) = input.read(&mut block[..room]) else {
+            return Err(Unread::Failed);
+        };
+        if size == 0 {
+            break;
+        }
+        if add(&mut bytes, &block[..size]).is_err() {
+            return Err(Unread::Memory);
+        }
+    }
+    Ok(bytes)
 }
 
 /// Whether two names are those of one file, which may be linked or be the standard input.
@@ -54,61 +134,42 @@ pub fn is_same_file(rt: &HostRuntime, one: &str, other: &str) -> bool {
     one.is_file() && one.dev() == other.dev() && one.ino() == other.ino()
 }
 
-/// The files of these names. The name `-` is the standard input.
+/// Makes an empty file where there is none of this name. Where that fails, there is none still.
+pub fn make_if_absent(rt: &HostRuntime, name: &str) {
+    let _ = fs::File::create_new(rt, name);
+}
+
+/// A writer of a file that its first write makes, or makes anew. Before that nothing is opened.
 #[derive(Drop)]
-pub struct Named<'a, 'b> {
-    /// What opens them.
-    pub rt: &'b HostRuntime,
-    /// The notes of what fails.
-    pub why: &'b Why<'a>,
-    /// Their names, in order.
-    pub names: &'b [&'a str],
+pub struct Made<'b> {
+    rt: &'b HostRuntime,
+    name: &'b str,
+    file: Option<File>,
 }
 
-/// Why a file that does not open is not read.
-fn unread_of(error: io::Error) -> Unread {
-    match error.kind() {
-        ErrorKind::OutOfMemory => Unread::Memory,
-        _ => Unread::Failed,
+impl<'b> Made<'b> {
+    /// Of a file of this name.
+    pub fn new(rt: &'b HostRuntime, name: &'b str) -> Self {
+        Made {
+            rt,
+            name,
+            file: None,
+        }
     }
 }
 
-/// How many bytes of a file are read: one more than a module has at most, so that one that is too long is told (W8).
-const MOST_BYTES: u64 = 16_777_217;
-
-/// All the bytes that are read, or so many that they are no module.
-#[inline(never)]
-fn whole(alloc: Global, input: Input<'_, '_>) -> Result<Vec<u8>, Unread> {
-    match read_all(alloc, &mut FromRead::new(input.take(MOST_BYTES))) {
-        Ok(bytes) => Ok(bytes),
-        Err(TextError::Memory) => Err(Unread::Memory),
-        Err(_) => Err(Unread::Failed),
+impl Write for Made<'_> {
+    fn write(&mut self, buf: &[u8]) -> io::Result<usize> {
+        if let Some(file) = &mut self.file {
+            return file.write(buf);
+        }
+        let mut file = fs::create(self.rt, self.name)?;
+        let answer = file.write(buf);
+        self.file = Some(file);
+        answer
     }
-}
 
-/// All the bytes of the module of this name, or so many that it is none.
-pub fn read_module<'a>(rt: &HostRuntime, why: &Why<'a>, name: &'a str) -> Result<Vec<u8>, Trouble> {
-    let mut files = Named {
-        rt,
-        why,
-        names: &[name],
-    };
-    match files.read(rt.alloc(), 0) {
-        Ok(bytes) => Ok(bytes),
-        Err(Unread::Failed) => Err(Trouble::File),
-        Err(Unread::Memory) => Err(Trouble::Memory),
-    }
-}
-
-impl<'a, 'b> Files for Named<'a, 'b> {
-    // Nothing is known of what a file of the system holds.
-    ghost known = { λ _ _. None };
-
-    fn read(&mut self, alloc: Global, number: usize) -> Result<Vec<u8>, Unread> {
-        let Some(name) = self.names.get(number) else {
-            return Err(Unread::Failed);
-        };
-        let input = Input::open(self.rt, self.why, *name).map_err(unread_of)?;
-        whole(alloc, input)
+    fn flush(&mut self) -> io::Result<()> {
+        Ok(())
     }
 }

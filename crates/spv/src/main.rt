@@ -1,232 +1,24 @@
 //! `spv` checks, explains, shows, annotates, draws, assembles and traces SPIR-V 1.6 kernel modules, and tells its rules
-//! and its grammar.
+//! and its grammar: it reads its files, asks for the answer, and writes that.
 #![tactic(auto)]
 
 mod files;
-mod streams;
+mod several;
 mod why;
+mod words;
+mod writing;
 
-use files::{Named, is_same_file, make_if_absent, read_file, read_module, read_whole, trouble_of};
-use spv_commands::{
-    Color, Command, Judging, Naming, Telling, Trouble, UseError, Versioned, advice, arguments_in,
-    help, is_verbose, report, run, run_each, text_asked,
+use files::{
+    STANDARD, is_same_file, make_if_absent, module_bytes, open, open_file, text_bytes, trouble_of,
 };
-use spv_words::{FromRead, FromWrite};
-use std::alloc::Global;
-use std::env::VarError;
-use std::io::{ErrorKind, IsTerminal, Write};
+use several::{judge_several, judging_of};
+use spv_commands::{Command, Trouble, Unread, UseError, answer, arguments_in, is_verbose, report};
+use spv_words::FromWrite;
+use std::io::IsTerminal;
 use std::process::ExitCode;
-use std::{env, io};
-use streams::{Held, Input, Output, STANDARD};
-use why::{AtHand, Teller, Why};
-
-/// The same as `trouble_of` where the words of the command line could not be read: words that are no text fit no
-/// command.
-fn word_trouble(error: io::Error) -> Trouble {
-    match error.kind() {
-        ErrorKind::OutOfMemory => Trouble::Memory,
-        _ => Trouble::Use,
-    }
-}
-
-/// Prints the help or the version that the words ask for, and answers the exit status.
-fn show_text(rt: &HostRuntime, words: &[&str]) -> Result<u8, Trouble> {
-    let text = text_asked(rt.alloc(), words).map_err(|_| Trouble::Memory)?;
-    rt.stdout().write_all(text.as_bytes()).map_err(trouble_of)?;
-    Ok(0)
-}
-
-/// Does what a command asks with its open files, and answers the exit status: `out` gets what it tells, and `made` the
-/// module that `asm` makes.
-fn with_made<'a>(
-    rt: &HostRuntime,
-    why: &Why<'a>,
-    command: &Command<'a>,
-    at_hand: AtHand<'a, '_>,
-    input: Input<'a, '_>,
-    out: Output<'a, '_>,
-    made: Output<'a, '_>,
-) -> u8 {
-    run(
-        rt.alloc(),
-        command,
-        at_hand.grammar,
-        &mut Versioned::new(FromRead::new(input)),
-        &mut FromWrite::new(out),
-        &mut FromWrite::new(made),
-        &mut FromWrite::new(Teller::new(rt.stderr(), why, at_hand)),
-    )
-}
-
-/// Does what a command asks that makes no file, and answers the exit status.
-fn with_output<'a>(
-    rt: &HostRuntime,
-    why: &Why<'a>,
-    command: &Command<'a>,
-    at_hand: AtHand<'a, '_>,
-    input: Input<'a, '_>,
-) -> u8 {
-    let out = match command {
-        Command::Judge { quiet: true, .. } => Output::Nothing,
-        _ => Output::standard(rt, why),
-    };
-    with_made(rt, why, command, at_hand, input, out, Output::Nothing)
-}
-
-/// Reads the module of `trace` whole, so that its entry points can be told, writes the run, and answers the exit
-/// status.
-fn with_bytes<'a>(
-    rt: &HostRuntime,
-    why: &Why<'a>,
-    command: &Command<'a>,
-    grammar: Option<&[u8]>,
-    file: &'a str,
-) -> Result<u8, Trouble> {
-    let bytes = read_module(rt, why, file)?;
-    let at_hand = AtHand {
-        text: None,
-        grammar,
-        module: Some(bytes.as_slice()),
-    };
-    let input = Input::Held(Held::new(bytes.as_slice()));
-    Ok(with_output(rt, why, command, at_hand, input))
-}
-
-/// Opens the module of a command, does what it asks, and answers the exit status.
-fn with_module<'a>(
-    rt: &HostRuntime,
-    why: &Why<'a>,
-    command: &Command<'a>,
-    grammar: Option<&[u8]>,
-    file: &'a str,
-) -> Result<u8, Trouble> {
-    if why.is_told() && matches!(command, Command::Trace { .. }) {
-        return with_bytes(rt, why, command, grammar, file);
-    }
-    let input = Input::open(rt, why, file).map_err(trouble_of)?;
-    Ok(with_output(rt, why, command, AtHand::of(grammar), input))
-}
-
-/// Opens the text of `asm`, makes its module, and answers the exit status. Where the module goes to the standard
-/// output, the line of a fault goes to the standard error.
-fn with_asm<'a>(
-    rt: &HostRuntime,
-    why: &Why<'a>,
-    command: &Command<'a>,
-    grammar: Option<&[u8]>,
-    name: &'a str,
-    out: &'a str,
-) -> Result<u8, Trouble> {
-    let at_hand = AtHand {
-        text: Some(name),
-        grammar,
-        module: None,
-    };
-    let input = Input::open(rt, why, name).map_err(trouble_of)?;
-    let output = Output::standard(rt, why);
-    if out == STANDARD {
-        let lines = Output::Error(rt.stderr());
-        return Ok(with_made(rt, why, command, at_hand, input, lines, output));
-    }
-    let made = Output::made(rt, why, out);
-    let status = with_made(rt, why, command, at_hand, input, output, made);
-    if status != 0 && !why.has_failed() {
-        make_if_absent(rt, out);
-    }
-    Ok(status)
-}
-
-/// Judges each of several files, and answers the exit status.
-fn with_several<'a>(
-    rt: &HostRuntime,
-    why: &Why<'a>,
-    how: Judging,
-    grammar: Option<&[u8]>,
-    names: &[&'a str],
-    out: Output<'a, '_>,
-) -> u8 {
-    let mut out = FromWrite::new(out);
-    let mut err = FromWrite::new(Teller::new(rt.stderr(), why, AtHand::of(grammar)));
-    let mut files = Named { rt, why, names };
-    run_each(
-        rt.alloc(),
-        how,
-        grammar,
-        names,
-        &mut files,
-        &mut out,
-        &mut err,
-    )
-}
-
-/// How a verdict of several files is told, or of one whose name is asked for.
-fn telling_by(naming: Naming, json: bool) -> Telling {
-    if json {
-        return Telling::Json;
-    }
-    match naming {
-        Naming::Never => Telling::Bare,
-        Naming::OfSeveral | Naming::Always => Telling::Named,
-    }
-}
-
-/// Judges the modules of a command, and answers the exit status. An object of JSON tells the name of its file, of one
-/// file too.
-fn with_modules<'a>(
-    rt: &HostRuntime,
-    why: &Why<'a>,
-    command: &Command<'a>,
-    grammar: Option<&[u8]>,
-) -> Result<u8, Trouble> {
-    let Command::Judge {
-        task,
-        files,
-        as_1_6,
-        extended,
-        naming,
-        quiet,
-        json,
-        ..
-    } = command
-    else {
-        return Err(Trouble::Use);
-    };
-    if files.len() == 1 && *naming != Naming::Always && !*json {
-        return with_module(rt, why, command, grammar, files[0]);
-    }
-    let how = Judging {
-        task: *task,
-        as_1_6: *as_1_6,
-        extended: *extended,
-        telling: telling_by(*naming, *json),
-    };
-    let out = if *quiet {
-        Output::Nothing
-    } else {
-        Output::standard(rt, why)
-    };
-    Ok(with_several(rt, why, how, grammar, files, out))
-}
-
-/// Does what a command asks with the text of its grammar file, and answers the exit status.
-fn with_grammar<'a>(
-    rt: &HostRuntime,
-    why: &Why<'a>,
-    command: &Command<'a>,
-    grammar: Option<&[u8]>,
-) -> Result<u8, Trouble> {
-    match command {
-        Command::Judge { .. } => with_modules(rt, why, command, grammar),
-        Command::Show { file, .. }
-        | Command::Trace { file, .. }
-        | Command::Annotate { file, .. }
-        | Command::Graph { file, .. } => with_module(rt, why, command, grammar, *file),
-        Command::Asm { file, out, .. } => with_asm(rt, why, command, grammar, *file, *out),
-        Command::Rules { .. } | Command::Grammar { .. } => {
-            Ok(with_output(rt, why, command, AtHand::of(grammar), Input::Nothing))
-        }
-    }
-}
+use why::{AtHand, Why};
+use words::{grammar_of_environment, push_texts, push_words, settle_color, show_text, tell_use};
+use writing::{report_why, write_answer};
 
 /// The path of the grammar file that a command names, if it names one.
 fn grammar_path<'a>(command: &Command<'a>) -> Option<&'a str> {
@@ -247,15 +39,108 @@ fn grammar_of<'a>(
     rt: &HostRuntime,
     why: &Why<'a>,
     command: &Command<'a>,
-) -> Result<Option<Vec<u8>>, Trouble> {
+) -> Result<Option<Vec<u8>>, Unread> {
     let Some(name) = grammar_path(command) else {
         return Ok(None);
     };
-    let text = match command {
-        Command::Grammar { .. } => read_whole(rt, why, name)?,
-        _ => read_file(rt, why, name)?,
+    let input = match command {
+        Command::Grammar { .. } => open(rt, why, name)?,
+        _ => open_file(rt, why, name)?,
     };
-    Ok(Some(text))
+    Ok(Some(text_bytes(rt.alloc(), why, name, input)?))
+}
+
+/// The path of the one file that a command reads, if it reads one.
+fn path_of<'a>(command: &Command<'a>) -> Option<&'a str> {
+    match command {
+        Command::Judge { files, .. } => files.first().copied(),
+        Command::Show { file, .. }
+        | Command::Asm { file, .. }
+        | Command::Trace { file, .. }
+        | Command::Annotate { file, .. }
+        | Command::Graph { file, .. } => Some(*file),
+        Command::Rules { .. } | Command::Grammar { .. } => None,
+    }
+}
+
+/// What the file of a command gave. One that does not open ends the run at once.
+fn file_of<'a>(
+    rt: &HostRuntime,
+    why: &Why<'a>,
+    command: &Command<'a>,
+) -> Result<Result<Vec<u8>, Unread>, Unread> {
+    let Some(name) = path_of(command) else {
+        return Ok(Ok(Vec::new(rt.alloc())));
+    };
+    let input = open(rt, why, name)?;
+    Ok(match command {
+        Command::Asm { .. } => text_bytes(rt.alloc(), why, name, input),
+        _ => module_bytes(rt.alloc(), why, name, input),
+    })
+}
+
+/// A copy of the bytes of a module whose entry points may have to be told: none where memory is short.
+fn kept_of(
+    rt: &HostRuntime,
+    why: &Why<'_>,
+    command: &Command<'_>,
+    file: &Result<Vec<u8>, Unread>,
+) -> Option<Vec<u8>> {
+    match (command, file) {
+        (Command::Trace { .. }, Ok(bytes)) if why.is_told() => {
+            Vec::from_slice(rt.alloc(), bytes).ok()
+        }
+        _ => None,
+    }
+}
+
+/// The name of the text that a command reads, if it reads one.
+fn text_of<'a>(command: &Command<'a>) -> Option<&'a str> {
+    match command {
+        Command::Asm { file, .. } => Some(*file),
+        _ => None,
+    }
+}
+
+/// Makes the file that `asm` was to make, where it made none, there is none and no call of the system failed.
+fn leave_made(rt: &HostRuntime, why: &Why<'_>, command: &Command<'_>, status: u8) {
+    if let Command::Asm { out, .. } = command {
+        if status != 0 && *out != STANDARD && !why.has_failed() {
+            make_if_absent(rt, out);
+        }
+    }
+}
+
+/// Reads the file of a command, answers it, and writes that: the exit status.
+fn answer_one<'a>(
+    rt: &HostRuntime,
+    why: &Why<'a>,
+    command: &Command<'a>,
+    grammar: Option<&[u8]>,
+) -> Result<u8, Trouble> {
+    let file = match file_of(rt, why, command) {
+        Ok(file) => file,
+        Err(unread) => return Err(trouble_of(unread)),
+    };
+    let kept = kept_of(rt, why, command, &file);
+    let at_hand = AtHand {
+        text: text_of(command),
+        grammar,
+        module: match &kept {
+            Some(bytes) => Some(bytes.as_slice()),
+            None => None,
+        },
+    };
+    let written = match answer(rt.alloc(), command, grammar, file) {
+        Ok(answer) => write_answer(rt, why, command, &answer),
+        Err(trouble) => Err(trouble),
+    };
+    let status = match written {
+        Ok(status) => status,
+        Err(trouble) => report_why(rt, why, trouble, at_hand),
+    };
+    leave_made(rt, why, command, status);
+    Ok(status)
 }
 
 /// Whether a command would write the file that it reads.
@@ -266,44 +151,22 @@ fn is_destroying(rt: &HostRuntime, command: &Command) -> bool {
     }
 }
 
-/// Opens the files of a command, does what it asks, and answers the exit status.
-fn with_files<'a>(rt: &HostRuntime, why: &Why<'a>, command: &Command<'a>) -> Result<u8, Trouble> {
+/// Reads the grammar file of a command, does what it asks, and answers the exit status.
+fn with_command<'a>(rt: &HostRuntime, why: &Why<'a>, command: &Command<'a>) -> Result<u8, Trouble> {
     if is_destroying(rt, command) {
         return Err(Trouble::Use);
     }
-    match grammar_of(rt, why, command)? {
-        Some(grammar) => with_grammar(rt, why, command, Some(grammar.as_slice())),
-        None => with_grammar(rt, why, command, None),
-    }
-}
-
-/// Whether the environment asks for no colour: NO_COLOR is set and is not empty (https://no-color.org).
-fn forbids_color(rt: &HostRuntime) -> bool {
-    match env::var(rt, "NO_COLOR") {
-        Ok(text) => !text.is_empty(),
-        Err(VarError::NotPresent) => false,
-        Err(_) => true,
-    }
-}
-
-/// Settles whether a text has colour where its words leave that open: on a terminal, unless the environment asks for
-/// none.
-fn settle_color(rt: &HostRuntime, command: &mut Command<'_>) {
-    if let Command::Annotate { color, .. } = command {
-        if *color == Color::Auto && rt.stdout().is_terminal() && !forbids_color(rt) {
-            *color = Color::Always;
-        }
-    }
-}
-
-/// The path of a grammar file that the environment names. In place of one that is no text it is an empty one, which no
-/// file has, so that another grammar is not taken for the one that is named.
-fn grammar_of_environment(rt: &HostRuntime) -> Result<Option<String>, Trouble> {
-    match env::var(rt, "SPV_GRAMMAR") {
-        Ok(path) => Ok(Some(path)),
-        Err(VarError::NotPresent) => Ok(None),
-        Err(VarError::NotUnicode) => Ok(Some(String::new(rt.alloc()))),
-        Err(VarError::OutOfMemory) => Err(Trouble::Memory),
+    let grammar = match grammar_of(rt, why, command) {
+        Ok(grammar) => grammar,
+        Err(unread) => return Err(trouble_of(unread)),
+    };
+    let grammar = match &grammar {
+        Some(bytes) => Some(bytes.as_slice()),
+        None => None,
+    };
+    match judging_of(command) {
+        Some(how) => judge_several(rt, why, command, how, grammar),
+        None => answer_one(rt, why, command, grammar),
     }
 }
 
@@ -317,30 +180,12 @@ fn with_texts<'a>(
     match arguments_in(rt.alloc(), texts, environment) {
         Ok(mut command) => {
             settle_color(rt, &mut command);
-            with_files(rt, why, &command)
+            with_command(rt, why, &command)
         }
         Err(UseError::NoCommand) => Err(Trouble::Use),
         Err(UseError::Memory) => Err(Trouble::Memory),
         Err(UseError::Help | UseError::Version) => show_text(rt, texts),
     }
-}
-
-/// Tells what is wrong with words, for people: nothing where memory is short. No words at all ask for the help.
-fn tell_use(rt: &HostRuntime, texts: &[&str]) {
-    let text = if texts.is_empty() {
-        help(rt.alloc())
-    } else {
-        advice(rt.alloc(), texts)
-    };
-    if let Ok(text) = text {
-        let _ = rt.stderr().write_all(text.as_bytes());
-    }
-}
-
-/// Writes the line of a trouble, and after it why, where that is told.
-fn report_why<'a>(rt: &HostRuntime, why: &Why<'a>, trouble: Trouble) {
-    let mut err = FromWrite::new(Teller::new(rt.stderr(), why, AtHand::of(None)));
-    report(trouble, &mut err);
 }
 
 /// Does what the words ask, tells where that is not done, and answers the exit status.
@@ -350,52 +195,39 @@ fn status_of(rt: &HostRuntime, texts: &[&str], environment: Option<&str>) -> u8 
     match with_texts(rt, &why, texts, environment) {
         Ok(status) => status,
         Err(trouble) => {
-            report_why(rt, &why, trouble);
+            let status = report_why(rt, &why, trouble, AtHand::of(None));
             if is_told && matches!(trouble, Trouble::Use) {
                 tell_use(rt, texts);
             }
-            2
+            status
         }
     }
 }
 
-/// The words of the command line after the program's name.
-fn words_of(rt: &HostRuntime) -> Result<Vec<String>, Trouble> {
-    let mut words: Vec<String> = Vec::new(rt.alloc());
-    for word in env::args(rt).map_err(word_trouble)?.skip(1) {
-        words.push(word).map_err(|_| Trouble::Memory)?;
-    }
-    Ok(words)
+/// Tells a trouble of reading the words: the exit status.
+fn refuse(rt: &HostRuntime, trouble: Trouble) -> u8 {
+    report(trouble, &mut FromWrite::new(rt.stderr()));
+    2
 }
 
-/// Each word as a text.
-fn texts_of<'a>(alloc: Global, words: &'a [String]) -> Result<Vec<&'a str>, Trouble> {
-    let mut texts: Vec<&'a str> = Vec::new(alloc);
-    for word in words {
-        texts.push(word.as_str()).map_err(|_| Trouble::Memory)?;
+/// Does what the words of the command line ask, and answers the exit status.
+fn with_words(rt: &HostRuntime, words: &[String]) -> u8 {
+    let mut texts: Vec<&str> = Vec::new(rt.alloc());
+    if let Err(trouble) = push_texts(words, &mut texts) {
+        return refuse(rt, trouble);
     }
-    Ok(texts)
-}
-
-/// Reads the words of the command line, does what they ask, and answers the exit status.
-fn with_words(rt: &HostRuntime) -> Result<u8, Trouble> {
-    let words = words_of(rt)?;
-    let texts = texts_of(rt.alloc(), &words)?;
-    let environment = grammar_of_environment(rt)?;
-    let grammar = match &environment {
-        Some(path) => Some(path.as_str()),
-        None => None,
-    };
-    Ok(status_of(rt, &texts, grammar))
+    match grammar_of_environment(rt) {
+        Ok(Some(path)) => status_of(rt, &texts, Some(path.as_str())),
+        Ok(None) => status_of(rt, &texts, None),
+        Err(trouble) => refuse(rt, trouble),
+    }
 }
 
 fn main(rt: HostRuntime) -> ExitCode {
-    let status = match with_words(&rt) {
-        Ok(status) => status,
-        Err(trouble) => {
-            report(trouble, &mut FromWrite::new(rt.stderr()));
-            2
-        }
+    let mut words: Vec<String> = Vec::new(rt.alloc());
+    let status = match push_words(&rt, &mut words) {
+        Ok(()) => with_words(&rt, &words),
+        Err(trouble) => refuse(&rt, trouble),
     };
     ExitCode::from(status)
 }

@@ -1,6 +1,6 @@
 //! Why a run ends with an error, for people: what is told after the one line of it.
 
-use spv_commands::{entry_points, grammar_reason, write_label};
+use spv_commands::{Trouble, entry_points, grammar_reason, write_label};
 use spv_words::FromWrite;
 use std::alloc::{AllocError, Global};
 use std::cell::Cell;
@@ -46,6 +46,28 @@ fn tell_line<W: Write>(name: &str, told: &[u8], to: &mut W) {
     let _ = to.inner.write_all(told);
 }
 
+/// What a run reads, as far as it is at hand.
+#[derive(Clone, Copy)]
+pub struct AtHand<'a, 'b> {
+    /// The name of the text that is read, where one is.
+    pub text: Option<&'a str>,
+    /// The text of the grammar file, where one is named.
+    pub grammar: Option<&'b [u8]>,
+    /// The bytes of the module, where they were kept.
+    pub module: Option<&'b [u8]>,
+}
+
+impl<'a, 'b> AtHand<'a, 'b> {
+    /// Nothing but the text of the grammar file, where one is named.
+    pub fn of(grammar: Option<&'b [u8]>) -> Self {
+        AtHand {
+            text: None,
+            grammar,
+            module: None,
+        }
+    }
+}
+
 /// Notes of what failed, for what is told after the line of an error.
 #[derive(Drop)]
 pub struct Why<'a> {
@@ -85,21 +107,63 @@ impl<'a> Why<'a> {
         self.last.set(Some(Failure { name, tried, error }));
     }
 
-    /// Writes what was tried last and why it failed, a line, where a call failed: whether one did. What cannot be
-    /// written is left out.
-    fn tell_failure<W: Write>(&self, to: &mut W) -> bool {
-        let Some(failure) = self.last.take() else {
-            return false;
+    /// Tells what was tried last and why it failed, a line, where a call failed; and else that a text is none. What
+    /// cannot be written is left out.
+    fn tell_file<W: Write>(&self, text: Option<&str>, to: &mut W) {
+        if let Some(failure) = self.last.take() {
+            let reason = format!(in self.alloc;
+                "cannot {}: {}\n",
+                failure.tried.word(),
+                failure.error
+            );
+            if let Ok(reason) = reason {
+                tell_line(failure.name, reason.as_bytes(), to);
+            }
+        } else if let Some(name) = text {
+            tell_line(name, b"the bytes are no text in UTF-8\n", to);
+        }
+    }
+
+    /// Tells where a grammar file is refused, and what is wanted there.
+    fn tell_grammar<W: Write>(&self, grammar: Option<&[u8]>, to: &mut W) {
+        let Some(grammar) = grammar else {
+            return;
         };
-        let Ok(reason) = format!(in self.alloc;
-            "cannot {}: {}\n",
-            failure.tried.word(),
-            failure.error
-        ) else {
-            return true;
-        };
-        tell_line(failure.name, reason.as_bytes(), to);
-        true
+        if let Ok(lines) = grammar_reason(self.alloc, grammar) {
+            let _ = to.write_all(lines.as_slice());
+        }
+    }
+
+    /// The entry points of the module, as far as it is at hand.
+    fn entries(&self, at_hand: AtHand<'_, '_>) -> Result<String, AllocError> {
+        match at_hand.module {
+            Some(module) => entry_points(self.alloc, at_hand.grammar, module),
+            None => Ok(String::new(self.alloc)),
+        }
+    }
+
+    /// Tells that an id is no entry point's function, and which entry points there are: nothing where memory is short.
+    fn tell_entry<W: Write>(&self, at_hand: AtHand<'_, '_>, to: &mut W) {
+        if let Ok(entries) = self.entries(at_hand) {
+            let _ = to.write_all(b"ID is the function of no OpEntryPoint\n");
+            let _ = to.write_all(entries.as_bytes());
+        }
+    }
+
+    /// Tells why a run ends with an error, where that is asked for.
+    pub fn tell<W: Write>(&self, trouble: Trouble, at_hand: AtHand<'_, '_>, to: &mut W) {
+        if !self.is_told {
+            return;
+        }
+        match trouble {
+            Trouble::File => self.tell_file(at_hand.text, to),
+            Trouble::Grammar(_) => self.tell_grammar(at_hand.grammar, to),
+            Trouble::NoEntry => self.tell_entry(at_hand, to),
+            Trouble::NoFunction => {
+                let _ = to.write_all(b"ID is the result of no OpFunction\n");
+            }
+            Trouble::Use | Trouble::Memory => {}
+        }
     }
 }
 
@@ -108,13 +172,19 @@ impl<'a> Why<'a> {
 pub struct Noted<'a, 'b, T> {
     inner: T,
     name: &'a str,
+    tried: Tried,
     why: &'b Why<'a>,
 }
 
 impl<'a, 'b, T> Noted<'a, 'b, T> {
-    /// Of a file of this name.
-    pub fn new(inner: T, name: &'a str, why: &'b Why<'a>) -> Self {
-        Noted { inner, name, why }
+    /// Of a file of this name, with which this is tried.
+    pub fn new(inner: T, name: &'a str, tried: Tried, why: &'b Why<'a>) -> Self {
+        Noted {
+            inner,
+            name,
+            tried,
+            why,
+        }
     }
 }
 
@@ -122,7 +192,7 @@ impl<T: Read> Read for Noted<'_, '_, T> {
     fn read(&mut self, buf: &mut [u8]) -> io::Result<usize> {
         let answer = self.inner.read(buf);
         if let Err(error) = answer {
-            self.why.note(self.name, Tried::Read, error);
+            self.why.note(self.name, self.tried, error);
         }
         answer
     }
@@ -132,116 +202,12 @@ impl<T: Write> Write for Noted<'_, '_, T> {
     fn write(&mut self, buf: &[u8]) -> io::Result<usize> {
         let answer = self.inner.write(buf);
         if let Err(error) = answer {
-            self.why.note(self.name, Tried::Write, error);
+            self.why.note(self.name, self.tried, error);
         }
         answer
     }
 
     fn flush(&mut self) -> io::Result<()> {
         self.inner.flush()
-    }
-}
-
-/// What a run reads, as far as it is at hand.
-#[derive(Clone, Copy)]
-pub struct AtHand<'a, 'b> {
-    /// The name of the text that is read, where one is.
-    pub text: Option<&'a str>,
-    /// The text of the grammar file, where one is named.
-    pub grammar: Option<&'b [u8]>,
-    /// The bytes of the module, where they were read beforehand.
-    pub module: Option<&'b [u8]>,
-}
-
-impl<'a, 'b> AtHand<'a, 'b> {
-    /// Nothing but the text of the grammar file, where one is named.
-    pub fn of(grammar: Option<&'b [u8]>) -> Self {
-        AtHand {
-            text: None,
-            grammar,
-            module: None,
-        }
-    }
-}
-
-/// The standard error, which tells after the line of an error why, where that is asked for.
-#[derive(Drop)]
-pub struct Teller<'a, 'b, W> {
-    to: W,
-    why: &'b Why<'a>,
-    at_hand: AtHand<'a, 'b>,
-}
-
-impl<'a, 'b, W: Write> Teller<'a, 'b, W> {
-    /// Of a run that reads this.
-    pub fn new(to: W, why: &'b Why<'a>, at_hand: AtHand<'a, 'b>) -> Self {
-        Teller { to, why, at_hand }
-    }
-
-    /// Tells why a read or a write failed, or that a text is none.
-    fn tell_file(&mut self) {
-        if self.why.tell_failure(&mut self.to) {
-            return;
-        }
-        let Some(name) = self.at_hand.text else {
-            return;
-        };
-        tell_line(name, b"the bytes are no text in UTF-8\n", &mut self.to);
-    }
-
-    /// Tells where a grammar file is refused, and what is wanted there.
-    fn tell_grammar(&mut self) {
-        let Some(grammar) = self.at_hand.grammar else {
-            return;
-        };
-        if let Ok(lines) = grammar_reason(self.why.alloc, grammar) {
-            let _ = self.to.write_all(lines.as_slice());
-        }
-    }
-
-    /// The entry points of the module, as far as it is at hand.
-    fn entries(&self) -> Result<String, AllocError> {
-        match self.at_hand.module {
-            Some(module) => entry_points(self.why.alloc, self.at_hand.grammar, module),
-            None => Ok(String::new(self.why.alloc)),
-        }
-    }
-
-    /// Tells that an id is no entry point's function, and which entry points there are: nothing where memory is short.
-    fn tell_entry(&mut self) {
-        let Ok(entries) = self.entries() else {
-            return;
-        };
-        let _ = self
-            .to
-            .write_all(b"ID is the function of no OpEntryPoint\n");
-        let _ = self.to.write_all(entries.as_bytes());
-    }
-
-    /// Tells why a line was written.
-    fn tell(&mut self, line: &[u8]) {
-        if line.ends_with(b"error file\n") {
-            self.tell_file();
-        } else if line.starts_with(b"error J") {
-            self.tell_grammar();
-        } else if line.ends_with(b"error X1\n") {
-            self.tell_entry();
-        } else if line.ends_with(b"error X2\n") {
-            let _ = self.to.write_all(b"ID is the result of no OpFunction\n");
-        }
-    }
-}
-
-impl<W: Write> Write for Teller<'_, '_, W> {
-    fn write(&mut self, buf: &[u8]) -> io::Result<usize> {
-        let n = self.to.write(buf)?;
-        if self.why.is_told() && n == buf.len() {
-            self.tell(buf);
-        }
-        Ok(n)
-    }
-
-    fn flush(&mut self) -> io::Result<()> {
-        self.to.flush()
     }
 }

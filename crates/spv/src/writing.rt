@@ -1,0 +1,70 @@
+//! What a command answers is written here.
+
+use crate::files::{Made, STANDARD};
+use crate::why::{AtHand, Noted, Tried, Why};
+use spv_commands::{Command, Output, Reply, Trouble, report};
+use spv_words::{FromWrite, write_all};
+use std::io::Stdout;
+
+/// The standard output, whose failed writes are noted.
+pub fn standard_output<'a, 'b>(
+    rt: &HostRuntime,
+    why: &'b Why<'a>,
+) -> FromWrite<Noted<'a, 'b, Stdout>> {
+    FromWrite::new(Noted::new(rt.stdout(), "standard output", Tried::Write, why))
+}
+
+/// Writes the line of a trouble, and after it why, where that is told: the exit status.
+pub fn report_why(
+    rt: &HostRuntime,
+    why: &Why<'_>,
+    trouble: Trouble,
+    at_hand: AtHand<'_, '_>,
+) -> u8 {
+    report(trouble, &mut FromWrite::new(rt.stderr()));
+    why.tell(trouble, at_hand, &mut rt.stderr());
+    2
+}
+
+/// Writes what is told to the standard output, and nothing where that is asked for: whether it was written. Where a
+/// module goes there, the line of a fault goes to the standard error.
+fn write_output(rt: &HostRuntime, why: &Why<'_>, command: &Command<'_>, output: &Output) -> bool {
+    match command {
+        Command::Judge { quiet: true, .. } => true,
+        Command::Asm { out, .. } if *out == STANDARD => {
+            output.write(&mut FromWrite::new(rt.stderr())).is_ok()
+        }
+        _ => output.write(&mut standard_output(rt, why)).is_ok(),
+    }
+}
+
+/// Writes the bytes of a module that is made, to a file or to the standard output: whether all were written.
+fn write_module<'a>(rt: &HostRuntime, why: &Why<'a>, command: &Command<'a>, bytes: &[u8]) -> bool {
+    let Command::Asm { out, .. } = command else {
+        return true;
+    };
+    if *out == STANDARD {
+        return write_all(bytes, &mut standard_output(rt, why)).is_ok();
+    }
+    let made = Noted::new(Made::new(rt, *out), *out, Tried::Write, why);
+    write_all(bytes, &mut FromWrite::new(made)).is_ok()
+}
+
+/// Writes an answer: the exit status.
+pub fn write_answer<'a>(
+    rt: &HostRuntime,
+    why: &Why<'a>,
+    command: &Command<'a>,
+    answer: &Reply,
+) -> Result<u8, Trouble> {
+    let (written, status) = match answer {
+        Reply::Done(output) => (write_output(rt, why, command, output), 0),
+        Reply::Fault(output) => (write_output(rt, why, command, output), 1),
+        Reply::Made(bytes) => (write_module(rt, why, command, bytes), 0),
+    };
+    if written {
+        Ok(status)
+    } else {
+        Err(Trouble::File)
+    }
+}
