@@ -33,7 +33,7 @@ use crate::text_fault::text_fault;
 use crate::tracing::{RunError, Traced, traced_of};
 use spv_builtin::{grammar_text as text_of_grammar, table_of};
 use spv_command_line::{AnyCode, Command, Task};
-use spv_explain::{Detail, Explanation, explain_bytes};
+use spv_explain::{Detail, Explanation, explain_bytes, octets_told};
 use spv_extended::Reach;
 use spv_grammar::GrammarError;
 use spv_table::Table;
@@ -115,7 +115,13 @@ fn explanation_of(
     ensures explains { IfOk result (λ e. IsExplanation detail table.now reach bytes.items e) }
     ensures only { IfErr result (λ t. t ≡ Memory) }
 {
-    match explain_bytes(alloc, table, reach, detail, &bytes) {
+    if bytes.len() > GREATEST_SIZE {
+        return match explain_bytes(alloc, table, reach, detail, &bytes) {
+            Ok(explanation) => Ok(explanation),
+            Err(_) => Err(Trouble::Memory),
+        };
+    }
+    match octets_told(alloc, table, reach, detail, bytes) {
         Ok(explanation) => Ok(explanation),
         Err(_) => Err(Trouble::Memory),
     }

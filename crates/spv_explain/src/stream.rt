@@ -267,8 +267,13 @@ fn refusal(alloc: Global, code: WordError, front: Front) -> Result<Explanation, 
     }
 }
 
-/// The lines that tell the bytes of a whole stream.
-fn octets_told(
+/// The same as `explain_bytes` of bytes that become the module's image, so that they are not copied: 16,777,216 of them
+/// at most.
+///
+/// # Errors
+///
+/// `W9` comes only where a growth of memory was refused.
+pub fn octets_told(
     alloc: Global,
     table: &Table,
     reach: Reach,
