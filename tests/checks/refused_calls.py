@@ -96,7 +96,8 @@ LINES = [
     line("check", "--verbose", calls=[WRITE]),
     line("check", "--verbose", "absent.spv", calls=[WRITE]),
     line("check", "--verbose", "-H", "absent.spv", calls=[WRITE], names=("absent.spv",)),
-    line("check", "--verbose", "--grammar", "bad.json", KERNEL),
+    # (the module is read before the grammar file is judged, and a read of it that fails is then not told)
+    line("check", "--verbose", "--grammar", "bad.json", KERNEL, calls=[OPEN, WRITE]),
     line("grammar", "--verbose", "bad.json"),
     line("trace", "--verbose", "--function", 1, "--limit", 9, KERNEL),
     line("asm", "--verbose", "--out", "./text", "text", calls=[WRITE]),
