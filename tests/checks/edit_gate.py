@@ -74,8 +74,8 @@ def lay_out(folder, edits, with_libraries=False):
 
 
 def run(words, folder):
-    """Runs a command in a folder, hands on each line that it prints, and answers its exit status and the edits that were
-    refused."""
+    """Runs a command in a folder, hands on each line that it prints, and answers its exit status and the edits that
+    were refused."""
     refused = []
     with subprocess.Popen(words, cwd=folder, stdout=subprocess.PIPE, stderr=subprocess.STDOUT, stdin=subprocess.DEVNULL,
                           text=True, errors="replace") as started:
@@ -102,7 +102,8 @@ def gate(whole):
     else:
         edits = state.due()
         total = len(state.sums)
-        print(f"{total - len(edits)} of {total} must-fail edits are in tests/edits.record as they stand, {len(edits)} are tried")
+        kept = total - len(edits)
+        print(f"{kept} of {total} must-fail edits are in tests/edits.record as they stand, {len(edits)} are tried")
         with tempfile.TemporaryDirectory(prefix="spv-gate-") as room:
             folder = Path(room)
             lay_out(folder, edits)

@@ -1,11 +1,11 @@
 """The record of must-fail edits that the prover has refused: which of them need not be tried again.
 
-A line of tests/edits.record names an edit, the toolchain that refused it, and a checksum of all that this hangs on: the
-edit's text, its crate's src/, specs/ and proofs/, the contracts and definitions of the crates below, and the toolchain. An
-edit is due where the record has no line with its present checksum.
+A line of tests/edits.record names an edit, the toolchain that refused it, and a checksum of all that this hangs on:
+the edit's text, its crate's src/, specs/ and proofs/, the contracts and definitions of the crates below, and the
+toolchain. An edit is due where the record has no line with its present checksum.
 
-Of a crate below these count: its definitions in specs/, but for those of specs/inner/ that nothing here imports; and its src/
-without comments, imports, attributes for the prover, bodies of functions, and functions that are not public.
+Of a crate below these count: its definitions in specs/, but for those of specs/inner/ that nothing here imports; and
+its src/ without comments, imports, attributes for the prover, bodies of functions, and functions that are not public.
 """
 
 import hashlib
@@ -24,8 +24,8 @@ HEAD = """\
 
 
 def body_of(lines, start):
-    """The first line of the body of the function whose text starts at a line, and the line that closes it; None where it
-    has none, or none that is laid out as `rt fmt` does."""
+    """The first line of the body of the function whose text starts at a line, and the line that closes it; None where
+    it has none, or none that is laid out as `rt fmt` does."""
     indent = FUNCTION.match(lines[start])["indent"]
     for at in range(start, len(lines)):
         line = lines[at]
@@ -48,7 +48,8 @@ def seen(text):
 
 
 def is_exported(file):
-    """Whether a module hands on what it has: each module on the way to it is public, or has something that is handed on."""
+    """Whether a module hands on what it has: each module on the way to it is public, or has something that is handed
+    on."""
     if file.stem in ("lib", "main") or file.parent.name == "src" and not (file.parent / "lib.rt").is_file():
         return True
     parent = file.parent / "lib.rt" if file.parent.name == "src" else file.parent.with_suffix(".rt")
@@ -58,9 +59,9 @@ def is_exported(file):
 
 
 def contracts(text, is_exported=True):
-    """What a crate above may know of a file of src/: what is seen of it, without the bodies of functions, and without functions
-    that are not public, where they stand in no trait and implement none. Of a module that hands on nothing the functions that
-    stand by themselves are not public either."""
+    """What a crate above may know of a file of src/: what is seen of it, without the bodies of functions, and without
+    functions that are not public, where they stand in no trait and implement none. Of a module that hands on nothing
+    the functions that stand by themselves are not public either."""
     lines, kept, at, is_open = list(seen(text)), [], 0, False
     while at < len(lines):
         line = lines[at]
@@ -130,8 +131,8 @@ class Crates:
         return self.promised[path]
 
     def definitions(self, crate):
-        """The files of definitions of the crates below that count for a crate: all but those of specs/inner/, and of these what
-        the crate's own files or those definitions import."""
+        """The files of definitions of the crates below that count for a crate: all but those of specs/inner/, and of
+        these what the crate's own files or those definitions import."""
         below = {it: self.files(it, "specs") for it in self.below(crate)}
         chosen = {it for files in below.values() for it in files if "inner" not in it.parts}
         due = list(chosen) + [it for part in PARTS for it in self.files(crate, part)]
@@ -190,8 +191,8 @@ def due(sums, toolchain, record):
 
 
 def noted(sums, toolchain, record, refused):
-    """The text of the record with these edits, which the prover has refused as they stood when the checksums were taken, and
-    without those that are gone."""
+    """The text of the record with these edits, which the prover has refused as they stood when the checksums were
+    taken, and without those that are gone."""
     lines = {key: checksum for key, checksum in record.items() if key[0] in sums}
     lines.update({(it, toolchain): sums[it] for it in refused if it in sums})
     order = {it: place for place, it in enumerate(sums)}

@@ -34,8 +34,8 @@ def changed(path, old, new):
 
 
 def body_and_contract(folder):
-    """A body and a contract of its own make due the edits of the crate alone, what others call and a definition those of the
-    crates above too, an edit itself alone, and another toolchain all."""
+    """A body and a contract of its own make due the edits of the crate alone, what others call and a definition those of
+    the crates above too, an edit itself alone, and another toolchain all."""
     crates = edit_record.Crates(copied(folder), "kit")
     record = {(it, "kit"): checksum for it, checksum in crates.sums().items()}
     counts = {it: sum(1 for crate, _ in crates.edits() if crate == it) for it in crates.uses}
@@ -53,7 +53,8 @@ def body_and_contract(folder):
         found = due(folder, record)
         (folder / file).write_text(before, encoding="utf-8")
         if found != (names, number):
-            return f"  after {new!r} in {file}: {found[1]} edits of {sorted(found[0])} are due, wanted {number} of {sorted(names)}"
+            wanted = f"wanted {number} of {sorted(names)}"
+            return f"  after {new!r} in {file}: {found[1]} edits of {sorted(found[0])} are due, {wanted}"
     total = due(folder, record, "another kit")[1]
     return None if total == len(record) else f"  {total} of {len(record)} edits are due with another toolchain"
 
