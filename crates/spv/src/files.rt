@@ -1,6 +1,6 @@
 //! The files of the command line: they are opened, read whole and made here.
 use crate::why::{Noted, Tried, Why};
-use spv_commands::{TextError, Trouble, Unread, read_all};
+use spv_commands::{Trouble, Unread, read_all};
 use spv_words::FromRead;
 use std::alloc::{AllocError, Global};
 use std::fs::File;
@@ -39,15 +39,7 @@ impl Read for Input {
 fn unread_of(error: io::Error) -> Unread {
     match error.kind() {
         ErrorKind::OutOfMemory => Unread::Memory,
-        _ => Unread::Failed,
-    }
-}
-
-/// What a file that is not read is told as, where it ends a run.
-pub fn trouble_of(why: Unread) -> Trouble {
-    match why {
-        Unread::Failed => Trouble::File,
-        Unread::Memory => Trouble::Memory,
+        _ => Unread::File,
     }
 }
 
@@ -81,8 +73,8 @@ pub fn text_bytes<'a>(
     let input = Noted::new(input, name, Tried::Read, why);
     match read_all(alloc, &mut FromRead::new(input)) {
         Ok(bytes) => Ok(bytes),
-        Err(TextError::Memory) => Err(Unread::Memory),
-        Err(_) => Err(Unread::Failed),
+        Err(Trouble::Memory) => Err(Unread::Memory),
+        Err(_) => Err(Unread::File),
     }
 }
 
@@ -113,7 +105,7 @@ pub fn module_bytes<'a>(
             break;
         }
         let Ok(size) = input.read(&mut block[..room]) else {
-            return Err(Unread::Failed);
+            return Err(Unread::File);
         };
         if size == 0 {
             break;

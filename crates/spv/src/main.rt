@@ -8,16 +8,17 @@ mod why;
 mod words;
 mod writing;
 
-use files::{
-    STANDARD, is_same_file, make_if_absent, module_bytes, open, open_file, text_bytes, trouble_of,
-};
+use files::{STANDARD, is_same_file, make_if_absent, module_bytes, open, open_file, text_bytes};
 use several::{judge_several, judging_of};
 use spv_commands::{Command, Trouble, Unread, UseError, answer, arguments_in, is_verbose, report};
 use spv_words::FromWrite;
 use std::io::IsTerminal;
 use std::process::ExitCode;
 use why::{AtHand, Why};
-use words::{grammar_of_environment, push_texts, push_words, settle_color, show_text, tell_use};
+use words::{
+    grammar_of_environment, is_verbose_by_environment, push_texts, push_words, settle_color,
+    show_text, tell_use,
+};
 use writing::{report_why, write_answer};
 
 /// The path of the grammar file that a command names, if it names one.
@@ -118,10 +119,7 @@ fn answer_one<'a>(
     command: &Command<'a>,
     grammar: Option<&[u8]>,
 ) -> Result<u8, Trouble> {
-    let file = match file_of(rt, why, command) {
-        Ok(file) => file,
-        Err(unread) => return Err(trouble_of(unread)),
-    };
+    let file = file_of(rt, why, command)?;
     let kept = kept_of(rt, why, command, &file);
     let at_hand = AtHand {
         text: text_of(command),
@@ -156,10 +154,7 @@ fn with_command<'a>(rt: &HostRuntime, why: &Why<'a>, command: &Command<'a>) -> R
     if is_destroying(rt, command) {
         return Err(Trouble::Use);
     }
-    let grammar = match grammar_of(rt, why, command) {
-        Ok(grammar) => grammar,
-        Err(unread) => return Err(trouble_of(unread)),
-    };
+    let grammar = grammar_of(rt, why, command)?;
     let grammar = match &grammar {
         Some(bytes) => Some(bytes.as_slice()),
         None => None,
@@ -179,6 +174,11 @@ fn with_texts<'a>(
 ) -> Result<u8, Trouble> {
     match arguments_in(rt.alloc(), texts, environment) {
         Ok(mut command) => {
+            if let (Some(path), Some(named)) = (environment, grammar_path(&command)) {
+                if path == named {
+                    why.note_environment(named);
+                }
+            }
             settle_color(rt, &mut command);
             with_command(rt, why, &command)
         }
@@ -188,11 +188,19 @@ fn with_texts<'a>(
     }
 }
 
+/// The words without a `--verbose` in front of the command, where it stands there alone.
+fn after_verbose<'a, 'b>(texts: &'b [&'a str]) -> &'b [&'a str] {
+    match texts {
+        [first, rest @ ..] if *first == "--verbose" && !is_verbose(rest) => rest,
+        _ => texts,
+    }
+}
+
 /// Does what the words ask, tells where that is not done, and answers the exit status.
 fn status_of(rt: &HostRuntime, texts: &[&str], environment: Option<&str>) -> u8 {
-    let is_told = is_verbose(texts) || rt.stderr().is_terminal();
+    let is_told = is_verbose(texts) || is_verbose_by_environment(rt) || rt.stderr().is_terminal();
     let why = Why::new(rt.alloc(), is_told);
-    match with_texts(rt, &why, texts, environment) {
+    match with_texts(rt, &why, after_verbose(texts), environment) {
         Ok(status) => status,
         Err(trouble) => {
             let status = report_why(rt, &why, trouble, AtHand::of(None));

@@ -51,7 +51,7 @@ fn module_of<'a>(rt: &HostRuntime, why: &Why<'a>, name: &'a str) -> Result<Vec<u
 /// Tells why a file was not judged, where no such write failed before: whether none has.
 fn tell_unread(rt: &HostRuntime, why: &Why<'_>, name: &str, unread: Unread, sound: bool) -> bool {
     let heard = tell(name, Some(unread), sound, &mut FromWrite::new(rt.stderr()));
-    if let Unread::Failed = unread {
+    if let Unread::File = unread {
         if heard {
             why.tell(Trouble::File, AtHand::of(None), &mut rt.stderr());
         }

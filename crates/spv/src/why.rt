@@ -5,7 +5,10 @@ use spv_words::FromWrite;
 use std::alloc::{AllocError, Global};
 use std::cell::Cell;
 use std::io;
-use std::io::{Read, Write};
+use std::io::{ErrorKind, Read, Write};
+
+/// What the standard output is called where a write to it fails.
+pub const STANDARD_OUTPUT: &str = "standard output";
 
 /// What is tried with a file.
 #[derive(Clone, Copy)]
@@ -74,8 +77,12 @@ pub struct Why<'a> {
     alloc: Global,
     /// Whether more than the line is told.
     is_told: bool,
+    /// The path of the grammar file, where the environment names it and no word does.
+    environment: Cell<Option<&'a str>>,
     /// Whether a call failed.
     has_failed: Cell<bool>,
+    /// Whether nobody reads the standard output any more.
+    is_closed: Cell<bool>,
     /// The call that failed last, until it is told.
     last: Cell<Option<Failure<'a>>>,
 }
@@ -86,7 +93,9 @@ impl<'a> Why<'a> {
         Why {
             alloc,
             is_told,
+            environment: Cell::new(None),
             has_failed: Cell::new(false),
+            is_closed: Cell::new(false),
             last: Cell::new(None),
         }
     }
@@ -101,27 +110,42 @@ impl<'a> Why<'a> {
         self.has_failed.get()
     }
 
+    /// Whether a write failed since nobody reads the standard output any more.
+    pub fn is_closed(&self) -> bool {
+        self.is_closed.get()
+    }
+
+    /// Notes that the environment names the grammar file.
+    pub fn note_environment(&self, path: &'a str) {
+        self.environment.set(Some(path));
+    }
+
     /// Notes a call that failed.
     pub fn note(&self, name: &'a str, tried: Tried, error: io::Error) {
         self.has_failed.set(true);
+        if name == STANDARD_OUTPUT && error.kind() == ErrorKind::BrokenPipe {
+            self.is_closed.set(true);
+        }
         self.last.set(Some(Failure { name, tried, error }));
     }
 
-    /// Tells what was tried last and why it failed, a line, where a call failed; and else that a text is none. What
-    /// cannot be written is left out.
-    fn tell_file<W: Write>(&self, text: Option<&str>, to: &mut W) {
-        if let Some(failure) = self.last.take() {
-            let reason = format!(in self.alloc;
-                "cannot {}: {}\n",
-                failure.tried.word(),
-                failure.error
-            );
-            if let Ok(reason) = reason {
-                tell_line(failure.name, reason.as_bytes(), to);
-            }
-        } else if let Some(name) = text {
-            tell_line(name, b"the bytes are no text in UTF-8\n", to);
+    /// Tells that the environment names a grammar file, where it is this one.
+    fn tell_environment<W: Write>(&self, name: &str, to: &mut W) {
+        if self.environment.get() == Some(name) {
+            tell_line(name, b"SPV_GRAMMAR names this grammar file\n", to);
         }
+    }
+
+    /// Tells what was tried last and why it failed, a line, where a call failed. What cannot be written is left out.
+    fn tell_file<W: Write>(&self, to: &mut W) {
+        let Some(failure) = self.last.take() else {
+            return;
+        };
+        let reason = format!(in self.alloc; "cannot {}: {}\n", failure.tried.word(), failure.error);
+        if let Ok(reason) = reason {
+            tell_line(failure.name, reason.as_bytes(), to);
+        }
+        self.tell_environment(failure.name, to);
     }
 
     /// Tells where a grammar file is refused, and what is wanted there.
@@ -131,6 +155,9 @@ impl<'a> Why<'a> {
         };
         if let Ok(lines) = grammar_reason(self.alloc, grammar) {
             let _ = to.write_all(lines.as_slice());
+        }
+        if let Some(name) = self.environment.get() {
+            self.tell_environment(name, to);
         }
     }
 
@@ -156,7 +183,12 @@ impl<'a> Why<'a> {
             return;
         }
         match trouble {
-            Trouble::File => self.tell_file(at_hand.text, to),
+            Trouble::File => self.tell_file(to),
+            Trouble::NotText => {
+                if let Some(name) = at_hand.text {
+                    tell_line(name, b"the bytes are no text in UTF-8\n", to);
+                }
+            }
             Trouble::Grammar(_) => self.tell_grammar(at_hand.grammar, to),
             Trouble::NoEntry => self.tell_entry(at_hand, to),
             Trouble::NoFunction => {

@@ -50,6 +50,14 @@ pub fn grammar_of_environment(rt: &HostRuntime) -> Result<Option<String>, Troubl
     }
 }
 
+/// Whether the environment asks for what `--verbose` does: SPV_VERBOSE is set, is not empty and is not 0.
+pub fn is_verbose_by_environment(rt: &HostRuntime) -> bool {
+    match env::var(rt, "SPV_VERBOSE") {
+        Ok(text) => !text.is_empty() && text.as_str() != "0",
+        Err(_) => false,
+    }
+}
+
 /// Whether the environment asks for no colour: NO_COLOR is set and is not empty (https://no-color.org).
 fn forbids_color(rt: &HostRuntime) -> bool {
     match env::var(rt, "NO_COLOR") {

@@ -1,7 +1,7 @@
 //! What a command answers is written here.
 
 use crate::files::{Made, STANDARD};
-use crate::why::{AtHand, Noted, Tried, Why};
+use crate::why::{AtHand, Noted, STANDARD_OUTPUT, Tried, Why};
 use spv_commands::{Command, Output, Reply, Trouble, report};
 use spv_words::{FromWrite, write_all};
 use std::io::Stdout;
@@ -11,16 +11,24 @@ pub fn standard_output<'a, 'b>(
     rt: &HostRuntime,
     why: &'b Why<'a>,
 ) -> FromWrite<Noted<'a, 'b, Stdout>> {
-    FromWrite::new(Noted::new(rt.stdout(), "standard output", Tried::Write, why))
+    FromWrite::new(Noted::new(rt.stdout(), STANDARD_OUTPUT, Tried::Write, why))
 }
 
-/// Writes the line of a trouble, and after it why, where that is told: the exit status.
+/// The exit status of a program whose standard output nobody reads any more: that of one that the signal SIGPIPE (13)
+/// ended.
+const CLOSED: u8 = 128 + 13;
+
+/// Writes the line of a trouble, and after it why, where that is told: the exit status. Where nobody reads the standard
+/// output any more, nothing is told.
 pub fn report_why(
     rt: &HostRuntime,
     why: &Why<'_>,
     trouble: Trouble,
     at_hand: AtHand<'_, '_>,
 ) -> u8 {
+    if why.is_closed() {
+        return CLOSED;
+    }
     report(trouble, &mut FromWrite::new(rt.stderr()));
     why.tell(trouble, at_hand, &mut rt.stderr());
     2

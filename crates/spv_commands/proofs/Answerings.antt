@@ -1,5 +1,5 @@
 -- What a command answers of what its file gave.
-use Rattle.std.proofs.Common.{◌≡◌, ◌≢◌, ◌⊎◌, ◌↔◌, ◌*◌, ◌++◌, length, ℕ, List, [], Bool, true, false, Option, Some, None, Result, Ok, Err, IfOk, IfErr, IsTrue, refl, arith, inl, inr}
+use Rattle.std.proofs.Common.{◌≡◌, ◌≢◌, ◌⊎◌, ◌↔◌, ◌*◌, ◌++◌, length, ℕ, List, [], Bool, true, false, Option, Some, None, Result, Ok, Err, IfOk, IfErr, IsTrue, option_map, refl, arith, inl, inr}
 use Rattle.std.specs.Prelude.{string_bytes}
 use Rattle.spv_words.specs.Header.{IsFirstBroken, IsModule}
 use Rattle.spv_words.specs.declared.words.Order.{Order}
@@ -23,22 +23,21 @@ use Rattle.spv_views.proofs.Viewings.{no_words}
 use Rattle.spv_command_line.specs.declared.command_line.Command.{Command}
 use Rattle.spv_commands.specs.Answer.{Answers, IsRefusal, grammar, done, told, refused, no_text, no_entry, no_function, memory, unread}
 use Rattle.spv_rules.specs.declared.errors.AnyCode.{AnyCode}
-use Rattle.spv_command_line.specs.declared.command_line.Command.TheVariants.{Rules}
+use Rattle.spv_command_line.specs.declared.command_line.Command.TheVariants.{Judge, Show, Asm, Trace, Rules, Grammar as GrammarOf, Annotate, Graph}
 use Rattle.spv_words.specs.Streams.{HoldsBytes}
 use Rattle.spv_commands.specs.Assemble.{Assembles, IsFaultOf, IsImageOf}
 use Rattle.spv_commands.specs.Output.{is_done, made_of, out_of, status_of, written_err, written_made, written_out}
 use Rattle.spv_commands.specs.Show.{IsShowing, Shows}
 use Rattle.spv_commands.specs.Task.{IsNoText, LacksAsked, LacksEntry, WritesRules, taken_by}
 use Rattle.spv_commands.specs.Trace.{IsTracing, Traces}
-use Rattle.spv_commands.specs.Trouble.{grammar_text, trouble_text}
-use Rattle.spv_commands.specs.inner.Answered.{Gives, IsAnswerBy, IsUnreadAnswer, WhyNot, unread_trouble}
+use Rattle.spv_commands.specs.Trouble.{grammar_text, trouble_text, unread_trouble}
+use Rattle.spv_commands.specs.inner.Answered.{Gives, IsAnswerBy, IsUnreadAnswer, WhyNot}
 use Rattle.spv_commands.specs.declared.answering.Reply.{Reply}
 use Rattle.spv_commands.specs.declared.answering.Reply.TheVariants.{Done, Fault, Made}
-use Rattle.spv_commands.specs.declared.files.Unread.{Unread}
-use Rattle.spv_commands.specs.declared.files.Unread.TheVariants as why
-use Rattle.spv_commands.specs.declared.program.Trouble.{Trouble}
-use Rattle.spv_commands.specs.declared.program.Trouble.TheVariants.{File, Memory, NoEntry, NoFunction}
-use Rattle.spv_commands.proofs.Troubles.{same_text}
+use Rattle.spv_explain.specs.declared.answers.Unread.{Unread}
+use Rattle.spv_explain.specs.declared.answers.Unread.TheVariants as why
+use Rattle.spv_commands.specs.declared.trouble.Trouble.{Trouble}
+use Rattle.spv_commands.specs.declared.trouble.Trouble.TheVariants.{Memory, NoEntry, NoFunction, NotText}
 
 -- what a writer that held nothing gets
 pub gives : (Whole : List ℕ → List ℕ → Option (List ℕ) → Bool → Type 0) (bytes line : List ℕ) (answer : Bool) (a : Reply) → out_of a ≡ line → is_done a ≡ answer → made_of a ≡ []
@@ -114,10 +113,22 @@ for_function command G bytes P (Err t) f (inl e) = inr (inr (inl (e.0, f e.1)))
 for_function command G bytes P (Err t) f (inr e) = inr (inr (inr e))
 
 pub for_text : (command : Command) (G : Table) (bytes : List ℕ) (P : Type 0) (r : Result Reply Trouble) → (P → IsNoText command (Some bytes))
-    → IfErr r (λ t. ((t ≡ File) × P) ⊎ (t ≡ Memory)) → IfErr r (WhyNot command G bytes)
+    → IfErr r (λ t. ((t ≡ NotText) × P) ⊎ (t ≡ Memory)) → IfErr r (WhyNot command G bytes)
 for_text command G bytes P (Ok a) f h = tt
 for_text command G bytes P (Err t) f (inl e) = inl (e.0, f e.1)
 for_text command G bytes P (Err t) f (inr e) = inr (inr (inr e))
+
+-- a text is no module, and is taken as it is
+pub same_text : (command : Command) (known : Option (List ℕ)) → IsNoText command (option_map (taken_by command) known) → IsNoText command known
+same_text (Judge task g fs v e p q j) known h = absurd h
+same_text (Show g f v) known h = absurd h
+same_text (Asm g f o b x) None h = tt
+same_text (Asm g f o b x) (Some bytes) h = h
+same_text (Trace g f id choices limit v e) known h = absurd h
+same_text (Annotate g f v id form color) known h = absurd h
+same_text (Graph g f v id) known h = absurd h
+same_text (Rules code j) known h = absurd h
+same_text (GrammarOf f) known h = absurd h
 
 -- why there is no answer, as a line
 why_not : (command : Command) (text : Option (List ℕ)) (G : Table) (bytes : List ℕ) (t : Trouble) → IsTableOf text G → WhyNot command G (taken_by command bytes) t
@@ -142,7 +153,7 @@ answers_bytes command text G bytes (Err t) given h w = refused (why_not command 
 -- of one that was not read
 pub answers_unread : (command : Command) (text : Option (List ℕ)) (G : Table) (u : Unread) → IsTableOf text G
     → Answers command text None [] [] (trouble_text (unread_trouble u)) 2
-answers_unread command text G why.Failed given = refused (unread G given refl) refl refl refl
+answers_unread command text G why.File given = refused (unread G given refl) refl refl refl
 answers_unread command text G why.Memory given = refused memory refl refl refl
 
 -- what codes say

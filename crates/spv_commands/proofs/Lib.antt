@@ -5,5 +5,4 @@ pub mod Showings
 pub mod Tasks
 pub mod TraceLines
 pub mod Tracings
-pub mod Troubles
 pub mod Worked

@@ -16,7 +16,7 @@ use Rattle.spv_explain.specs.Stream.{BeginsExplaining, Explains}
 use Rattle.spv_verdict.specs.Stream.{Begins, TellsVerdict}
 use Rattle.spv_verdict.specs.Verdict.{IsVerdict}
 use Rattle.spv_verdict.proofs.Verdicts.{refused_is_not_valid}
-use Rattle.spv_commands.specs.Task.{BeginsByText, BeginsGrammar, DoesByText, MakesNothing, ReadsNoFile, WritesGrammar, detail_of, reach_of, taken, view_of}
+use Rattle.spv_commands.specs.Task.{DoesByText, MakesNothing, ReadsNoFile, WritesGrammar, detail_of, reach_of, taken, view_of}
 use Rattle.spv_views.specs.View.{BeginsViewing, Views}
 use Rattle.spv_views.specs.declared.view.View.{View}
 use Rattle.spv_views.specs.declared.view.View.TheVariants as view
@@ -77,7 +77,7 @@ short_taken false = refl
 
 -- what a command does with three bytes, whichever they are taken as
 module _ (P : List ℕ → Type 0) where
-  as_taken : (as_1_6 : Bool) → P (1 ∷ 2 ∷ 3 ∷ []) → P (taken as_1_6 (1 ∷ 2 ∷ 3 ∷ []))
+  pub as_taken : (as_1_6 : Bool) → P (1 ∷ 2 ∷ 3 ∷ []) → P (taken as_1_6 (1 ∷ 2 ∷ 3 ∷ []))
   as_taken as_1_6 h = subst P (sym (short_taken as_1_6)) h
 
 pub does_short : (c : Command) (G : Table) → ¬ (ReadsNoFile c) → MakesNothing c → IsTableOf (Some empty_grammar) G → ((reach : Reach) → TellsVerdict G reach (1 ∷ 2 ∷ 3 ∷ []) (9 ∷ []) (Some (9 ∷ codes "fault W2" ++ line_end)) false)
@@ -114,44 +114,7 @@ does_short (Graph g f v function) G r n given tells explains shows traces views 
 does_short (Rules code j) G r n given tells explains shows traces views = absurd (r tt)
 does_short (Grammar file) G r n given tells explains shows traces views = absurd (r tt)
 
-pub begins_short : (c : Command) (G : Table) → ¬ (ReadsNoFile c) → MakesNothing c → IsTableOf (Some empty_grammar) G → ((reach : Reach) → Begins G reach (1 ∷ 2 ∷ 3 ∷ []) (9 ∷ []) (Some (9 ∷ codes "fault")))
-    → ((reach : Reach) (detail : Detail) → BeginsExplaining detail G reach (1 ∷ 2 ∷ 3 ∷ []) (9 ∷ []) (Some (9 ∷ codes "fault")))
-    → BeginsShowing G (1 ∷ 2 ∷ 3 ∷ []) (9 ∷ []) (Some (9 ∷ codes "fault"))
-    → ((reach : Reach) (function : ℕ) (choices : List ℕ) (limit : ℕ) → BeginsTracing G reach function choices limit (1 ∷ 2 ∷ 3 ∷ []) (9 ∷ []) (Some (9 ∷ codes "fault")))
-    → ((how : View) (function : Option ℕ) → BeginsViewing how G function (1 ∷ 2 ∷ 3 ∷ []) (9 ∷ []) (Some (9 ∷ codes "fault")))
-    → BeginsByText c (Some empty_grammar) (1 ∷ 2 ∷ 3 ∷ []) (Some (9 ∷ [])) (Some (9 ∷ codes "fault")) None None
-begins_short (Judge tasks.Check g fs v e p q j) G r n given begins explained shown traced viewed =
-    record { table = G; given = given; begins = as_taken (λ bytes. Begins G (reach_of e) bytes (9 ∷ []) (Some (9 ∷ codes "fault"))) v (begins (reach_of e)) }
-begins_short (Judge (tasks.Explain full) g fs v e p q j) G r n given begins explained shown traced viewed =
-    record { table = G; given = given; begins = as_taken (λ bytes. BeginsExplaining (detail_of full) G (reach_of e) bytes (9 ∷ []) (Some (9 ∷ codes "fault"))) v (explained (reach_of e) (detail_of full)) }
-begins_short (Show g f v) G r n given begins explained shown traced viewed =
-    record { table = G; given = given; begins = as_taken (λ bytes. BeginsShowing G bytes (9 ∷ []) (Some (9 ∷ codes "fault"))) v shown }
-begins_short (Asm g f o b x) G r n given begins explained shown traced viewed = absurd n
-begins_short (Trace g f function choices limit v e) G r n given begins explained shown traced viewed = record {
-  table = G;
-  given = given;
-  begins = as_taken (λ bytes. BeginsTracing G (reach_of e) function choices.items limit bytes (9 ∷ []) (Some (9 ∷ codes "fault"))) v
-      (traced (reach_of e) function choices.items limit);
-}
-begins_short (Annotate g f v function form color) G r n given begins explained shown traced viewed = record {
-  table = G;
-  given = given;
-  begins = as_taken (λ bytes. BeginsViewing (view_of form color f) G function bytes (9 ∷ []) (Some (9 ∷ codes "fault"))) v
-      (viewed (view_of form color f) function);
-}
-begins_short (Graph g f v function) G r n given begins explained shown traced viewed = record {
-  table = G;
-  given = given;
-  begins = as_taken (λ bytes. BeginsViewing view.Graph G function bytes (9 ∷ []) (Some (9 ∷ codes "fault"))) v
-      (viewed view.Graph function);
-}
-begins_short (Rules code j) G r n given begins explained shown traced viewed = absurd (r tt)
-begins_short (Grammar file) G r n given begins explained shown traced viewed = absurd (r tt)
-
 -- ---- a grammar file
 
 pub grammar_written : (G : Table) (text : List ℕ) → IsGrammarText G text → WritesGrammar G (Some (9 ∷ [])) (Some (9 ∷ text))
 grammar_written G text t = record { text = text; is_text = t; written = refl }
-
-pub grammar_begun : (G : Table) (text : List ℕ) → IsGrammarText G text → BeginsGrammar G (Some (9 ∷ [])) (Some (9 ∷ []))
-grammar_begun G text t = record { text = text; is_text = t; begun = record { count = 0; fits = omega arith; written = refl } }

@@ -27,8 +27,8 @@ use Rattle.spv_verdict.proofs.Verdicts.{fault_is_not_valid, refused_is_not_valid
 use Rattle.spv_module.specs.declared.fault.Fault as fault
 use Rattle.spv_commands.specs.Trace.{BeginsTracing, HasNoEntry, IsProgram, IsTracing, Traces, judged, traced, trace_text}
 use Rattle.spv_commands.specs.inner.Traced.{is_run, output_of, traced_refusal, traced_stop}
-use Rattle.spv_commands.specs.declared.tracing.RunError.{RunError}
-use Rattle.spv_commands.specs.declared.tracing.RunError.TheVariants as trouble
+use Rattle.spv_commands.specs.declared.trouble.Trouble.{Trouble}
+use Rattle.spv_commands.specs.declared.trouble.Trouble.TheVariants as trouble
 use Rattle.spv_commands.specs.declared.tracing.Traced.{Traced}
 
 refused_line_written : (G : Table) (reach : Reach) (function : ℕ) (choices : List ℕ) (limit : ℕ) (bytes : List ℕ) (code : WordError) → IsFirstBroken code bytes
@@ -55,7 +55,7 @@ refused_stranger P word.W9 e = cc
 refused_stranger P code e = cc
 
 -- W1 is told where it was read
-pub refused_count : {X : Type 0} (P : Type 0) (code : WordError) (r : Result X WordError) → r ≡ Err code → (P ↔ IsErrOf r word.W1) → (P ↔ IsErrOf (traced_refusal code) trouble.Failed)
+pub refused_count : {X : Type 0} (P : Type 0) (code : WordError) (r : Result X WordError) → r ≡ Err code → (P ↔ IsErrOf r word.W1) → (P ↔ IsErrOf (traced_refusal code) trouble.File)
 refused_count P word.W1 r q h = (λ p. refl, λ e. h.1 q)
 refused_count P word.W9 r q h = (λ p. let e = h.0 p in cc, λ e. cc)
 refused_count P code r q h = (λ p. let e = h.0 p in cc, λ e. cc)
@@ -92,12 +92,12 @@ pub lacks_entry : (G : Table) (reach : Reach) (function : ℕ) (bytes words : Li
 lacks_entry G reach function bytes words order p NoEntry h c r q = record { program = p; valid = program_of G reach bytes words order p h c; none = r }
 lacks_entry G reach function bytes words order p Memory h c r q = cc
 
-pub stop_is_no_failure : (e : TraceError) → traced_stop e ≢ trouble.Failed
+pub stop_is_no_failure : (e : TraceError) → traced_stop e ≢ trouble.File
 stop_is_no_failure NoEntry q = cc
 stop_is_no_failure Memory q = cc
 
 -- what is written of the words that were read
-pub known_tracing : (G : Table) (reach : Reach) (function : ℕ) (choices : List ℕ) (limit : ℕ) (known : Option (List ℕ)) (words : List ℕ) (order : Order) (r : Result Traced RunError)
+pub known_tracing : (G : Table) (reach : Reach) (function : ℕ) (choices : List ℕ) (limit : ℕ) (known : Option (List ℕ)) (words : List ℕ) (order : Order) (r : Result Traced Trouble)
     → IfSome known (λ xs. IsModule order xs words)
     → ((bytes : List ℕ) (o : Order) → IsModule o bytes words → IfOk r (λ t. IsTracing G reach function choices limit bytes (output_of t) (is_run t)))
     → IfSome known (λ xs. IfOk r (λ t. IsTracing G reach function choices limit xs (output_of t) (is_run t)))

@@ -1,7 +1,16 @@
 -- Worked examples of grammar files.
-use Rattle.std.proofs.Common.{◌∷◌, ◌+◌, ℕ, List, ap, arith, length, length-append, ◌≡◌, ◌++◌, [], Some, None, IsUtf8, codes, refl}
+use Rattle.std.proofs.Common.{◌∷◌, ◌+◌, ◌<◌, ℕ, List, Option, false, ap, arith, get_or, length, length-append, ◌≡◌, ◌++◌, [], Some, None, IsUtf8, codes, refl, sym}
+use Rattle.std.specs.Borrow.{Bor}
+use Rattle.spv_words.specs.Header.{IsFirstBroken}
+use Rattle.spv_words.specs.declared.words.WordError.TheVariants.{W2}
+use Rattle.spv_command_line.specs.declared.command_line.Command.{Command}
+use Rattle.spv_command_line.specs.declared.command_line.Command.TheVariants.{Show}
+use Rattle.spv_commands.specs.Answer.{Answers, IsRefusal}
+use Rattle.spv_commands.specs.Show.{IsShowing}
+use Rattle.spv_commands.specs.Trouble.{file_line}
+use Rattle.spv_verdict.specs.Verdict.{refused_line}
 use Rattle.spv_table.specs.Table.{Table}
-use Rattle.spv_grammar.specs.declared.error.GrammarError.TheVariants.{J1}
+use Rattle.spv_grammar.specs.declared.error.GrammarError.TheVariants.{J1, J2, J3, J4, J5, J6, J7, J8}
 use Rattle.serde_json.specs.Read.{read as read_text}
 use Rattle.serde_json.proofs.OnLiterals.{serde_json_on_literals}
 use Rattle.spv_grammar.specs.Answer.{Gives}
@@ -9,8 +18,6 @@ use Rattle.spv_table.specs.Example.{empty_table}
 use Rattle.spv_grammar.specs.Example.{empty_tree}
 use Rattle.spv_commands.specs.Example.{empty_grammar}
 use Rattle.spv_builtin.specs.Source.{IsTableOf}
-use Rattle.spv_commands.specs.Trouble.{IsErrorLine}
-use Rattle.spv_commands.specs.Trouble.IsErrorLine.{refused as broken}
 use Rattle.json.specs.Print.{print}
 use Rattle.spv_rules.specs.declared.errors.AnyCode.{AnyCode}
 use Rattle.spv_explain.specs.Json.{AreRuleLines, json_line}
@@ -35,9 +42,6 @@ empty_given g = record { tree = empty_tree; utf8 = empty_utf8; is_tree = empty_r
 pub nothing_given : (G : Table) → ¬ (IsTableOf (Some []) G)
 nothing_given G t = let e = t.is_tree in let n = nothing_read in cc
 
-pub nothing_breaks : (failed strange absent : Type 0) → IsErrorLine (Some []) failed strange absent (codes "error J1" ++ line_end)
-nothing_breaks failed strange absent = broken J1 (λ _. nothing_read)
-
 -- an object has a line
 pub no_object : (code : AnyCode) (text : List ℕ) → text ≡ [] → ¬ (AreRuleLines (code ∷ []) text)
 no_object _ _ e (AreRuleLines.more code further tokens lines told rest) =
@@ -45,3 +49,39 @@ no_object _ _ e (AreRuleLines.more code further tokens lines told rest) =
     let m : length (json_line tokens ++ lines) ≡ length (json_line tokens) + length lines = length-append (json_line tokens) lines in
     let n : length (json_line tokens) ≡ length (print tokens) + 1 = length-append (print tokens) (10 ∷ []) in
     omega (arith, l, m, n)
+
+-- a text of three bytes is answered by the line of its fault
+pub show_answers : (g : Option (Bor (List ℕ))) (f : Bor (List ℕ)) (G : Table) → IsTableOf (Some empty_grammar) G → IsFirstBroken W2 (1 ∷ 2 ∷ 3 ∷ [])
+    → Answers (Show g f false) (Some empty_grammar) (Some (1 ∷ 2 ∷ 3 ∷ [])) (codes "fault W2" ++ line_end) [] [] 1
+show_answers g f G given h = Answers.done (1 ∷ 2 ∷ 3 ∷ []) refl
+    (record { table = G; given = given; does = record { output = refused_line W2; showing = IsShowing.refused W2 h; written = refl } }) (λ m. refl) refl (omega arith)
+
+pub no_third : (command : Command) (text file : Option (List ℕ)) (out made err : List ℕ) (status : ℕ) → status ≡ 3 → ¬ (Answers command text file out made err status)
+no_third command text file out made err status e (Answers.done bytes f d m r s) = omega (arith, e, s)
+no_third command text file out made err status e (Answers.told w m r s) = omega (arith, e, s)
+no_third command text file out made err status e (Answers.refused i o m s) = omega (arith, e, s)
+
+-- no text at all breaks J1, and it is that which is told
+pub nothing_refuses : (command : Command) (file : Option (List ℕ)) → IsRefusal command (Some []) file (codes "error J1" ++ line_end)
+nothing_refuses command file = IsRefusal.grammar J1 (λ _. nothing_read)
+
+abbrev letter : List ℕ → ℕ
+letter xs = get_or xs 6 0
+
+differ : (a b : ℕ) → a < b → ¬ (a ≡ b)
+differ a b h e = omega (arith, h, e)
+
+pub never_unread : (command : Command) (file : Option (List ℕ)) (line : List ℕ) → line ≡ file_line → ¬ (IsRefusal command (Some []) file line)
+never_unread command file _ q (IsRefusal.grammar J1 b) = differ 74 102 (omega arith) (ap letter q)
+never_unread command file _ q (IsRefusal.grammar J2 b) = differ 74 102 (omega arith) (ap letter q)
+never_unread command file _ q (IsRefusal.grammar J3 b) = differ 74 102 (omega arith) (ap letter q)
+never_unread command file _ q (IsRefusal.grammar J4 b) = differ 74 102 (omega arith) (ap letter q)
+never_unread command file _ q (IsRefusal.grammar J5 b) = differ 74 102 (omega arith) (ap letter q)
+never_unread command file _ q (IsRefusal.grammar J6 b) = differ 74 102 (omega arith) (ap letter q)
+never_unread command file _ q (IsRefusal.grammar J7 b) = differ 74 102 (omega arith) (ap letter q)
+never_unread command file _ q (IsRefusal.grammar J8 b) = differ 102 109 (omega arith) (sym (ap letter q))
+never_unread command file _ q (IsRefusal.unread G t f) = nothing_given G t
+never_unread command file _ q (IsRefusal.no_text G bytes t f n) = nothing_given G t
+never_unread command file _ q (IsRefusal.no_entry bytes f n) = nothing_given n.table n.given
+never_unread command file _ q (IsRefusal.no_function bytes f n) = nothing_given n.table n.given
+never_unread command file _ q IsRefusal.memory = differ 102 109 (omega arith) (sym (ap letter q))

@@ -1,10 +1,9 @@
 pub mod Answer
 pub mod Assemble
-pub mod Each
 pub mod Example
 pub mod Name
 pub mod Output
-pub mod Run
+pub mod Part
 pub mod Show
 pub mod Streams
 pub mod Task

@@ -9,8 +9,8 @@ use Rattle.spv_commands.specs.declared.answering.Reply.{Reply}
 use Rattle.spv_commands.specs.declared.answering.Reply.TheVariants.{Done, Fault, Made}
 use Rattle.spv_commands.specs.declared.outgoing.Output.{Output}
 use Rattle.spv_commands.specs.declared.outgoing.Output.TheVariants.{Line, Bytes, Run}
-use Rattle.spv_commands.specs.declared.files.Unread.{Unread}
-use Rattle.spv_commands.specs.declared.program.Trouble.{Trouble}
+use Rattle.spv_explain.specs.declared.answers.Unread.{Unread}
+use Rattle.spv_commands.specs.declared.trouble.Trouble.{Trouble}
 
 -- the octets of what is written
 abbrev pub output_of : Output → List ℕ

@@ -45,17 +45,15 @@ abbrev pub AnyFailed : Reading → Writing → Writing → Type 0
 AnyFailed file out made = file.failed ⊎ out.failed ⊎ made.failed
 
 -- How a call ends that writes to the standard output, or to a file that it makes. `Whole` says of the bytes what both
--- held, what they then hold and what is answered, and `Begun` the same where a write failed. `Other` is what else the
--- error of a failed call may tell.
+-- held, what they then hold and what is answered, and `Begun` the same where a write failed.
 pub record IsDone {E : Type 0}
     (Whole : List ℕ → Option (List ℕ) → Option (List ℕ) → Option (List ℕ) → Option (List ℕ) → Bool → Type 0)
     (Begun : List ℕ → Option (List ℕ) → Option (List ℕ) → Option (List ℕ) → Option (List ℕ) → Type 0)
-    (failure : E) (Other : Type 0) (file : Reading) (out made : Writing) (result : Result Bool E) : Type 0 where
+    (failure : E) (file : Reading) (out made : Writing) (result : Result Bool E) : Type 0 where
   -- they have got what the bytes come to
   pub whole : IfSome file.left (λ bytes. IfOk result (Whole bytes out.held out.holds made.held made.holds))
-  -- the error is that of a failed call where one failed, and else only for the other reason
-  pub failed : AnyFailed file out made → IsErrOf result failure
-  pub why : IsErrOf result failure → AnyFailed file out made ⊎ Other
+  -- the error is that of a failed call exactly where one failed
+  pub failed : AnyFailed file out made ↔ IsErrOf result failure
   -- with an error a writer that did not fail is as it was
   pub unwritten : IsErr result → out.untouched
   pub unmade : IsErr result → made.untouched

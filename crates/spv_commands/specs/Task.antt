@@ -16,21 +16,20 @@ use Rattle.spv_command_line.specs.declared.command_line.Form.{Form}
 use Rattle.spv_command_line.specs.declared.command_line.Form.TheVariants as forms
 use Rattle.spv_command_line.specs.declared.command_line.Task.{Task}
 use Rattle.spv_command_line.specs.declared.command_line.Task.TheVariants as tasks
-use Rattle.spv_commands.specs.Assemble.{Assembles, BeginsAssembling, order_of}
-use Rattle.spv_commands.specs.Show.{BeginsShowing, Shows}
-use Rattle.spv_commands.specs.Trace.{BeginsTracing, HasNoEntry, Traces}
+use Rattle.spv_commands.specs.Assemble.{Assembles, order_of}
+use Rattle.spv_commands.specs.Show.{Shows}
+use Rattle.spv_commands.specs.Trace.{HasNoEntry, Traces}
 use Rattle.spv_words.specs.Version.{as_1_6 as version_1_6}
-use Rattle.spv_verdict.specs.Stream.{Begins, TellsVerdict}
+use Rattle.spv_verdict.specs.Stream.{TellsVerdict}
 use Rattle.spv_rules.specs.Codes.{all_codes}
 use Rattle.spv_rules.specs.declared.errors.AnyCode.{AnyCode}
 use Rattle.spv_explain.specs.Json.{AreRuleLines}
-use Rattle.spv_explain.specs.Stream.{BeginsExplaining, Explains}
+use Rattle.spv_explain.specs.Stream.{Explains}
 use Rattle.spv_fault_lines.specs.declared.fact.Detail.{Detail}
 use Rattle.spv_fault_lines.specs.declared.fact.Detail.TheVariants.{Short, Full}
-use Rattle.spv_views.specs.View.{BeginsViewing, LacksFunction, Views}
+use Rattle.spv_views.specs.View.{LacksFunction, Views}
 use Rattle.spv_views.specs.declared.view.View.{View}
 use Rattle.spv_views.specs.declared.view.View.TheVariants as views
-use Rattle.spv_commands.specs.Trouble.{BeginsWith}
 
 -- the command needs a table
 abbrev pub ReadsGrammar : Command → Type 0
@@ -72,31 +71,16 @@ pub record WritesRules (code : Option AnyCode) (json : Bool) (old new : Option (
   pub are_rules : AreRules code json text
   pub written : Appends old new text
 
--- The same for a beginning of such a text.
-pub record BeginsRules (code : Option AnyCode) (json : Bool) (old new : Option (List ℕ)) : Type 0 where
-  pub text : List ℕ
-  pub are_rules : AreRules code json text
-  pub begun : IfSome old (λ xs. BeginsWith text xs new)
-
 -- The same of what `rules` asks for.
 abbrev pub WritesRulesOf : Command → Option (List ℕ) → Option (List ℕ) → Type 0
 WritesRulesOf (Rules code json) old new = WritesRules code json old new
 WritesRulesOf _ old new = ⊥
-
-abbrev pub BeginsRulesOf : Command → Option (List ℕ) → Option (List ℕ) → Type 0
-BeginsRulesOf (Rules code json) old new = BeginsRules code json old new
-BeginsRulesOf _ old new = ⊥
 
 -- The same for the grammar file of a table.
 pub record WritesGrammar (G : Table) (old new : Option (List ℕ)) : Type 0 where
   pub text : List ℕ
   pub is_text : IsGrammarText G text
   pub written : Appends old new text
-
-pub record BeginsGrammar (G : Table) (old new : Option (List ℕ)) : Type 0 where
-  pub text : List ℕ
-  pub is_text : IsGrammarText G text
-  pub begun : IfSome old (λ xs. BeginsWith text xs new)
 
 -- how much an explanation tells
 abbrev pub detail_of : Bool → Detail
@@ -113,11 +97,6 @@ reach_of false = Profile
 abbrev pub DoesTask : Task → Table → Reach → List ℕ → List ℕ → Option (List ℕ) → Bool → Type 0
 DoesTask tasks.Check G reach bytes old new answer = TellsVerdict G reach bytes old new answer
 DoesTask (tasks.Explain full) G reach bytes old new answer = Explains (detail_of full) G reach bytes old new answer
-
--- The same for a beginning of that.
-abbrev pub BeginsTask : Task → Table → Reach → List ℕ → List ℕ → Option (List ℕ) → Type 0
-BeginsTask tasks.Check G reach bytes old new = Begins G reach bytes old new
-BeginsTask (tasks.Explain full) G reach bytes old new = BeginsExplaining (detail_of full) G reach bytes old new
 
 -- a text has colour where that is asked for in any case; whether a terminal asks for it is settled before
 abbrev pub is_colored : Color → Bool
@@ -151,23 +130,6 @@ Does (Graph grammar file as_1_6 function) G bytes old new held kept answer =
 Does (Rules code json) G bytes old new held kept answer = WritesRules code json old new × (answer ≡ true)
 Does (Grammar file) G bytes old new held kept answer = WritesGrammar G old new × (answer ≡ true)
 
--- The same for a beginning of that.
-abbrev pub BeginsToDo : Command → Table → List ℕ → Option (List ℕ) → Option (List ℕ) → Option (List ℕ)
-    → Option (List ℕ) → Type 0
-BeginsToDo (Judge task grammar files as_1_6 extended naming quiet json) G bytes old new held kept =
-    IfSome old (λ xs. BeginsTask task G (reach_of extended) bytes xs new)
-BeginsToDo (Show grammar file as_1_6) G bytes old new held kept = IfSome old (λ xs. BeginsShowing G bytes xs new)
-BeginsToDo (Asm grammar file out big explain) G bytes old new held kept =
-    BeginsAssembling G (order_of big) explain bytes old new held kept
-BeginsToDo (Trace grammar file function choices limit as_1_6 extended) G bytes old new held kept =
-    IfSome old (λ xs. BeginsTracing G (reach_of extended) function choices.items limit bytes xs new)
-BeginsToDo (Annotate grammar file as_1_6 function form color) G bytes old new held kept =
-    IfSome old (λ xs. BeginsViewing (view_of form color file) G function bytes xs new)
-BeginsToDo (Graph grammar file as_1_6 function) G bytes old new held kept =
-    IfSome old (λ xs. BeginsViewing views.Graph G function bytes xs new)
-BeginsToDo (Rules code json) G bytes old new held kept = BeginsRules code json old new
-BeginsToDo (Grammar file) G bytes old new held kept = BeginsGrammar G old new
-
 -- The same of the bytes as the command takes them, under the table of a run with a grammar file of this text, or
 -- without one.
 pub record DoesByText (command : Command) (text : Option (List ℕ)) (bytes : List ℕ)
@@ -175,12 +137,6 @@ pub record DoesByText (command : Command) (text : Option (List ℕ)) (bytes : Li
   pub table : Table
   pub given : IsTableOf text table
   pub does : Does command table (taken_by command bytes) old new held kept answer
-
-pub record BeginsByText (command : Command) (text : Option (List ℕ)) (bytes : List ℕ)
-    (old new held kept : Option (List ℕ)) : Type 0 where
-  pub table : Table
-  pub given : IsTableOf text table
-  pub begins : BeginsToDo command table (taken_by command bytes) old new held kept
 
 -- the command makes no file
 abbrev pub MakesNothing : Command → Type 0

@@ -2,14 +2,13 @@
 use Rattle.std.specs.Prelude.{◌≡◌, ◌≤◌, ◌++◌, ℕ, List, Option, Some, IfSome, length, take}
 use Rattle.std.specs.Prelude.{codes}
 use Rattle.std.specs.Io.KnownBytes.{Appends}
-use Rattle.spv_words.specs.declared.words.WordError.{WordError}
-use Rattle.spv_words.specs.declared.words.WordError.TheVariants.{W9}
-use Rattle.spv_builtin.specs.Source.{breaks}
 use Rattle.spv_grammar.specs.declared.error.GrammarError.{GrammarError}
 use Rattle.spv_grammar.specs.declared.error.GrammarError.TheVariants as grammar
-use Rattle.spv_commands.specs.declared.program.Trouble.{Trouble}
-use Rattle.spv_commands.specs.declared.program.Trouble.TheVariants as trouble
+use Rattle.spv_commands.specs.declared.trouble.Trouble.{Trouble}
+use Rattle.spv_commands.specs.declared.trouble.Trouble.TheVariants as trouble
 use Rattle.spv_verdict.specs.Verdict.{line_end}
+use Rattle.spv_explain.specs.declared.answers.Unread.{Unread}
+use Rattle.spv_explain.specs.declared.answers.Unread.TheVariants as unread
 
 -- the line that tells out of memory
 abbrev pub memory_line : List ℕ
@@ -42,25 +41,16 @@ grammar_text grammar.J8 = memory_line
 abbrev pub trouble_text : Trouble → List ℕ
 trouble_text trouble.Use = codes "error use" ++ line_end
 trouble_text trouble.File = file_line
+trouble_text trouble.NotText = file_line
 trouble_text trouble.Memory = memory_line
 trouble_text trouble.NoEntry = entry_line
 trouble_text trouble.NoFunction = function_line
 trouble_text (trouble.Grammar e) = grammar_text e
 
--- what an error of a check of a stream is told as
-abbrev pub trouble_from : WordError → Trouble
-trouble_from W9 = trouble.Memory
-trouble_from _ = trouble.File
-
--- The error line of a run whose grammar file has this text, or which has none, for a reason: the grammar breaks a code,
--- a read or a write `failed`, an id is `strange`, a function `absent`, or memory was refused. No clause can tell when
--- memory is refused, so the last stands for itself.
-pub data IsErrorLine (text : Option (List ℕ)) (failed strange absent : Type 0) : List ℕ → Type 0 where
-  refused : (e : GrammarError) → breaks text e → IsErrorLine text failed strange absent (grammar_text e)
-  file : failed → IsErrorLine text failed strange absent file_line
-  entry : strange → IsErrorLine text failed strange absent entry_line
-  function : absent → IsErrorLine text failed strange absent function_line
-  memory : IsErrorLine text failed strange absent memory_line
+-- what a file that could not be read is told as
+abbrev pub unread_trouble : Unread → Trouble
+unread_trouble unread.File = trouble.File
+unread_trouble unread.Memory = trouble.Memory
 
 -- A writer that held the bytes `old` now also holds a beginning of the line, and nothing else.
 pub record BeginsWith (line old : List ℕ) (new : Option (List ℕ)) : Type 0 where

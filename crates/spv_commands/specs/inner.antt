@@ -1,7 +1,6 @@
 -- Definitions that serve the code alone.
 pub mod Answered
 pub mod Assembly
-pub mod Ending
 pub mod Progress
 pub mod Shown
 pub mod Traced

@@ -19,21 +19,20 @@ ghost use Rattle.spv_commands.specs.Task.{DoesTask, WritesGrammar, WritesRules, 
 ghost use Rattle.spv_commands.specs.Trace.{HasNoEntry, Traces};
 ghost use Rattle.spv_commands.specs.Trouble.{grammar_text, trouble_text};
 ghost use Rattle.spv_commands.specs.inner.Assembly.{ComesTo};
-ghost use Rattle.spv_commands.specs.declared.assembling.TextError.TheVariants.{NotText};
-ghost use Rattle.spv_commands.specs.inner.Answered.{Gives, IsAnswerBy, IsUnreadAnswer, WhyNot, unread_trouble};
-ghost use Rattle.spv_commands.specs.declared.program.Trouble.TheVariants.{File, Memory, NoEntry, NoFunction};
+ghost use Rattle.spv_commands.specs.inner.Answered.{Gives, IsAnswerBy, IsUnreadAnswer, WhyNot};
+ghost use Rattle.spv_commands.specs.declared.trouble.Trouble.TheVariants.{Memory, NoEntry, NoFunction, NotText};
 
-use crate::assembling::{Assembly, TextError, assembly_of};
-use crate::files::Unread;
-use crate::judging::{detail_by, reach_by, take_as};
+use crate::asked::{detail_by, is_as_1_6, order_by, reach_by, rules_bytes, view_by};
+use crate::assembling::{Assembly, assembly_of};
+use crate::judging::take_as;
 use crate::outgoing::Output;
-use crate::program::{Trouble, is_as_1_6, order_by, rules_bytes, view_by};
 use crate::showing::{Shown, shown_of};
 use crate::text_fault::text_fault;
-use crate::tracing::{RunError, Traced, traced_of};
+use crate::tracing::{Traced, traced_of};
+use crate::trouble::Trouble;
 use spv_builtin::{grammar_text as text_of_grammar, table_of};
 use spv_command_line::{AnyCode, Command, Task};
-use spv_explain::{Detail, Explanation, explain_bytes, octets_told};
+use spv_explain::{Detail, Explanation, Unread, explain_bytes, octets_told};
 use spv_extended::Reach;
 use spv_grammar::GrammarError;
 use spv_table::Table;
@@ -199,8 +198,7 @@ fn traced(
     match traced_of(alloc, table, reach, &image, function, choices, limit) {
         Ok(Traced::Run(run)) => Ok(Reply::Done(Output::Run(run))),
         Ok(Traced::Line(judgment)) => Ok(fault(judgment)),
-        Err(RunError::NoEntry) => Err(Trouble::NoEntry),
-        Err(_) => Err(Trouble::Memory),
+        Err(trouble) => Err(trouble),
     }
 }
 
@@ -250,9 +248,9 @@ fn assembly_in(
     table: &Table,
     explain: bool,
     bytes: Vec<u8>,
-) -> Result<Assembly, TextError>
+) -> Result<Assembly, Trouble>
     ensures comes { IfOk result (ComesTo table.now explain bytes.items) }
-    ensures no_text { IsErrOf result NotText → ¬ IsUtf8 bytes.items }
+    ensures only { IfErr result (λ t. ((t ≡ NotText) × (¬ IsUtf8 bytes.items)) ⊎ (t ≡ Memory)) }
 {
     assembly_of(alloc, table, explain, &bytes)
 }
@@ -267,14 +265,13 @@ fn assembled(
 ) -> Result<Reply, Trouble>
     ensures gives { IfOk result (λ a. Assembles table.now order explain bytes.items
         (Some []) (Some (out_of a)) (Some []) (Some (made_of a)) (is_done a)) }
-    ensures only { IfErr result (λ t. ((t ≡ File) × (¬ IsUtf8 bytes.items)) ⊎ (t ≡ Memory)) }
+    ensures only { IfErr result (λ t. ((t ≡ NotText) × (¬ IsUtf8 bytes.items)) ⊎ (t ≡ Memory)) }
 {
     match assembly_in(alloc, table, explain, bytes) {
         Ok(Assembly::Made(image)) => made(alloc, order, &image),
         Ok(Assembly::Fault(error)) => Ok(Reply::Fault(Output::Line(text_fault(error)))),
         Ok(Assembly::Told(lines)) => Ok(Reply::Fault(Output::Bytes(lines))),
-        Err(TextError::NotText) => Err(Trouble::File),
-        Err(_) => Err(Trouble::Memory),
+        Err(trouble) => Err(trouble),
     }
 }
 
@@ -350,16 +347,6 @@ fn answer_on(
     }
 }
 
-/// What a file that could not be read is told as.
-fn trouble_in(why: Unread) -> Trouble
-    ensures { result ≡ unread_trouble why }
-{
-    match why {
-        Unread::Failed => Trouble::File,
-        Unread::Memory => Trouble::Memory,
-    }
-}
-
 /// What a command answers by a table of what its file gave.
 fn answer_by(
     alloc: Global,
@@ -373,7 +360,7 @@ fn answer_by(
 {
     match file {
         Ok(bytes) => answer_on(alloc, command, table, bytes),
-        Err(why) => Err(trouble_in(why)),
+        Err(why) => Err(Trouble::from(why)),
     }
 }
 

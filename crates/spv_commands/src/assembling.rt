@@ -1,57 +1,25 @@
 //! What `asm` makes of the text of a stream.
-ghost use Rattle.std.specs.Prelude.{◌≡◌, ◌≢◌, ◌↔◌, IfOk, IfErr, IfSome, IsErrOf};
+ghost use Rattle.std.specs.Prelude.{◌≡◌, ◌⊎◌, ◌↔◌, IfOk, IfErr, IfSome, IsErrOf};
 ghost use Rattle.std.specs.Prelude.{IsUtf8, true};
 ghost use Rattle.spv_verdict.specs.Outcome.{HasFailed};
 ghost use Rattle.spv_commands.specs.Streams.{IsDone, reading, writing};
 ghost use Rattle.spv_lines.specs.Fault.{IsFailure};
 ghost use Rattle.spv_commands.specs.Assemble.{Assembles, BeginsAssembling, TellsFault};
 ghost use Rattle.spv_commands.specs.inner.Assembly.{ComesTo};
-ghost use Rattle.spv_commands.specs.declared.assembling.TextError.TheVariants as trouble;
+ghost use Rattle.spv_commands.specs.declared.trouble.Trouble.TheVariants as trouble;
 
 use crate::text_fault::text_fault;
+use crate::trouble::Trouble;
 use simdutf8::basic::from_utf8;
 use spv_command_line::ErrorCode;
 use spv_parser::{AsmCode, AsmError, assemble};
 use spv_table::Table;
 use spv_views::text_fault::reason_lines;
-use spv_words::{Failed, Image, Order, Sink, Source, write_all, write_image};
+use spv_words::{Image, Order, Sink, Source, write_all, write_image};
 use std::alloc::{AllocError, Global};
 
 /// How many bytes are read at a time.
 const BLOCK_SIZE: usize = 65_536;
-
-/// Why nothing can be said of a text.
-#[derive(Clone, Copy, Debug)]
-pub enum TextError {
-    /// A read or a write failed.
-    Failed,
-    /// The bytes are not UTF-8.
-    NotText,
-    /// A growth of memory was refused.
-    Memory,
-}
-
-impl From<Failed> for TextError {
-    ghost use Rattle.std.specs.Prelude.{◌≡◌};
-    ghost use Rattle.spv_commands.specs.declared.assembling.TextError.TheVariants as trouble;
-
-    ghost from_gives = { λ _ e. e ≡ trouble.Failed };
-
-    fn from(_error: Failed) -> TextError {
-        TextError::Failed
-    }
-}
-
-impl From<AllocError> for TextError {
-    ghost use Rattle.std.specs.Prelude.{◌≡◌};
-    ghost use Rattle.spv_commands.specs.declared.assembling.TextError.TheVariants as trouble;
-
-    ghost from_gives = { λ _ e. e ≡ trouble.Memory };
-
-    fn from(_error: AllocError) -> TextError {
-        TextError::Memory
-    }
-}
 
 /// What a text comes to.
 #[derive(Drop)]
@@ -68,12 +36,12 @@ pub enum Assembly {
 ///
 /// # Errors
 ///
-/// `Failed` where a read failed, `Memory` where a growth of memory was refused. There is no other.
+/// `File` where a read failed, `Memory` where a growth of memory was refused. There is no other.
 #[tactic(auto, using(crate::proofs::Assemblings::all_read))]
-pub fn read_all<R: Source>(alloc: Global, r: &mut R) -> Result<Vec<u8>, TextError>
+pub fn read_all<R: Source>(alloc: Global, r: &mut R) -> Result<Vec<u8>, Trouble>
     ensures known { IfSome (R.remaining r.old) (λ xs. IfOk result (λ v. v.items ≡ xs)) }
-    ensures count { HasFailed R.failures r.old r.new ↔ IsErrOf result trouble.Failed }
-    ensures only { IfErr result (λ e. e ≢ trouble.NotText) }
+    ensures count { HasFailed R.failures r.old r.new ↔ IsErrOf result trouble.File }
+    ensures only { IfErr result (λ t. (t ≡ trouble.File) ⊎ (t ≡ trouble.Memory)) }
 {
     let mut bytes = Vec::with_capacity(alloc, BLOCK_SIZE)?;
     let mut block = [0u8; BLOCK_SIZE];
@@ -85,7 +53,7 @@ pub fn read_all<R: Source>(alloc: Global, r: &mut R) -> Result<Vec<u8>, TextErro
         }
         bytes.extend_from_slice(&block[..n])?;
     }
-    Err(TextError::Memory)
+    Err(Trouble::Memory)
 }
 
 /// What the code of a text's fault says.
@@ -124,7 +92,7 @@ fn faulty(
     explain: bool,
     text: &str,
     error: AsmError,
-) -> Result<Assembly, TextError>
+) -> Result<Assembly, Trouble>
     ensures comes { IsFailure table.now text.now error.code error.line
         → IfOk result (λ a. ComesTo table.now explain text.now a) }
     ensures only { IfErr result (λ e. e ≡ trouble.Memory) }
@@ -142,19 +110,18 @@ pub fn assembly_of(
     table: &Table,
     explain: bool,
     bytes: &[u8],
-) -> Result<Assembly, TextError>
+) -> Result<Assembly, Trouble>
     ensures comes { IfOk result (λ a. ComesTo table.now explain bytes.now a) }
-    ensures no_text { IsErrOf result trouble.NotText → ¬ IsUtf8 bytes.now }
-    ensures only { IfErr result (λ e. e ≢ trouble.Failed) }
+    ensures only { IfErr result (λ t. ((t ≡ trouble.NotText) × (¬ IsUtf8 bytes.now)) ⊎ (t ≡ trouble.Memory)) }
 {
     let text = match from_utf8(bytes) {
         Ok(text) => text,
-        Err(_) => return Err(TextError::NotText),
+        Err(_) => return Err(Trouble::NotText),
     };
     match assemble(alloc, table, text) {
         Ok(image) => Ok(Assembly::Made(image)),
         Err(error) => match error.code {
-            AsmCode::S6 => Err(TextError::Memory),
+            AsmCode::S6 => Err(Trouble::Memory),
             _ => faulty(alloc, table, explain, text, error),
         },
     }
@@ -167,10 +134,11 @@ fn assembly_on<R: Source>(
     table: &Table,
     explain: bool,
     r: &mut R,
-) -> Result<Assembly, TextError>
+) -> Result<Assembly, Trouble>
     ensures comes { IfSome (R.remaining r.old) (λ bytes. IfOk result (λ a. ComesTo table.now explain bytes a)) }
-    ensures no_text { IsErrOf result trouble.NotText → IfSome (R.remaining r.old) (λ bytes. ¬ IsUtf8 bytes) }
-    ensures count { HasFailed R.failures r.old r.new ↔ IsErrOf result trouble.Failed }
+    ensures count { HasFailed R.failures r.old r.new ↔ IsErrOf result trouble.File }
+    ensures only { IfErr result (λ t. (t ≡ trouble.File)
+        ⊎ ((t ≡ trouble.NotText) × IfSome (R.remaining r.old) (λ bytes. ¬ IsUtf8 bytes)) ⊎ (t ≡ trouble.Memory)) }
 {
     let bytes = read_all(alloc, r)?;
     assembly_of(alloc, table, explain, &bytes)
@@ -182,7 +150,7 @@ fn assembly_on<R: Source>(
 ///
 /// # Errors
 ///
-/// `Failed`: a read or a write failed. After a failed read nothing was written, after a failed write a beginning of the
+/// `File`: a read or a write failed. After a failed read nothing was written, after a failed write a beginning of the
 /// bytes or of the lines. `NotText`: the bytes are not UTF-8, and `Memory`: a growth of memory was refused; nothing was
 /// written then.
 pub fn assemble_stream<R: Source, W: Sink, O: Sink>(
@@ -193,25 +161,26 @@ pub fn assemble_stream<R: Source, W: Sink, O: Sink>(
     r: &mut R,
     out: &mut W,
     made: &mut O,
-) -> Result<bool, TextError>
+) -> Result<bool, Trouble>
     // The bytes or the line of all the bytes that the reader still gave were written, and nothing else.
-    ensures ends { IsDone (Assembles table.now order explain) (BeginsAssembling table.now order explain) trouble.Failed ⊥
+    ensures ends { IsDone (Assembles table.now order explain) (BeginsAssembling table.now order explain) trouble.File
         (reading R.remaining R.failures r.old r.new) (writing W.contents W.failures out.old out.new)
         (writing O.contents O.failures made.old made.new) result }
-    ensures no_text { IsErrOf result trouble.NotText → IfSome (R.remaining r.old) (λ bytes. ¬ IsUtf8 bytes) }
+    ensures only { IfErr result (λ t. (t ≡ trouble.File)
+        ⊎ ((t ≡ trouble.NotText) × IfSome (R.remaining r.old) (λ bytes. ¬ IsUtf8 bytes)) ⊎ (t ≡ trouble.Memory)) }
 {
     match assembly_on(alloc, table, explain, r)? {
         Assembly::Made(image) => match write_image(&image, order, made) {
             Ok(()) => Ok(true),
-            Err(_) => Err(TextError::Failed),
+            Err(_) => Err(Trouble::File),
         },
         Assembly::Fault(error) => match write_all(text_fault(error).as_slice(), out) {
             Ok(()) => Ok(false),
-            Err(_) => Err(TextError::Failed),
+            Err(_) => Err(Trouble::File),
         },
         Assembly::Told(lines) => match write_all(lines.as_slice(), out) {
             Ok(()) => Ok(false),
-            Err(_) => Err(TextError::Failed),
+            Err(_) => Err(Trouble::File),
         },
     }
 }

@@ -1,17 +1,18 @@
 //! What is written of one file.
-ghost use Rattle.std.specs.Prelude.{◌≡◌, ◌⊎◌, ◌↔◌, ◌≤◌, ℕ, [], Some, None, IfErr, IfOk, IsErrOf, IsTrue};
+ghost use Rattle.std.specs.Prelude.{◌≡◌, ◌⊎◌, ◌↔◌, ◌≤◌, [], Some, None, IfErr, IfOk, IsErrOf, IsTrue};
 ghost use Rattle.spv_verdict.specs.declared.verdict_line.Judgment.TheVariants.{Valid};
-ghost use Rattle.spv_commands.specs.Task.{DoesTask, detail_of, reach_of, taken};
-ghost use Rattle.spv_commands.specs.Each.{IsAnswerOf, IsPart, Judges, error_of, heading, unread_text};
+ghost use Rattle.spv_commands.specs.Task.{DoesTask, reach_of, taken};
+ghost use Rattle.spv_commands.specs.Part.{IsAnswerOf, IsPart, IsUnread, Judges, heading, told_line, unread_line};
+ghost use Rattle.spv_commands.specs.Part.{unread_text};
 ghost use Rattle.spv_commands.specs.Name.{label};
-ghost use Rattle.spv_commands.specs.inner.Progress.{Adds, IsUnread, told_line, unread_line};
-ghost use Rattle.spv_commands.specs.declared.files.Unread.TheVariants.{Failed, Memory};
+ghost use Rattle.spv_commands.specs.inner.Progress.{Adds};
+ghost use Rattle.spv_explain.specs.declared.answers.Unread.TheVariants.{File, Memory};
 
-use crate::files::{Files, Unread};
+use crate::asked::{detail_by, reach_by};
 use crate::name::write_label;
 use crate::writing::write_on;
 use spv_command_line::Task;
-use spv_explain::{Answer, Detail, check_json, error_json, explain_json, explain_stream};
+use spv_explain::{Answer, Detail, Unread, check_json, error_json, explain_json, explain_stream};
 use spv_extended::Reach;
 use spv_table::Table;
 use spv_verdict::{Judgment, check_stream};
@@ -53,24 +54,6 @@ pub struct Part {
     pub status: u8,
 }
 
-/// How much an explanation tells, where it is to be full or not.
-pub fn detail_by(full: bool) -> Detail
-    ensures { result ≡ detail_of full }
-{
-    if full { Detail::Full } else { Detail::Short }
-}
-
-/// What is looked at, where the operands of extended instructions are to be looked at too, or are not.
-pub fn reach_by(extended: bool) -> Reach
-    ensures { result ≡ reach_of extended }
-{
-    if extended {
-        Reach::Extended
-    } else {
-        Reach::Profile
-    }
-}
-
 /// Adds what a task writes of a module's bytes: whether it is valid.
 fn add_judgment(
     alloc: Global,
@@ -82,7 +65,7 @@ fn add_judgment(
 ) -> Result<bool, Unread>
     ensures done { IfOk result (λ valid.
         DoesTask task table.now reach bytes.now text.old.inner.items (Some text.new.inner.items) valid) }
-    ensures only { ¬ (IsErrOf result Failed) }
+    ensures only { ¬ (IsErrOf result File) }
 {
     let mut bytes = FromRead::new(bytes);
     // The bytes stand in memory, so it can only be a growth of the text that fails.
@@ -110,7 +93,7 @@ pub fn take_as(as_1_6: bool, bytes: &mut Vec<u8>)
 /// A text that begins with the label of a name.
 fn labelled(alloc: Global, name: &str) -> Result<FromWrite<Vec<u8>>, Unread>
     ensures text { IfOk result (λ text. text.inner.items ≡ label name.now) }
-    ensures only { ¬ (IsErrOf result Failed) }
+    ensures only { ¬ (IsErrOf result File) }
 {
     let mut text = FromWrite::new(Vec::new(alloc));
     // The text stands in memory, so it can only be its growth that fails.
@@ -123,7 +106,7 @@ fn labelled(alloc: Global, name: &str) -> Result<FromWrite<Vec<u8>>, Unread>
 /// A text that begins with what stands before a verdict: the label of a name, or nothing.
 fn headed(alloc: Global, telling: Telling, name: &str) -> Result<FromWrite<Vec<u8>>, Unread>
     ensures text { IfOk result (λ text. text.inner.items ≡ heading telling name.now) }
-    ensures only { ¬ (IsErrOf result Failed) }
+    ensures only { ¬ (IsErrOf result File) }
 {
     match telling {
         Telling::Named => labelled(alloc, name),
@@ -142,7 +125,7 @@ fn lines_of(
     ensures done { IfOk result (λ p.
         DoesTask how.task table.now (reach_of how.extended) bytes.now (heading how.telling name.now) (Some p.0.items)
         p.1) }
-    ensures only { ¬ (IsErrOf result Failed) }
+    ensures only { ¬ (IsErrOf result File) }
 {
     let mut text = headed(alloc, how.telling, name)?;
     let reach = reach_by(how.extended);
@@ -160,7 +143,7 @@ fn answer_of(
     bytes: &[u8],
 ) -> Result<Answer, Unread>
     ensures told { IfOk result (λ a. IsAnswerOf task table.now reach name.now bytes.now a) }
-    ensures only { ¬ (IsErrOf result Failed) }
+    ensures only { ¬ (IsErrOf result File) }
 {
     let answer = match task {
         Task::Check => check_json(alloc, table, reach, Some(name), bytes),
@@ -193,7 +176,7 @@ fn judged(
 ) -> Result<(Vec<u8>, bool), Unread>
     ensures done { IfOk result (λ p.
         Judges how.telling how.task table.now (reach_of how.extended) name.now bytes.now p.0.items p.1) }
-    ensures only { ¬ (IsErrOf result Failed) }
+    ensures only { ¬ (IsErrOf result File) }
 {
     match how.telling {
         Telling::Json => {
@@ -216,7 +199,7 @@ fn judged_part(
 ) -> Result<Part, Unread>
     ensures judged { IfOk result (λ part. (part.unread ≡ None)
         × IsPart table.now how name.now (Some (Some bytes.items)) part.text.items [] part.status) }
-    ensures only { ¬ (IsErrOf result Failed) }
+    ensures only { ¬ (IsErrOf result File) }
     ensures small { IfOk result (λ part. part.status ≤ 1) }
 {
     let mut bytes = bytes;
@@ -227,16 +210,6 @@ fn judged_part(
         unread: None,
         status: if valid { 0 } else { 1 },
     })
-}
-
-/// Why a file was not read, as an object tells it.
-fn error_by(why: Unread) -> spv_explain::Unread
-    ensures { result ≡ error_of why }
-{
-    match why {
-        Unread::Failed => spv_explain::Unread::File,
-        Unread::Memory => spv_explain::Unread::Memory,
-    }
 }
 
 /// What is written of a file that was not judged: where objects are written one that tells why, if there is memory for
@@ -252,7 +225,7 @@ fn unread_part(alloc: Global, telling: Telling, name: &str, why: Unread) -> Part
         status: 2,
     };
     if telling == Telling::Json {
-        match error_json(alloc, Some(name), error_by(why)) {
+        match error_json(alloc, Some(name), why) {
             Ok(text) => part.text = text,
             Err(_) => part.unread = Some(Unread::Memory),
         }
@@ -284,30 +257,12 @@ pub fn judge_file(
     }
 }
 
-/// What is written of the file of a number and a name.
-pub fn part_of<F: Files>(
-    alloc: Global,
-    how: Judging,
-    table: &Table,
-    name: &str,
-    number: usize,
-    files: &mut F,
-) -> Part
-    ensures part { IsPart table.now how name.now (F.known files.old number) result.text.items
-        (told_line name.now result.unread) result.status }
-    ensures small { result.status ≤ 2 }
-    ensures kept { (n : ℕ) → F.known files.new n ≡ F.known files.old n }
-{
-    let file = files.read(alloc, number);
-    judge_file(alloc, how, table, name, file)
-}
-
 /// Why a file was not judged, as a line.
 fn line_of(why: Unread) -> &'static [u8]
     ensures { result.now ≡ unread_line why }
 {
     match why {
-        Unread::Failed => b"error file\n",
+        Unread::File => b"error file\n",
         Unread::Memory => b"error memory\n",
     }
 }

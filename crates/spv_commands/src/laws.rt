@@ -18,20 +18,22 @@ ghost use Rattle.spv_commands.specs.Show.{BeginsShowing, IsShowing, Shows};
 ghost use Rattle.spv_commands.specs.Assemble.{Assembles, BeginsAssembling};
 ghost use Rattle.spv_commands.specs.Trace.{BeginsTracing, HasNoEntry, Traces, step_line, trace_text};
 ghost use Rattle.spv_verdict.specs.declared.run.parts.Ending.TheVariants.{Finished, Limit};
-ghost use Rattle.spv_commands.specs.Task.{BeginsByText, BeginsGrammar, DoesByText, MakesNothing, ReadsNoFile};
+ghost use Rattle.spv_commands.specs.Task.{DoesByText, MakesNothing, ReadsNoFile};
 ghost use Rattle.spv_commands.specs.Task.{AreRules, WritesGrammar, taken};
 ghost use Rattle.spv_rules.specs.declared.errors.AnyCode.{AnyCode};
-ghost use Rattle.spv_command_line.specs.declared.command_line.Command.TheVariants.{Rules};
-ghost use Rattle.spv_commands.specs.Trouble.{BeginsWith, Gets, IsErrorLine, Writes, entry_line};
-ghost use Rattle.spv_commands.specs.Trouble.{file_line, function_line, memory_line};
-ghost use Rattle.spv_commands.specs.Run.{Runs, RunsRules};
+ghost use Rattle.spv_commands.specs.Trouble.{BeginsWith, Gets, Writes, file_line, memory_line, unread_trouble};
 ghost use Rattle.spv_commands.specs.Streams.{IsAnswered, IsDone};
-ghost use Rattle.spv_commands.specs.Each.{AreParts, Ends, IsPart, Known, heading, unread_text};
-ghost use Rattle.spv_commands.specs.declared.files.Unread.TheVariants.{Failed};
+ghost use Rattle.spv_commands.specs.Answer.{Answers, IsRefusal};
+ghost use Rattle.spv_commands.specs.Part.{IsPart, Known, heading, told_line, unread_text};
+ghost use Rattle.spv_explain.specs.declared.answers.Unread.TheVariants.{File};
+ghost use Rattle.spv_explain.specs.declared.answers.Unread.TheVariants as unread;
+ghost use Rattle.spv_commands.specs.declared.trouble.Trouble.TheVariants as trouble;
 ghost use Rattle.spv_commands.specs.declared.judging.Telling.TheVariants.{Bare, Json, Named};
 ghost use Rattle.spv_lines.specs.Digits.{hex_digit};
 ghost use Rattle.spv_commands.specs.Name.{label, shown_byte};
 ghost use Rattle.spv_command_line.specs.declared.command_line.Command.{Command};
+ghost use Rattle.spv_command_line.specs.declared.command_line.Command.TheVariants.{Show};
+ghost use Rattle.std.specs.Borrow.{Bor};
 ghost use Rattle.spv_commands.specs.declared.judging.Judging.{Judging};
 ghost use Rattle.spv_verdict.specs.Verdict.{line_end};
 
@@ -129,7 +131,7 @@ pub fn trace_examples()
     spv_words::laws::one_refusal();
 }
 
-/// Worked examples of what a run leaves in its outputs.
+/// Worked examples of what a command leaves in its outputs.
 pub fn run_examples()
     // The first five bytes of `error file`, and of another line.
     ensures begins_with { BeginsWith file_line (9 ∷ []) (Some (9 ∷ codes "error")) }
@@ -144,18 +146,6 @@ pub fn run_examples()
         (Some (9 ∷ answer_of command)) None None false }
     ensures does_nothing { (command : Command) (bytes : List ℕ) (old new held kept : Option (List ℕ))
         (answer : Bool) → ¬ (DoesByText command (Some []) bytes old new held kept answer) }
-    ensures begins { (command : Command) → ¬ (ReadsNoFile command) → MakesNothing command
-        → BeginsByText command (Some empty_grammar) (1 ∷ 2 ∷ 3 ∷ []) (Some (9 ∷ []))
-        (Some (9 ∷ codes "fault")) None None }
-    ensures begins_nothing { (command : Command) (bytes : List ℕ) (old new held kept : Option (List ℕ))
-        → ¬ (BeginsByText command (Some []) bytes old new held kept) }
-    // No text at all breaks J1, memory can always be told, `error X1` of an id that is strange, `error X2` of a
-    // function that is absent, and `error file` only after a failed call.
-    ensures refused { IsErrorLine (Some []) ⊥ ⊥ ⊥ (codes "error J1" ++ line_end) }
-    ensures memory { (text : Option (List ℕ)) → IsErrorLine text ⊥ ⊥ ⊥ memory_line }
-    ensures no_entry { (text : Option (List ℕ)) → IsErrorLine text ⊥ (Unit {0}) ⊥ entry_line }
-    ensures no_function { (text : Option (List ℕ)) → IsErrorLine text ⊥ ⊥ (Unit {0}) function_line }
-    ensures no_failure { (text : Option (List ℕ)) → ¬ (IsErrorLine text ⊥ ⊥ ⊥ file_line) }
 {
     spv_grammar::laws::table_examples();
     spv_verdict::laws::stream_examples();
@@ -167,13 +157,10 @@ pub fn run_examples()
 
 /// Worked examples of the grammar file that is written.
 pub fn grammar_examples()
-    // A writer that held the byte 9 also holds the text, or nothing of it yet; and a text is never left out.
+    // A writer that held the byte 9 also holds the text; and a text is never left out.
     ensures writes { (G : Table) (text : List ℕ) → IsGrammarText G text
         → WritesGrammar G (Some (9 ∷ [])) (Some (9 ∷ text)) }
     ensures writes_nothing { (G : Table) → ¬ (WritesGrammar G (Some (9 ∷ [])) (Some [])) }
-    ensures begins { (G : Table) (text : List ℕ) → IsGrammarText G text
-        → BeginsGrammar G (Some (9 ∷ [])) (Some (9 ∷ [])) }
-    ensures begins_nothing { (G : Table) → ¬ (BeginsGrammar G (Some (9 ∷ [])) (Some [])) }
 {}
 
 /// Worked examples of modules that are taken as of another version.
@@ -197,39 +184,6 @@ pub fn name_examples()
     ensures no_label { ¬ (label (codes "a") ≡ codes "a") }
 {}
 
-/// Worked examples of what is written of files.
-pub fn each_examples()
-    // A file that is known not to open is told on the standard error, and never judged; where objects are written it
-    // has one too.
-    ensures part { (G : Table) (how : Judging) → IsPart G how (codes "a") (Some None)
-        (unread_text how.telling (codes "a") Failed) (codes "a: error file" ++ line_end) 2 }
-    ensures no_part { (G : Table) (how : Judging) (line : List ℕ)
-        → ¬ (IsPart G how (codes "a") (Some None) line [] 0) }
-    ensures no_text { unread_text Named (codes "a") Failed ≡ [] }
-    ensures object { unread_text Json (codes "a.spv") Failed
-        ≡ codes "{\"file\":\"a.spv\",\"verdict\":\"error\",\"error\":\"file\"}" ++ line_end }
-    // Names stand before verdicts where that is asked for.
-    ensures heading { heading Named (codes "a") ≡ codes "a: " }
-    ensures no_heading { ¬ (heading Bare (codes "a") ≡ codes "a: ") }
-    // The line on a file always has its name, where memory is refused too.
-    ensures starved { (G : Table) (how : Judging) (known : Known)
-        → IsPart G how (codes "a") known [] (codes "a: error memory" ++ line_end) 2 }
-    ensures never_nameless { (G : Table) (how : Judging) (known : Known) (out : List ℕ) (status : ℕ)
-        → ¬ (IsPart G how (codes "a") known out memory_line status) }
-    // One such file ends with 2, and no files do not.
-    ensures parts { (G : Table) (how : Judging) → AreParts G how (λ n. Some None) (codes "a" ∷ [])
-        (unread_text how.telling (codes "a") Failed) (codes "a: error file" ++ line_end) 2 }
-    ensures no_parts { (G : Table) (how : Judging) (known : ℕ → Known) → ¬ (AreParts G how known [] [] [] 2) }
-    // Out of memory can always be told, and a run tells of something where it ends with 2.
-    ensures ends { (text : Option (List ℕ)) (how : Judging) (known : ℕ → Known) (names : List (List ℕ))
-        → Ends text how known names (λ o. Writes o (Some []) (Some []) 0 0)
-        (λ e. Writes e (Some []) (Some memory_line) 0 0) (Unit {0}) 2 }
-    ensures never_ends { (text : Option (List ℕ)) (how : Judging) (known : ℕ → Known) (names : List (List ℕ))
-        (status : ℕ) → ¬ (Ends text how known names (λ o. ⊥) (λ e. ⊥) (Unit {0}) status) }
-{
-    spv_explain::laws::json_examples();
-}
-
 /// Worked examples of what became of streams.
 pub fn stream_examples()
     ensures gets { Gets (λ (held : List ℕ). Some held) (λ held. 0) [] file_line file_line }
@@ -239,25 +193,63 @@ pub fn stream_examples()
         (λ bytes old new. ⊥) 1 (reader_of (7 ∷ [])) (writer_of (8 ∷ [])) (Ok true) }
     ensures not_answered { ¬ (IsAnswered {E = ℕ} (λ bytes old new answer. Unit {0}) (λ bytes old new. Unit {0}) 1
         (reader_of []) (writer_of []) (Err 1)) }
-    // 8 was written to the file that is made; the error of a failed call tells only what else it may.
+    // 8 was written to the file that is made; without a failed call there is not its error.
     ensures done { IsDone {E = ℕ} (λ bytes old new held kept answer. (new ≡ old) × (kept ≡ Some (8 ∷ [])))
-        (λ bytes old new held kept. ⊥) 1 ⊥ (reader_of []) (writer_of []) (writer_of (8 ∷ [])) (Ok true) }
-    ensures other { IsDone {E = ℕ} (λ bytes old new held kept answer. ⊥) (λ bytes old new held kept. ⊥) 1 (Unit {0})
-        (reader_of []) (writer_of []) (writer_of []) (Err 1) }
+        (λ bytes old new held kept. ⊥) 1 (reader_of []) (writer_of []) (writer_of (8 ∷ [])) (Ok true) }
     ensures not_done { ¬ (IsDone {E = ℕ} (λ bytes old new held kept answer. Unit {0})
-        (λ bytes old new held kept. Unit {0}) 1 ⊥ (reader_of []) (writer_of []) (writer_of []) (Err 1)) }
+        (λ bytes old new held kept. Unit {0}) 1 (reader_of []) (writer_of []) (writer_of []) (Err 1)) }
 {}
 
-/// Worked examples of how a run ends.
-pub fn ending_examples()
-    // Out of memory, of which only its line tells.
-    ensures runs { (command : Command) (text : Option (List ℕ))
-        → Runs command text (reader_of []) (writer_of []) (writer_of []) (λ line. line ≡ memory_line) 2 }
-    ensures never_runs { (command : Command) (text : Option (List ℕ))
-        → ¬ (Runs command text (reader_of []) (writer_of []) (writer_of []) (λ line. ⊥) 2) }
-    ensures rules { (code : Option AnyCode) → RunsRules (Rules code false) (writer_of (codes "W1")) (λ line. ⊥) 0 }
-    ensures no_rules { (command : Command) → ¬ (RunsRules command (writer_of []) (λ line. ⊥) 1) }
+/// Worked examples of what is written of one of several files.
+pub fn part_examples()
+    // A file that is known not to open is told on the standard error, and never judged; where objects are written it
+    // has one too.
+    ensures part { (G : Table) (how : Judging) → IsPart G how (codes "a") (Some None)
+        (unread_text how.telling (codes "a") File) (codes "a: error file" ++ line_end) 2 }
+    ensures no_part { (G : Table) (how : Judging) (line : List ℕ)
+        → ¬ (IsPart G how (codes "a") (Some None) line [] 0) }
+    ensures no_text { unread_text Named (codes "a") File ≡ [] }
+    ensures object { unread_text Json (codes "a.spv") File
+        ≡ codes "{\"file\":\"a.spv\",\"verdict\":\"error\",\"error\":\"file\"}" ++ line_end }
+    // Names stand before verdicts where that is asked for.
+    ensures heading { heading Named (codes "a") ≡ codes "a: " }
+    ensures no_heading { ¬ (heading Bare (codes "a") ≡ codes "a: ") }
+    // The line on a file always has its name, where memory is refused too.
+    ensures starved { (G : Table) (how : Judging) (known : Known)
+        → IsPart G how (codes "a") known [] (codes "a: error memory" ++ line_end) 2 }
+    ensures never_nameless { (G : Table) (how : Judging) (known : Known) (out : List ℕ) (status : ℕ)
+        → ¬ (IsPart G how (codes "a") known out memory_line status) }
+{
+    spv_explain::laws::json_examples();
+}
+
+/// Worked examples of what codes say.
+pub fn rule_examples()
     // As lines any text may be written; an object of a code is never left out.
     ensures lines { AreRules None false (codes "W1") }
     ensures no_object { (code : AnyCode) → ¬ (AreRules (Some code) true []) }
 {}
+
+/// Worked examples of what is answered.
+pub fn answer_examples()
+    // Three bytes are no module: `show` answers the line of the fault, and the status is 1; it is never 3.
+    ensures answers { (grammar : Option (Bor (List ℕ))) (name : Bor (List ℕ))
+        → Answers (Show grammar name false) (Some empty_grammar) (Some (1 ∷ 2 ∷ 3 ∷ []))
+        (codes "fault W2" ++ line_end) [] [] 1 }
+    ensures not_answered { (command : Command) (text file : Option (List ℕ)) (out made err : List ℕ)
+        → ¬ (Answers command text file out made err 3) }
+    // A grammar file without a text is refused by J1, and FILE is not told then.
+    ensures refusal { (command : Command) (file : Option (List ℕ))
+        → IsRefusal command (Some []) file (codes "error J1" ++ line_end) }
+    ensures no_refusal { (command : Command) (file : Option (List ℕ)) → ¬ (IsRefusal command (Some []) file file_line) }
+    // A file that could not be read is told, and what an unread one is told as.
+    ensures trouble { unread_trouble unread.File ≡ trouble.File }
+    ensures other_trouble { ¬ (unread_trouble unread.Memory ≡ trouble.File) }
+    // The line of why a file was not judged stands behind its name; nothing is told of one that was.
+    ensures told { told_line (codes "a") (Some unread.File) ≡ codes "a: error file" ++ line_end }
+    ensures not_told { ¬ (told_line (codes "a") None ≡ codes "a: error file" ++ line_end) }
+{
+    spv_grammar::laws::table_examples();
+    spv_words::laws::examples();
+    spv_words::laws::one_refusal();
+}

@@ -1,5 +1,5 @@
 //! What `trace` writes of the bytes of a stream.
-ghost use Rattle.std.specs.Prelude.{◌≡◌, ◌≢◌, ◌≤◌, ◌↔◌, ◌++◌, ℕ, List, Some};
+ghost use Rattle.std.specs.Prelude.{◌≡◌, ◌⊎◌, ◌≤◌, ◌↔◌, ◌++◌, ℕ, List, Some};
 ghost use Rattle.std.specs.Prelude.{IfOk, IfErr, IfSome, IsErrOf, OnOk, length, take};
 ghost use Rattle.std.specs.Io.KnownBytes.{Appends};
 ghost use Rattle.spv_words.specs.Header.{IsModule};
@@ -9,25 +9,15 @@ ghost use Rattle.spv_verdict.specs.Outcome.{HasFailed};
 ghost use Rattle.spv_commands.specs.Streams.{IsAnswered, reading, writing};
 ghost use Rattle.spv_commands.specs.Trace.{BeginsTracing, HasNoEntry, IsTracing, Traces};
 ghost use Rattle.spv_commands.specs.inner.Traced.{is_run, output_of, traced_refusal, traced_stop};
-ghost use Rattle.spv_commands.specs.declared.tracing.RunError.TheVariants as trouble;
+ghost use Rattle.spv_commands.specs.declared.trouble.Trouble.TheVariants as trouble;
 
 use crate::trace_lines::write_trace;
+use crate::trouble::Trouble;
 use spv_extended::Reach;
 use spv_table::Table;
 use spv_verdict::{Judgment, Trace, TraceError, Verdict, check, line_for, trace};
 use spv_words::{Image, Sink, Source, WordError, read_image, write_all};
 use std::alloc::Global;
-
-/// Why nothing is written of a stream of bytes, or not the whole.
-#[derive(Clone, Copy)]
-pub enum RunError {
-    /// A read or a write failed.
-    Failed,
-    /// The id is no entry point's function.
-    NoEntry,
-    /// A growth of memory was refused.
-    Memory,
-}
 
 /// What is written of a stream of bytes.
 #[derive(Drop)]
@@ -39,23 +29,23 @@ pub enum Traced {
 }
 
 /// What is written of bytes that gave no image: W1 and W9 are errors, and of the others the verdict line is written.
-fn refused(code: WordError) -> Result<Traced, RunError>
+fn refused(code: WordError) -> Result<Traced, Trouble>
     ensures { result ≡ traced_refusal code }
 {
     match code {
-        WordError::W1 => Err(RunError::Failed),
-        WordError::W9 => Err(RunError::Memory),
+        WordError::W1 => Err(Trouble::File),
+        WordError::W9 => Err(Trouble::Memory),
         _ => Ok(Traced::Line(Judgment::Refused(code))),
     }
 }
 
 /// What the error of a trace is told as.
-fn stopped(error: TraceError) -> RunError
+fn stopped(error: TraceError) -> Trouble
     ensures { result ≡ traced_stop error }
 {
     match error {
-        TraceError::NoEntry => RunError::NoEntry,
-        TraceError::Memory => RunError::Memory,
+        TraceError::NoEntry => Trouble::NoEntry,
+        TraceError::Memory => Trouble::Memory,
     }
 }
 
@@ -68,17 +58,17 @@ pub fn traced_of(
     function: u32,
     choices: &[u32],
     limit: u32,
-) -> Result<Traced, RunError>
+) -> Result<Traced, Trouble>
     ensures traced { (bytes : List ℕ) (order : Order) → IsModule order bytes image.now
         → IfOk result (λ t. IsTracing table.now reach function choices.now limit bytes (output_of t) (is_run t)) }
-    ensures stranger { (bytes : List ℕ) (order : Order) → IsModule order bytes image.now
-        → IsErrOf result trouble.NoEntry → HasNoEntry table.now reach bytes function }
-    ensures only { IfErr result (λ e. e ≢ trouble.Failed) }
+    ensures only { (bytes : List ℕ) (order : Order) → IsModule order bytes image.now
+        → IfErr result (λ t. ((t ≡ trouble.NoEntry) × HasNoEntry table.now reach bytes function)
+        ⊎ (t ≡ trouble.Memory)) }
 {
     let checked = match check(alloc, table, reach, image) {
         Ok(Verdict::Valid(checked)) => checked,
         Ok(Verdict::Fault(fault)) => return Ok(Traced::Line(Judgment::Broken(fault))),
-        Err(_) => return Err(RunError::Memory),
+        Err(_) => return Err(Trouble::Memory),
     };
     match trace(alloc, &checked, function, choices, limit) {
         Ok(run) => Ok(Traced::Run(run)),
@@ -95,13 +85,14 @@ fn traced_on<R: Source>(
     choices: &[u32],
     limit: u32,
     r: &mut R,
-) -> Result<Traced, RunError>
+) -> Result<Traced, Trouble>
     ensures known { IfSome (R.remaining r.old)
         (λ bytes. IfOk result (λ t.
         IsTracing table.now reach function choices.now limit bytes (output_of t) (is_run t))) }
-    ensures stranger { IsErrOf result trouble.NoEntry
-        → IfSome (R.remaining r.old) (λ bytes. HasNoEntry table.now reach bytes function) }
-    ensures count { HasFailed R.failures r.old r.new ↔ IsErrOf result trouble.Failed }
+    ensures only { IfErr result (λ t. (t ≡ trouble.File)
+        ⊎ ((t ≡ trouble.NoEntry) × IfSome (R.remaining r.old) (λ bytes. HasNoEntry table.now reach bytes function))
+        ⊎ (t ≡ trouble.Memory)) }
+    ensures count { HasFailed R.failures r.old r.new ↔ IsErrOf result trouble.File }
 {
     let image = match read_image(alloc, r) {
         Ok((image, _)) => image,
@@ -152,7 +143,7 @@ impl Traced {
 ///
 /// # Errors
 ///
-/// `Failed`: a read or a write failed. After a failed read nothing was written, after a failed write a beginning of the
+/// `File`: a read or a write failed. After a failed read nothing was written, after a failed write a beginning of the
 /// output. `NoEntry`: the bytes are a valid module, and the id is the function of no OpEntryPoint. `Memory`: a growth
 /// of memory was refused. Nothing was written with these two.
 pub fn trace_stream<R: Source, W: Sink>(
@@ -164,17 +155,18 @@ pub fn trace_stream<R: Source, W: Sink>(
     limit: u32,
     r: &mut R,
     w: &mut W,
-) -> Result<bool, RunError>
+) -> Result<bool, Trouble>
     // The writer has got what is written of all the bytes that the reader still gave.
     ensures ends { IsAnswered (Traces table.now reach function choices.now limit)
-        (BeginsTracing table.now reach function choices.now limit) trouble.Failed
+        (BeginsTracing table.now reach function choices.now limit) trouble.File
         (reading R.remaining R.failures r.old r.new) (writing W.contents W.failures w.old w.new) result }
-    ensures stranger { IsErrOf result trouble.NoEntry
-        → IfSome (R.remaining r.old) (λ bytes. HasNoEntry table.now reach bytes function) }
+    ensures only { IfErr result (λ t. (t ≡ trouble.File)
+        ⊎ ((t ≡ trouble.NoEntry) × IfSome (R.remaining r.old) (λ bytes. HasNoEntry table.now reach bytes function))
+        ⊎ (t ≡ trouble.Memory)) }
 {
     let traced = traced_on(alloc, table, reach, function, choices, limit, r)?;
     match traced.write(w) {
         Ok(()) => Ok(traced.is_run()),
-        Err(_) => Err(RunError::Failed),
+        Err(_) => Err(Trouble::File),
     }
 }

@@ -1,7 +1,8 @@
 //! A run on several files, one of which cannot be read.
 
-use spv_commands::{InMemory, Judging, Task, Telling, UseError, run_each};
+use spv_commands::{Judging, Task, Telling};
 use spv_samples::{PROFILE, SMALLEST_KERNEL, image_of};
+use spv_streams::{InMemory, run_each};
 use spv_words::FromWrite;
 use std::alloc::Global;
 use std::test::Fail;
@@ -88,20 +89,5 @@ fn extended_instructions(rt: HostRuntime) -> Result<(), Fail> {
     let run = outcome_of(rt.alloc(), how, &["a"], &files);
     assert!(rt; run.status == 1);
     assert!(rt; run.out.as_slice() == b"fault D1 inst 9 word 31\n".as_slice());
-    Ok(())
-}
-
-#[test]
-fn messages(rt: HostRuntime) -> Result<(), Fail> {
-    let told = format!(in rt.alloc();
-        "{}, {}, {}, {}",
-        UseError::NoCommand,
-        UseError::Memory,
-        UseError::Help,
-        UseError::Version
-    )?;
-    let wanted =
-        "the words fit no command, out of memory, help is asked for, the version is asked for";
-    assert!(rt; told.as_str() == wanted);
     Ok(())
 }

@@ -8,6 +8,8 @@ mod each;
 #[cfg(test)]
 mod lines;
 #[cfg(test)]
+mod messages;
+#[cfg(test)]
 mod reasons;
 #[cfg(test)]
 mod texts;

@@ -1,7 +1,7 @@
 //! A text that fails, and what is told of it.
 
 use spv_builtin::{FromGrammar, Table};
-use spv_commands::{TextError, assemble_stream};
+use spv_commands::{Trouble, assemble_stream};
 use spv_samples::{PROFILE, Told, each_refused};
 use spv_words::{FromRead, FromWrite, Order};
 use std::alloc::Global;
@@ -11,7 +11,7 @@ use std::test::Fail;
 const NO_VERSION: &str = "; SPIR-V\n; Version: 1.7\n";
 
 /// What is written of a text that fails, where it is to be said why or not.
-fn written(alloc: Global, table: &Table, explain: bool) -> Result<Vec<u8>, TextError> {
+fn written(alloc: Global, table: &Table, explain: bool) -> Result<Vec<u8>, Trouble> {
     let mut out = FromWrite::new(Vec::new(alloc));
     let mut made = FromWrite::new(Vec::new(alloc));
     let mut text = FromRead::new(NO_VERSION.as_bytes());
@@ -20,11 +20,11 @@ fn written(alloc: Global, table: &Table, explain: bool) -> Result<Vec<u8>, TextE
     Ok(out.inner)
 }
 
-/// How the call answers, where `Failed` is a growth of what is written.
+/// How the call answers, where `File` is a growth of what is written.
 fn told(alloc: Global, table: &Table) -> Told {
     match written(alloc, table, true) {
         Ok(lines) if lines.starts_with(b"fault S1 line 2\nrule: ") => Told::Right,
-        Err(TextError::Memory | TextError::Failed) => Told::NoMemory,
+        Err(Trouble::Memory | Trouble::File) => Told::NoMemory,
         _ => Told::Wrong,
     }
 }

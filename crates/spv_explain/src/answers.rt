@@ -30,6 +30,7 @@ use spv_table::{Memory, Table};
 use spv_verdict::{Judgment, Verdict, check};
 use spv_words::{Image, WordError, image_of};
 use std::alloc::{AllocError, Global};
+use thiserror::Error;
 
 /// What bytes come to, as JSON.
 #[derive(Drop)]
@@ -41,12 +42,25 @@ pub struct Answer {
 }
 
 /// Why there is no verdict on a file.
-#[derive(Clone, Copy, Debug, PartialEq, Eq)]
+#[derive(Clone, Copy, Debug, PartialEq, Eq, Error)]
 pub enum Unread {
-    /// It could not be read.
+    /// It does not open, or a read of it failed.
+    #[error("the file could not be read")]
     File,
-    /// There was no memory.
+    /// A growth of memory was refused.
+    #[error("out of memory")]
     Memory,
+}
+
+impl From<AllocError> for Unread {
+    ghost use Rattle.std.specs.Prelude.{◌≡◌};
+    ghost use Rattle.spv_explain.specs.declared.answers.Unread.TheVariants as unread;
+
+    ghost from_gives = { λ _ e. e ≡ unread.Memory };
+
+    fn from(_error: AllocError) -> Unread {
+        Unread::Memory
+    }
 }
 
 /// What a sentence has behind its first bracket.

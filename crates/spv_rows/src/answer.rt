@@ -1,6 +1,7 @@
 //! The answer to one row.
 use anyhow::bail;
-use spv_commands::{Command, Trouble, UseError, Versioned, arguments, report, run};
+use spv_commands::{Command, Trouble, UseError, Versioned, arguments, report};
+use spv_streams::run;
 use spv_words::{FromRead, FromWrite};
 use std::alloc::Global;
 use std::io::Write;

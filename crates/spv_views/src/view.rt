@@ -1,4 +1,5 @@
 //! How a module is written for people.
+use thiserror::Error;
 
 /// What is written of a module.
 #[derive(Clone, Copy)]
@@ -12,12 +13,15 @@ pub enum View<'a> {
 }
 
 /// Why nothing is written of a stream of bytes, or not the whole.
-#[derive(Clone, Copy, Debug, PartialEq, Eq)]
+#[derive(Clone, Copy, Debug, PartialEq, Eq, Error)]
 pub enum ViewError {
     /// A read or a write failed.
+    #[error("a read or a write failed")]
     Failed,
     /// The function that is asked for is none of the module.
+    #[error("the id is the result of no function")]
     NoFunction,
     /// A growth of memory was refused.
+    #[error("out of memory")]
     Memory,
 }

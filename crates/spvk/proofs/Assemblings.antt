@@ -16,7 +16,7 @@ use Rattle.spv_lines.specs.Fault.{IsAsmFailure}
 use Rattle.spvk.specs.Assemble.{ComesTo, made, failed}
 use Rattle.spvk.specs.Faults.{text_code_number}
 use Rattle.spvk.specs.declared.image.Assembled.{Assembled}
-use Rattle.spvk.specs.declared.assembling.Unread.{Unread}
+use Rattle.spv_table.specs.declared.error.Memory.{Memory}
 use Rattle.spvk.specs.inner.Faulty.{faulty_by}
 
 -- all the bytes of the image
@@ -34,7 +34,7 @@ module _ (G : Table) (o : Order) (text : List ℕ) (line : ℕ) (a : Assembled) 
   at_fault S5 k f c = failed S5 line u f c l n
   at_fault S6 k f c = absurd (k refl)
 
-abbrev got : AsmError → Result AsmError Unread → AsmError
+abbrev got : AsmError → Result AsmError Memory → AsmError
 got e (Ok f) = f
 got e (Err u) = e
 
@@ -44,7 +44,7 @@ told S2 e f h = (λ z. cc, ap (got e) h)
 told S3 e f h = (λ z. cc, ap (got e) h)
 told S4 e f h = (λ z. cc, ap (got e) h)
 told S5 e f h = (λ z. cc, ap (got e) h)
-told S6 e f h = absurd (subst (λ (r : Result AsmError Unread). IfOk r (λ _. ⊥)) h tt)
+told S6 e f h = absurd (subst (λ (r : Result AsmError Memory). IfOk r (λ _. ⊥)) h tt)
 
 -- the first fault of a text that is UTF-8
 pub first_fault : (G : Table) (o : Order) (text : List ℕ) (e f : AsmError) (a : Assembled) → IsUtf8 text → faulty_by e.code e ≡ Ok f → IsAsmFailure G text e.code e.line

@@ -1,5 +1,5 @@
 //! Assembles texts, for C.
-ghost use Rattle.std.specs.Prelude.{◌≡◌, ◌≢◌, ℕ, List, IfOk, IsErrOf, IsUtf8};
+ghost use Rattle.std.specs.Prelude.{◌≡◌, ◌≢◌, ℕ, List, IfOk};
 ghost use Rattle.spv_words.specs.declared.words.Order.TheVariants as orders;
 ghost use Rattle.spv_table.specs.Table.{Table as TableView};
 ghost use base.Fml.{Lft, Share};
@@ -7,55 +7,37 @@ ghost use types.Logic.{sem};
 ghost use Rattle.spvk.specs.Held.{shown};
 ghost use Rattle.spvk.specs.Assemble.{Assembles, AssemblesAt, ComesTo};
 ghost use Rattle.spvk.specs.inner.Faulty.{faulty_of};
-ghost use Rattle.spvk.specs.declared.assembling.Unread.TheVariants as unread;
 
 use crate::image::Assembled;
 use crate::status::{MEMORY, NO_GRAMMAR, NOT_TEXT, OK};
 use simdutf8::basic::from_utf8;
 use spv_parser::{AsmCode, AsmError, assemble};
-use spv_table::Table;
+use spv_table::{Memory, Table};
 use spv_words::Order;
 use std::alloc::Global;
 use std::{mem, ptr};
 
-/// Why nothing is said of a text.
-#[derive(Clone, Copy, Debug, PartialEq, Eq)]
-pub enum Unread {
-    /// The bytes are not UTF-8.
-    NotText,
-    /// A growth of memory was refused.
-    Memory,
-}
-
 /// What a text comes to that has no image: S6 is out of memory, and any other fault is told.
-fn faulty(error: AsmError) -> Result<AsmError, Unread>
+fn faulty(error: AsmError) -> Result<AsmError, Memory>
     ensures { result ≡ faulty_of error }
 {
     match error.code {
-        AsmCode::S6 => Err(Unread::Memory),
+        AsmCode::S6 => Err(Memory),
         _ => Ok(error),
     }
 }
 
-/// What bytes come to as a text.
-fn assembled_bytes(
+/// What a text comes to. The error is that memory ran out.
+fn assembled_text(
     alloc: Global,
     table: &Table,
     order: Order,
-    bytes: &[u8],
-) -> Result<Assembled, Unread>
-    ensures comes { IfOk result (λ a. ComesTo table.now order bytes.now a) }
-    ensures no_text { IsErrOf result unread.NotText → ¬ IsUtf8 bytes.now }
+    text: &str,
+) -> Result<Assembled, Memory>
+    ensures { IfOk result (λ a. ComesTo table.now order text.now a) }
 {
-    let text = match from_utf8(bytes) {
-        Ok(text) => text,
-        Err(_) => return Err(Unread::NotText),
-    };
     match assemble(alloc, table, text) {
-        Ok(image) => match Assembled::of(alloc, order, &image) {
-            Ok(assembled) => Ok(assembled),
-            Err(_) => Err(Unread::Memory),
-        },
+        Ok(image) => Assembled::of(alloc, order, &image),
         Err(error) => Ok(Assembled::none(faulty(error)?)),
     }
 }
@@ -70,13 +52,16 @@ pub(crate) fn assemble_by(
 ) -> u32
     ensures { Assembles table.now order text.now image.old image.new result }
 {
-    match assembled_bytes(alloc, table, order, text) {
+    let text = match from_utf8(text) {
+        Ok(text) => text,
+        Err(_) => return NOT_TEXT,
+    };
+    match assembled_text(alloc, table, order, text) {
         Ok(made) => {
             mem::replace(image, made).let_go(alloc);
             OK
         }
-        Err(Unread::NotText) => NOT_TEXT,
-        Err(Unread::Memory) => MEMORY,
+        Err(_) => MEMORY,
     }
 }
 

@@ -5,10 +5,8 @@ use Rattle.spv_command_line.specs.declared.command_line.Command.{Command}
 use Rattle.spv_commands.specs.Output.{is_done, made_of, out_of}
 use Rattle.spv_commands.specs.Task.{Does, IsNoText, LacksAsked, LacksEntry, MakesNothing}
 use Rattle.spv_commands.specs.declared.answering.Reply.{Reply}
-use Rattle.spv_commands.specs.declared.files.Unread.{Unread}
-use Rattle.spv_commands.specs.declared.files.Unread.TheVariants as unread
-use Rattle.spv_commands.specs.declared.program.Trouble.{Trouble}
-use Rattle.spv_commands.specs.declared.program.Trouble.TheVariants.{File, Memory, NoEntry, NoFunction}
+use Rattle.spv_commands.specs.declared.trouble.Trouble.{Trouble}
+use Rattle.spv_commands.specs.declared.trouble.Trouble.TheVariants.{Memory, NoEntry, NoFunction, NotText}
 
 -- a writer that held nothing gets what is written of the bytes, and no file is made
 abbrev pub Gives : (List ℕ → List ℕ → Option (List ℕ) → Bool → Type 0) → List ℕ → Reply → Type 0
@@ -26,11 +24,6 @@ IsAnswerBy command G bytes a =
 
 -- why it does nothing
 abbrev pub WhyNot : Command → Table → List ℕ → Trouble → Type 0
-WhyNot command G bytes t = ((t ≡ File) × IsNoText command (Some bytes))
+WhyNot command G bytes t = ((t ≡ NotText) × IsNoText command (Some bytes))
     ⊎ ((t ≡ NoEntry) × LacksEntry command G (Some bytes)) ⊎ ((t ≡ NoFunction) × LacksAsked command G (Some bytes))
     ⊎ (t ≡ Memory)
-
--- what a file that could not be read is told as
-abbrev pub unread_trouble : Unread → Trouble
-unread_trouble unread.Failed = File
-unread_trouble unread.Memory = Memory

@@ -1,12 +1,6 @@
--- How far a writer is, and the text of what is told of a file.
+-- How far a writer is. (For the code alone.)
 use Rattle.std.specs.Prelude.{◌≡◌, ◌⊎◌, ◌↔◌, ◌++◌, ℕ, List, [], Option, Some, None, Bool, IsTrue}
-use Rattle.spv_commands.specs.Each.{unread_text}
-use Rattle.spv_commands.specs.Name.{label}
-use Rattle.spv_commands.specs.Trouble.{Writes, file_line, memory_line}
-use Rattle.spv_commands.specs.declared.files.Unread.{Unread}
-use Rattle.spv_commands.specs.declared.judging.Judging.{Judging}
-use Rattle.spv_commands.specs.declared.judging.Part.{Part}
-use Rattle.spv_commands.specs.declared.files.Unread.TheVariants.{Failed, Memory}
+use Rattle.spv_commands.specs.Trouble.{Writes}
 
 -- A writer that held the bytes `old`, where they are known, has got the text, or after a failed write a beginning of
 -- it; whether none failed.
@@ -26,19 +20,3 @@ WritesOn sound text heard here there failed fails =
 abbrev pub Adds : {T : Type 0} → (T → Option (List ℕ)) → (T → ℕ) → T → T → Bool → List ℕ → Bool → Type 0
 Adds contents failures old new sound text heard =
     WritesOn sound text heard (contents old) (contents new) (failures old) (failures new)
-
--- the line of why a file was not judged
-abbrev pub unread_line : Unread → List ℕ
-unread_line Failed = file_line
-unread_line Memory = memory_line
-
--- the same behind the name of the file, where it was not judged
-abbrev pub told_line : List ℕ → Option Unread → List ℕ
-told_line name None = []
-told_line name (Some why) = label name ++ unread_line why
-
--- what is written of a file that was not read for this reason: maybe no object, where memory was refused for it
-abbrev pub IsUnread : Judging → List ℕ → Unread → Part → Type 0
-IsUnread how name why part = (part.status ≡ 2)
-    × (((part.unread ≡ Some why) × (part.text.items ≡ unread_text how.telling name why))
-    ⊎ ((part.unread ≡ Some Memory) × (part.text.items ≡ [])))

@@ -7,8 +7,8 @@ use Rattle.spv_verdict.specs.declared.run.parts.TraceError.TheVariants.{NoEntry,
 use Rattle.spv_verdict.specs.declared.verdict_line.Judgment.TheVariants.{Refused}
 use Rattle.spv_verdict.specs.Text.{line_of}
 use Rattle.spv_commands.specs.Trace.{trace_text}
-use Rattle.spv_commands.specs.declared.tracing.RunError.{RunError}
-use Rattle.spv_commands.specs.declared.tracing.RunError.TheVariants as trouble
+use Rattle.spv_commands.specs.declared.trouble.Trouble.{Trouble}
+use Rattle.spv_commands.specs.declared.trouble.Trouble.TheVariants as trouble
 use Rattle.spv_commands.specs.declared.tracing.Traced.{Traced}
 use Rattle.spv_commands.specs.declared.tracing.Traced.TheVariants.{Run, Line}
 
@@ -23,12 +23,12 @@ is_run (Run t) = true
 is_run (Line v) = false
 
 -- a failed read and out of memory are errors, and of all other codes the line is written
-abbrev pub traced_refusal : WordError → Result Traced RunError
-traced_refusal W1 = Err trouble.Failed
+abbrev pub traced_refusal : WordError → Result Traced Trouble
+traced_refusal W1 = Err trouble.File
 traced_refusal W9 = Err trouble.Memory
 traced_refusal code = Ok (Line (Refused code))
 
 -- what the error of a trace is told as
-abbrev pub traced_stop : TraceError → RunError
+abbrev pub traced_stop : TraceError → Trouble
 traced_stop NoEntry = trouble.NoEntry
 traced_stop Memory = trouble.Memory

@@ -2,9 +2,21 @@
 use Rattle.std.specs.Prelude.{◌≡◌, ◌≢◌, ◌≤◌, ◌⊎◌, ◌==◌, ℕ, List, Option, IfSome}
 use Rattle.spv_command_line.specs.declared.command_line.Command.{Command}
 use Rattle.spv_commands.specs.Streams.{AnyFailed, Reading, Writing}
-use Rattle.spv_commands.specs.Task.{BeginsByText, BeginsRulesOf, DoesByText, IsNoText, LacksAskedByText}
-use Rattle.spv_commands.specs.Task.{LacksEntryByText, WritesRulesOf}
-use Rattle.spv_commands.specs.Trouble.{IsErrorLine, file_line, memory_line}
+use Rattle.spv_builtin.specs.Source.{breaks}
+use Rattle.spv_grammar.specs.declared.error.GrammarError.{GrammarError}
+use Rattle.spv_commands.specs.Task.{DoesByText, IsNoText, LacksAskedByText, LacksEntryByText, WritesRulesOf}
+use Rattle.spv_commands.specs.Trouble.{entry_line, file_line, function_line, grammar_text, memory_line}
+use Rattle.spv_streams.specs.Begin.{BeginsByText, BeginsRulesOf}
+
+-- The error line of a run whose grammar file has this text, or which has none, for a reason: the grammar breaks a code,
+-- a read or a write `failed`, an id is `strange`, a function `absent`, or memory was refused. No clause can tell when
+-- memory is refused, so the last stands for itself.
+pub data IsErrorLine (text : Option (List ℕ)) (failed strange absent : Type 0) : List ℕ → Type 0 where
+  refused : (e : GrammarError) → breaks text e → IsErrorLine text failed strange absent (grammar_text e)
+  file : failed → IsErrorLine text failed strange absent file_line
+  entry : strange → IsErrorLine text failed strange absent entry_line
+  function : absent → IsErrorLine text failed strange absent function_line
+  memory : IsErrorLine text failed strange absent memory_line
 
 -- Of a command that needs a table, with a grammar file of this text or without one. `Tells` says that the standard
 -- error has got a line.

@@ -5,24 +5,29 @@ use Rattle.spv_grammar.specs.declared.error.GrammarError.{GrammarError}
 use Rattle.spv_grammar.specs.declared.error.GrammarError.TheVariants.{J1, J2, J3, J4, J5, J6, J7, J8}
 use Rattle.spv_table.specs.Table.{Table}
 use Rattle.spv_commands.specs.Streams.{AnyFailed, IsAnswered, IsDone, Reading, Writing}
-use Rattle.spv_commands.specs.Task.{BeginsToDo, Does, DoesByText, IsNoText, LacksAsked, LacksAskedByText, LacksEntry, LacksEntryByText, taken_by}
+use Rattle.spv_commands.specs.Task.{Does, DoesByText, IsNoText, LacksAsked, LacksAskedByText, LacksEntry, LacksEntryByText, taken_by}
 use Rattle.spv_command_line.specs.declared.command_line.Command.{Command}
-use Rattle.spv_command_line.specs.declared.command_line.Command.TheVariants.{Judge, Show, Asm, Trace, Rules, Grammar as GrammarOf, Annotate, Graph}
-use Rattle.spv_commands.specs.Trouble.{IsErrorLine, refused, file, entry, function, memory, grammar_text, trouble_text}
-use Rattle.spv_commands.specs.inner.Ending.{EndsByTable, EndsByText, EndsUnread, reading_by}
-use Rattle.spv_commands.specs.declared.program.Trouble.{Trouble}
-use Rattle.spv_commands.specs.declared.program.Trouble.TheVariants.{File, Grammar, Memory, NoEntry, NoFunction}
+use Rattle.spv_commands.specs.Trouble.{grammar_text, trouble_text}
+use Rattle.spv_commands.proofs.Answerings.{same_text}
+use Rattle.spv_streams.specs.Begin.{BeginsToDo}
+use Rattle.spv_streams.specs.Run.{IsErrorLine, refused, file, entry, function, memory}
+use Rattle.spv_streams.specs.inner.Ending.{EndsByTable, EndsByText, EndsUnread, reading_by}
+use Rattle.spv_commands.specs.declared.trouble.Trouble.{Trouble}
+use Rattle.spv_commands.specs.declared.trouble.Trouble.TheVariants.{File, Grammar, Memory, NoEntry, NoFunction, NotText}
 
 -- a trouble of a command has its reason
-line_of : (command : Command) (text : Option (List ℕ)) (G : Table) (known : Option (List ℕ)) (failed : Type 0) (r : Result Bool Trouble) → IsTableOf text G
-    → IfErr r (λ t. (t ≡ File) ⊎ ((t ≡ NoEntry) × LacksEntry command G (option_map (taken_by command) known))
-    ⊎ ((t ≡ NoFunction) × LacksAsked command G (option_map (taken_by command) known)) ⊎ (t ≡ Memory)) → (IsErrOf r File → failed)
-    → IfErr r (λ t. IsErrorLine text failed (LacksEntryByText command text known) (LacksAskedByText command text known) (trouble_text t))
-line_of command text G known failed (Ok v) h o w = tt
-line_of command text G known failed (Err t) h (inl e) w = rw e (file (w (ap Err e)))
-line_of command text G known failed (Err t) h (inr (inl e)) w = rw (e.0) (entry (record { table = G; given = h; lacks = e.1 }))
-line_of command text G known failed (Err t) h (inr (inr (inl e))) w = rw (e.0) (function (record { table = G; given = h; lacks = e.1 }))
-line_of command text G known failed (Err t) h (inr (inr (inr e))) w = rw e memory
+line_of : (command : Command) (text : Option (List ℕ)) (G : Table) (f : Reading) (out made : Writing) (r : Result Bool Trouble) → IsTableOf text G
+    → IfErr r (λ t. (t ≡ File) ⊎ ((t ≡ NotText) × IsNoText command (option_map (taken_by command) f.left))
+    ⊎ ((t ≡ NoEntry) × LacksEntry command G (option_map (taken_by command) f.left))
+    ⊎ ((t ≡ NoFunction) × LacksAsked command G (option_map (taken_by command) f.left)) ⊎ (t ≡ Memory))
+    → (IsErrOf r File → AnyFailed f out made)
+    → IfErr r (λ t. IsErrorLine text (AnyFailed f out made ⊎ IsNoText command f.left) (LacksEntryByText command text f.left) (LacksAskedByText command text f.left) (trouble_text t))
+line_of command text G f out made (Ok v) h o w = tt
+line_of command text G f out made (Err t) h (inl e) w = rw e (file (inl (w (ap Err e))))
+line_of command text G f out made (Err t) h (inr (inl e)) w = rw (e.0) (file (inr (same_text command f.left e.1)))
+line_of command text G f out made (Err t) h (inr (inr (inl e))) w = rw (e.0) (entry (record { table = G; given = h; lacks = e.1 }))
+line_of command text G f out made (Err t) h (inr (inr (inr (inl e)))) w = rw (e.0) (function (record { table = G; given = h; lacks = e.1 }))
+line_of command text G f out made (Err t) h (inr (inr (inr (inr e)))) w = rw e memory
 
 some_by : {X : Type 0} (o : Option X) (P Q : X → Type 0) → ((x : X) → P x → Q x) → IfSome o P → IfSome o Q
 some_by None P Q f h = tt
@@ -37,23 +42,6 @@ of_taken : (take : List ℕ → List ℕ) (known : Option (List ℕ)) (P : List 
 of_taken take None P h = tt
 of_taken take (Some bytes) P h = h
 
--- a text is no module, and is taken as it is
-pub same_text : (command : Command) (known : Option (List ℕ)) → IsNoText command (option_map (taken_by command) known) → IsNoText command known
-same_text (Judge task g fs v e p q j) known h = absurd h
-same_text (Show g f v) known h = absurd h
-same_text (Asm g f o b x) None h = tt
-same_text (Asm g f o b x) (Some bytes) h = h
-same_text (Trace g f id choices limit v e) known h = absurd h
-same_text (Annotate g f v id form color) known h = absurd h
-same_text (Graph g f v id) known h = absurd h
-same_text (Rules code j) known h = absurd h
-same_text (GrammarOf f) known h = absurd h
-
-why_of : (command : Command) (f : Reading) (out made : Writing) → AnyFailed (reading_by command f) out made ⊎ IsNoText command (option_map (taken_by command) f.left)
-    → AnyFailed f out made ⊎ IsNoText command f.left
-why_of command f out made (inl a) = inl a
-why_of command f out made (inr n) = inr (same_text command f.left n)
-
 -- how a command ends by the table of its run, of the bytes as it takes them
 pub by_text : (command : Command) (text : Option (List ℕ)) (G : Table) (f : Reading) (out made : Writing) (r : Result Bool Trouble) → IsTableOf text G
     → EndsByTable command G (reading_by command f) out made r → EndsByText command text f out made r
@@ -64,14 +52,13 @@ by_text command text G f out made r given e = record {
         (λ bytes. ok_by r _ _ (λ answer d. record { table = G; given = given; does = d }))
         (of_taken (taken_by command) f.left (λ bytes. IfOk r (Does command G bytes out.held out.holds made.held made.holds)) e.ends.whole);
     failed = e.ends.failed;
-    why = λ q. why_of command f out made (e.ends.why q);
     unwritten = e.ends.unwritten;
     unmade = e.ends.unmade;
     begun = λ w. some_by f.left (λ bytes. BeginsToDo command G (taken_by command bytes) out.held out.holds made.held made.holds) _
         (λ bytes b. record { table = G; given = given; begins = b })
         (of_taken (taken_by command) f.left (λ bytes. BeginsToDo command G bytes out.held out.holds made.held made.holds) (e.ends.begun w));
   };
-  reason = line_of command text G f.left _ r given e.only (λ q. why_of command f out made (e.ends.why q));
+  reason = line_of command text G f out made r given e.only (λ q. e.ends.failed.1 q);
 }
 
 -- the same, asked in another order
@@ -83,13 +70,15 @@ swapped (Some x) None (Err e) P h = tt
 swapped (Some x) (Some y) r P h = h
 
 -- what a command writes that makes no file
-pub alone : (Whole : List ℕ → List ℕ → Option (List ℕ) → Bool → Type 0) (Begun : List ℕ → List ℕ → Option (List ℕ) → Type 0) (Other : Type 0) (f : Reading) (out made : Writing)
+pub alone : (Whole : List ℕ → List ℕ → Option (List ℕ) → Bool → Type 0) (Begun : List ℕ → List ℕ → Option (List ℕ) → Type 0) (f : Reading) (out made : Writing)
     (r : Result Bool Trouble) → ¬ made.failed → made.untouched → IsAnswered Whole Begun File f out r
-    → IsDone (λ bytes old new held kept answer. IfSome old (λ xs. Whole bytes xs new answer)) (λ bytes old new held kept. IfSome old (λ xs. Begun bytes xs new)) File Other f out made r
-alone Whole Begun Other f out made r whole untouched a = record {
+    → IsDone (λ bytes old new held kept answer. IfSome old (λ xs. Whole bytes xs new answer)) (λ bytes old new held kept. IfSome old (λ xs. Begun bytes xs new)) File f out made r
+alone Whole Begun f out made r whole untouched a = record {
   whole = swapped f.left out.held r (λ bytes old answer. Whole bytes old out.holds answer) a.whole;
-  failed = λ t. elim t [ inl x ↦ a.count.0 (inl x) | inr y ↦ elim y [ inl x ↦ a.count.0 (inr x) | inr x ↦ absurd (whole x) ] ];
-  why = λ e. inl (elim (a.count.1 e) [ inl x ↦ inl x | inr x ↦ inr (inl x) ]);
+  failed = (
+    λ t. elim t [ inl x ↦ a.count.0 (inl x) | inr y ↦ elim y [ inl x ↦ a.count.0 (inr x) | inr x ↦ absurd (whole x) ] ],
+    λ e. elim (a.count.1 e) [ inl x ↦ inl x | inr x ↦ inr (inl x) ],
+  );
   unwritten = a.unwritten;
   unmade = λ e. untouched;
   begun = λ t. elim t [ inl x ↦ a.begun x | inr x ↦ absurd (whole x) ];
@@ -101,39 +90,45 @@ any_bytes None P h = tt
 any_bytes (Some x) P h = h
 
 -- what a command writes that reads no file
-pub unread : (Whole Begun : Option (List ℕ) → Option (List ℕ) → Type 0) (Other : Type 0) (f : Reading) (out made : Writing) (r : Result Bool Trouble)
+pub unread : (Whole Begun : Option (List ℕ) → Option (List ℕ) → Type 0) (f : Reading) (out made : Writing) (r : Result Bool Trouble)
     → ¬ f.failed → ¬ made.failed → made.untouched → EndsUnread Whole Begun out r
-    → IsDone (λ bytes old new held kept answer. Whole old new × (answer ≡ true)) (λ bytes old new held kept. Begun old new) File Other f out made r
-unread Whole Begun Other f out made r read whole untouched e = record {
+    → IsDone (λ bytes old new held kept answer. Whole old new × (answer ≡ true)) (λ bytes old new held kept. Begun old new) File f out made r
+unread Whole Begun f out made r read whole untouched e = record {
   whole = any_bytes f.left _ e.whole;
-  failed = λ t. elim t [ inl x ↦ absurd (read x) | inr y ↦ elim y [ inl x ↦ e.count.0 x | inr x ↦ absurd (whole x) ] ];
-  why = λ q. inl (inr (inl (e.count.1 q)));
+  failed = (λ t. elim t [ inl x ↦ absurd (read x) | inr y ↦ elim y [ inl x ↦ e.count.0 x | inr x ↦ absurd (whole x) ] ], λ q. inr (inl (e.count.1 q)));
   unwritten = e.unwritten;
   unmade = λ q. untouched;
   begun = λ t. elim t [ inl x ↦ any_bytes f.left _ (e.begun x) | inr x ↦ absurd (whole x) ];
 }
 
 -- of two troubles there is no third
-pub of_two : (L M : Type 0) (r : Result Bool Trouble) → IfErr r (λ t. (t ≡ File) ⊎ (t ≡ Memory))
-    → IfErr r (λ t. (t ≡ File) ⊎ ((t ≡ NoEntry) × L) ⊎ ((t ≡ NoFunction) × M) ⊎ (t ≡ Memory))
-of_two L M (Ok v) o = tt
-of_two L M (Err t) (inl e) = inl e
-of_two L M (Err t) (inr e) = inr (inr (inr e))
+pub of_two : (N L M : Type 0) (r : Result Bool Trouble) → IfErr r (λ t. (t ≡ File) ⊎ (t ≡ Memory))
+    → IfErr r (λ t. (t ≡ File) ⊎ ((t ≡ NotText) × N) ⊎ ((t ≡ NoEntry) × L) ⊎ ((t ≡ NoFunction) × M) ⊎ (t ≡ Memory))
+of_two N L M (Ok v) o = tt
+of_two N L M (Err t) (inl e) = inl e
+of_two N L M (Err t) (inr e) = inr (inr (inr (inr e)))
 
 -- of three there is no fourth
-pub of_entries : (L M : Type 0) (r : Result Bool Trouble) → IfErr r (λ t. (t ≡ File) ⊎ ((t ≡ NoEntry) × L) ⊎ (t ≡ Memory))
-    → IfErr r (λ t. (t ≡ File) ⊎ ((t ≡ NoEntry) × L) ⊎ ((t ≡ NoFunction) × M) ⊎ (t ≡ Memory))
-of_entries L M (Ok v) o = tt
-of_entries L M (Err t) (inl e) = inl e
-of_entries L M (Err t) (inr (inl e)) = inr (inl e)
-of_entries L M (Err t) (inr (inr e)) = inr (inr (inr e))
+pub of_texts : (N L M : Type 0) (r : Result Bool Trouble) → IfErr r (λ t. (t ≡ File) ⊎ ((t ≡ NotText) × N) ⊎ (t ≡ Memory))
+    → IfErr r (λ t. (t ≡ File) ⊎ ((t ≡ NotText) × N) ⊎ ((t ≡ NoEntry) × L) ⊎ ((t ≡ NoFunction) × M) ⊎ (t ≡ Memory))
+of_texts N L M (Ok v) o = tt
+of_texts N L M (Err t) (inl e) = inl e
+of_texts N L M (Err t) (inr (inl e)) = inr (inl e)
+of_texts N L M (Err t) (inr (inr e)) = inr (inr (inr (inr e)))
 
-pub of_functions : (L M : Type 0) (r : Result Bool Trouble) → IfErr r (λ t. (t ≡ File) ⊎ ((t ≡ NoFunction) × M) ⊎ (t ≡ Memory))
-    → IfErr r (λ t. (t ≡ File) ⊎ ((t ≡ NoEntry) × L) ⊎ ((t ≡ NoFunction) × M) ⊎ (t ≡ Memory))
-of_functions L M (Ok v) o = tt
-of_functions L M (Err t) (inl e) = inl e
-of_functions L M (Err t) (inr (inl e)) = inr (inr (inl e))
-of_functions L M (Err t) (inr (inr e)) = inr (inr (inr e))
+pub of_entries : (N L M : Type 0) (r : Result Bool Trouble) → IfErr r (λ t. (t ≡ File) ⊎ ((t ≡ NoEntry) × L) ⊎ (t ≡ Memory))
+    → IfErr r (λ t. (t ≡ File) ⊎ ((t ≡ NotText) × N) ⊎ ((t ≡ NoEntry) × L) ⊎ ((t ≡ NoFunction) × M) ⊎ (t ≡ Memory))
+of_entries N L M (Ok v) o = tt
+of_entries N L M (Err t) (inl e) = inl e
+of_entries N L M (Err t) (inr (inl e)) = inr (inr (inl e))
+of_entries N L M (Err t) (inr (inr e)) = inr (inr (inr (inr e)))
+
+pub of_functions : (N L M : Type 0) (r : Result Bool Trouble) → IfErr r (λ t. (t ≡ File) ⊎ ((t ≡ NoFunction) × M) ⊎ (t ≡ Memory))
+    → IfErr r (λ t. (t ≡ File) ⊎ ((t ≡ NotText) × N) ⊎ ((t ≡ NoEntry) × L) ⊎ ((t ≡ NoFunction) × M) ⊎ (t ≡ Memory))
+of_functions N L M (Ok v) o = tt
+of_functions N L M (Err t) (inl e) = inl e
+of_functions N L M (Err t) (inr (inl e)) = inr (inr (inr (inl e)))
+of_functions N L M (Err t) (inr (inr e)) = inr (inr (inr (inr e)))
 
 -- so have those of the grammar file
 pub grammar_reason : (text : Option (List ℕ)) (failed strange absent : Type 0) (e : GrammarError) → (e ≢ J8 → breaks text e) → IsErrorLine text failed strange absent (grammar_text e)
@@ -152,8 +147,7 @@ pub grammar_ends : (command : Command) (text : Option (List ℕ)) (f : Reading) 
 grammar_ends command text f out made e h x y z o m = record {
   ends = record {
     whole = any_known f.left;
-    failed = λ t. elim t [ inl a ↦ absurd (x a) | inr b ↦ elim b [ inl a ↦ absurd (y a) | inr c ↦ absurd (z c) ] ];
-    why = λ q. cc;
+    failed = (λ t. elim t [ inl a ↦ absurd (x a) | inr b ↦ elim b [ inl a ↦ absurd (y a) | inr c ↦ absurd (z c) ] ], λ q. cc);
     unwritten = λ q. o;
     unmade = λ q. m;
     begun = λ t. elim t [ inl a ↦ absurd (y a) | inr c ↦ absurd (z c) ];

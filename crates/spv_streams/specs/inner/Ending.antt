@@ -4,17 +4,21 @@ use Rattle.std.specs.Prelude.{option_map}
 use Rattle.spv_table.specs.Table.{Table}
 use Rattle.spv_command_line.specs.declared.command_line.Command.{Command}
 use Rattle.spv_commands.specs.Streams.{AnyFailed, IsDone, Reading, Writing}
-use Rattle.spv_commands.specs.Task.{BeginsByText, BeginsToDo, Does, DoesByText, IsNoText, LacksEntry}
+use Rattle.spv_commands.specs.Task.{Does, DoesByText, IsNoText, LacksEntry}
 use Rattle.spv_commands.specs.Task.{LacksAsked, LacksAskedByText, LacksEntryByText, taken_by}
-use Rattle.spv_commands.specs.Trouble.{IsErrorLine, trouble_text}
-use Rattle.spv_commands.specs.declared.program.Trouble.{Trouble}
-use Rattle.spv_commands.specs.declared.program.Trouble.TheVariants.{File, Memory, NoEntry, NoFunction}
+use Rattle.spv_commands.specs.Trouble.{trouble_text}
+use Rattle.spv_streams.specs.Begin.{BeginsByText, BeginsToDo}
+use Rattle.spv_streams.specs.Run.{IsErrorLine}
+use Rattle.spv_words.specs.declared.words.WordError.{WordError}
+use Rattle.spv_words.specs.declared.words.WordError.TheVariants.{W9}
+use Rattle.spv_commands.specs.declared.trouble.Trouble.{Trouble}
+use Rattle.spv_commands.specs.declared.trouble.Trouble.TheVariants.{File, Memory, NoEntry, NoFunction, NotText}
 
 -- By a table.
 pub record EndsByTable (command : Command) (G : Table) (file : Reading) (out made : Writing)
     (result : Result Bool Trouble) : Type 0 where
-  pub ends : IsDone (Does command G) (BeginsToDo command G) File (IsNoText command file.left) file out made result
-  pub only : IfErr result (λ t. (t ≡ File) ⊎ ((t ≡ NoEntry) × LacksEntry command G file.left)
+  pub ends : IsDone (Does command G) (BeginsToDo command G) File file out made result
+  pub only : IfErr result (λ t. (t ≡ File) ⊎ ((t ≡ NotText) × IsNoText command file.left) ⊎ ((t ≡ NoEntry) × LacksEntry command G file.left)
       ⊎ ((t ≡ NoFunction) × LacksAsked command G file.left) ⊎ (t ≡ Memory))
 
 -- the file as the command takes its bytes
@@ -24,8 +28,7 @@ reading_by command file = record { left = option_map (taken_by command) file.lef
 -- By the text of a grammar file, or without one.
 pub record EndsByText (command : Command) (text : Option (List ℕ)) (file : Reading) (out made : Writing)
     (result : Result Bool Trouble) : Type 0 where
-  pub ends : IsDone (DoesByText command text) (BeginsByText command text) File (IsNoText command file.left) file out
-      made result
+  pub ends : IsDone (DoesByText command text) (BeginsByText command text) File file out made result
   pub reason : IfErr result (λ t. IsErrorLine text (AnyFailed file out made ⊎ IsNoText command file.left)
       (LacksEntryByText command text file.left) (LacksAskedByText command text file.left) (trouble_text t))
 
@@ -38,3 +41,8 @@ pub record EndsUnread (Whole Begun : Option (List ℕ) → Option (List ℕ) →
   pub only : IfErr result (λ t. (t ≡ File) ⊎ (t ≡ Memory))
   pub unwritten : IsErr result → out.untouched
   pub begun : out.failed → Begun out.held out.holds
+
+-- what an error of a check of a stream is told as
+abbrev pub trouble_from : WordError → Trouble
+trouble_from W9 = Memory
+trouble_from _ = File

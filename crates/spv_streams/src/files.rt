@@ -1,29 +1,10 @@
 //! Files that are read whole, one after the other.
 ghost use Rattle.std.specs.Prelude.{◌≡◌, ℕ, Some, None, IfOk, IfSome, IsErrOf, option_map, slice_get};
-ghost use Rattle.spv_commands.specs.Each.{Known};
-ghost use Rattle.spv_commands.specs.declared.files.Unread.TheVariants.{Failed};
+ghost use Rattle.spv_commands.specs.Part.{Known};
+ghost use Rattle.spv_explain.specs.declared.answers.Unread.TheVariants.{File};
 
-use std::alloc::{AllocError, Global};
-
-/// Why a file was not read.
-#[derive(Clone, Copy)]
-pub enum Unread {
-    /// It does not open, or a read of it failed.
-    Failed,
-    /// A growth of memory was refused.
-    Memory,
-}
-
-impl From<AllocError> for Unread {
-    ghost use Rattle.std.specs.Prelude.{◌≡◌};
-    ghost use Rattle.spv_commands.specs.declared.files.Unread.TheVariants.{Memory};
-
-    ghost from_gives = { λ _ e. e ≡ Memory };
-
-    fn from(_error: AllocError) -> Unread {
-        Unread::Memory
-    }
-}
+use spv_explain::Unread;
+use std::alloc::Global;
 
 /// Files that are known by their numbers, from 0.
 pub trait Files {
@@ -35,10 +16,10 @@ pub trait Files {
     ///
     /// # Errors
     ///
-    /// `Failed` where it does not open or a read of it failed, `Memory` where a growth of memory was refused.
+    /// `File` where it does not open or a read of it failed, `Memory` where a growth of memory was refused.
     fn read(&mut self, alloc: Global, number: usize) -> Result<Vec<u8>, Unread>
         ensures given { IfOk result (λ v. IfSome (known self.old number) (λ file. file ≡ Some v.items)) }
-        ensures unread { IsErrOf result Failed → IfSome (known self.old number) (λ file. file ≡ None) }
+        ensures unread { IsErrOf result File → IfSome (known self.old number) (λ file. file ≡ None) }
         ensures kept { (n : ℕ) → known self.new n ≡ known self.old n };
 }
 
@@ -55,7 +36,7 @@ impl<'a> Files for InMemory<'a> {
     fn read(&mut self, alloc: Global, number: usize) -> Result<Vec<u8>, Unread> {
         match self.files.get(number) {
             Some(Some(bytes)) => Ok(Vec::from_slice(alloc, bytes)?),
-            _ => Err(Unread::Failed),
+            _ => Err(Unread::File),
         }
     }
 }

@@ -1,94 +1,32 @@
-//! What the program does once its words are read and its files are open.
-ghost use Rattle.std.specs.Prelude.{◌≡◌, ◌≤◌, ◌⊎◌, IfErr, IfOk, IfSome, IsErrOf, IsUtf8, false, option_map};
+//! The run of a command over readers and writers.
+ghost use Rattle.std.specs.Prelude.{◌≡◌, ◌≤◌, ◌⊎◌, IfErr, IfSome, IsErrOf, false, option_map};
 ghost use Rattle.spv_builtin.specs.Source.{breaks};
 ghost use Rattle.spv_grammar.specs.declared.error.GrammarError.{GrammarError};
 ghost use Rattle.spv_grammar.specs.declared.error.GrammarError.TheVariants.{J8};
-ghost use Rattle.spv_commands.specs.Assemble.{Assembles, BeginsAssembling, order_of};
-ghost use Rattle.spv_commands.specs.Run.{Runs, RunsRules};
 ghost use Rattle.spv_commands.specs.Show.{BeginsShowing, Shows};
-ghost use Rattle.spv_commands.specs.Streams.{IsAnswered, IsDone, reading, writing};
-ghost use Rattle.spv_commands.specs.Task.{AreRules, BeginsGrammar, BeginsRules, BeginsRulesOf, BeginsTask, DoesTask};
-ghost use Rattle.spv_commands.specs.Task.{MakesNothing, ReadsGrammar, ReadsNoFile, WritesGrammar, WritesRules};
-ghost use Rattle.spv_commands.specs.Task.{WritesRulesOf, is_colored, taken, takes_as_1_6};
-ghost use Rattle.spv_commands.specs.Task.{view_of};
+ghost use Rattle.spv_commands.specs.Streams.{IsAnswered, reading, writing};
+ghost use Rattle.spv_commands.specs.Task.{DoesTask, MakesNothing, ReadsGrammar, ReadsNoFile, WritesGrammar};
+ghost use Rattle.spv_commands.specs.Task.{WritesRules, WritesRulesOf, taken};
+ghost use Rattle.spv_commands.specs.Trouble.{Gets, grammar_text, memory_line};
+ghost use Rattle.spv_commands.specs.declared.trouble.Trouble.TheVariants.{File, Grammar, Memory, NoFunction};
 ghost use Rattle.spv_views.specs.View.{BeginsViewing, LacksFunction, Views};
-ghost use Rattle.spv_commands.specs.Trace.{BeginsTracing, HasNoEntry, Traces};
-ghost use Rattle.spv_commands.specs.Trouble.{Gets, grammar_text, memory_line, trouble_from, trouble_text};
-ghost use Rattle.spv_commands.specs.inner.Ending.{EndsByTable, EndsByText, EndsUnread, reading_by};
-ghost use Rattle.spv_commands.specs.declared.program.Trouble.TheVariants.{File, Grammar, Memory, NoEntry};
-ghost use Rattle.spv_commands.specs.declared.program.Trouble.TheVariants.{NoFunction};
+ghost use Rattle.spv_streams.specs.Begin.{BeginsGrammar, BeginsRules, BeginsRulesOf, BeginsTask};
+ghost use Rattle.spv_streams.specs.Run.{Runs, RunsRules};
+ghost use Rattle.spv_streams.specs.inner.Ending.{EndsByTable, EndsByText, EndsUnread, reading_by, trouble_from};
 
-use crate::assembling::{TextError, assemble_stream};
-use crate::judging::{detail_by, reach_by};
-use crate::showing::show_stream;
-use crate::tracing::{RunError, trace_stream};
 use spv_builtin::laws::one_table;
 use spv_builtin::{grammar_text as text_of_grammar, table_of};
-use spv_command_line::{AnyCode, Color, Command, Form, Task};
-use spv_explain::{explain_stream, rules_json, rules_text};
+use spv_command_line::{AnyCode, Command, Task};
+use spv_commands::asked::{detail_by, is_as_1_6, order_by, reach_by, rules_bytes, view_by};
+use spv_commands::{Trouble, assemble_stream, report, show_stream, trace_stream};
+use spv_explain::explain_stream;
 use spv_extended::Reach;
-use spv_grammar::GrammarError;
 use spv_table::Table;
 use spv_verdict::check_stream;
 use spv_views::{View, ViewError, view_stream};
-use spv_words::{Order, Sink, Source, VersionSource, WordError, write_all};
-use std::alloc::{AllocError, Global};
+use spv_words::{Sink, Source, VersionSource, WordError, write_all};
+use std::alloc::Global;
 use std::mem::forget;
-
-/// Why the program ends with the exit status 2 (own). `report` writes its line.
-#[derive(Clone, Copy)]
-pub enum Trouble {
-    /// The words of the command line fit no command: `error use`.
-    Use,
-    /// A file does not open, a read or a write failed, or a text is not UTF-8: `error file`.
-    File,
-    /// A growth of memory was refused: `error memory`.
-    Memory,
-    /// The id whose run is asked for is no entry point's function: `error X1`.
-    NoEntry,
-    /// The id of the function that is asked for is none of the module: `error X2`.
-    NoFunction,
-    /// The grammar file is refused: `error J1` to `error J7`, and `error memory` for J8.
-    Grammar(GrammarError),
-}
-
-/// The line that tells a trouble.
-fn trouble_line(trouble: Trouble) -> &'static [u8]
-    ensures { result.now ≡ trouble_text trouble }
-{
-    match trouble {
-        Trouble::Use => b"error use\n",
-        Trouble::File => b"error file\n",
-        Trouble::Memory => b"error memory\n",
-        Trouble::NoEntry => b"error X1\n",
-        Trouble::NoFunction => b"error X2\n",
-        Trouble::Grammar(error) => grammar_line(error),
-    }
-}
-
-/// The line that tells a refused grammar file. J8 is out of memory.
-fn grammar_line(error: GrammarError) -> &'static [u8]
-    ensures { result.now ≡ grammar_text error }
-{
-    match error {
-        GrammarError::J1 => b"error J1\n",
-        GrammarError::J2 => b"error J2\n",
-        GrammarError::J3 => b"error J3\n",
-        GrammarError::J4 => b"error J4\n",
-        GrammarError::J5 => b"error J5\n",
-        GrammarError::J6 => b"error J6\n",
-        GrammarError::J7 => b"error J7\n",
-        GrammarError::J8 => b"error memory\n",
-    }
-}
-
-/// Writes the line of a trouble, its line feed included. Where that fails too, there is nowhere left to tell it, and a
-/// beginning was written.
-pub fn report<E: Sink>(trouble: Trouble, err: &mut E)
-    ensures { Gets E.contents E.failures err.old err.new (trouble_text trouble) }
-{
-    let _ = write_all(trouble_line(trouble), err);
-}
 
 /// What an error of a check is told as: out of memory, or else a failed read or write.
 fn stream_trouble(code: WordError) -> Trouble
@@ -135,84 +73,6 @@ fn shown<S: Source, W: Sink>(
     show_stream(alloc, table, file, out).map_err(stream_trouble)
 }
 
-/// The order in which the bytes of words are written.
-pub fn order_by(big: bool) -> Order
-    ensures { result ≡ order_of big }
-{
-    if big { Order::Big } else { Order::Little }
-}
-
-/// Makes the module of a text by a table: whether the text is that of one.
-fn assembled<S: Source, W: Sink, O: Sink>(
-    alloc: Global,
-    table: &Table,
-    big: bool,
-    explain: bool,
-    file: &mut S,
-    out: &mut W,
-    made: &mut O,
-) -> Result<bool, Trouble>
-    ensures ends { IsDone (Assembles table.now (order_of big) explain) (BeginsAssembling table.now (order_of big) explain) File
-        (IfSome (S.remaining file.old) (λ bytes. ¬ IsUtf8 bytes)) (reading S.remaining S.failures file.old file.new)
-        (writing W.contents W.failures out.old out.new) (writing O.contents O.failures made.old made.new) result }
-    ensures only { IfErr result (λ t. (t ≡ File) ⊎ (t ≡ Memory)) }
-{
-    match assemble_stream(alloc, table, order_by(big), explain, file, out, made) {
-        Ok(answer) => Ok(answer),
-        Err(TextError::Failed) => Err(Trouble::File),
-        Err(TextError::NotText) => Err(Trouble::File),
-        Err(TextError::Memory) => Err(Trouble::Memory),
-    }
-}
-
-/// Writes the run of a function of the module by a table: whether the module is valid.
-fn traced<S: Source, W: Sink>(
-    alloc: Global,
-    table: &Table,
-    reach: Reach,
-    function: u32,
-    choices: &[u32],
-    limit: u32,
-    file: &mut S,
-    out: &mut W,
-) -> Result<bool, Trouble>
-    ensures ends { IsAnswered (Traces table.now reach function choices.now limit)
-        (BeginsTracing table.now reach function choices.now limit) File
-        (reading S.remaining S.failures file.old file.new) (writing W.contents W.failures out.old out.new) result }
-    ensures only { IfErr result (λ t. (t ≡ File)
-        ⊎ ((t ≡ NoEntry) × IfSome (S.remaining file.old) (λ bytes. HasNoEntry table.now reach bytes function))
-        ⊎ (t ≡ Memory)) }
-{
-    match trace_stream(alloc, table, reach, function, choices, limit, file, out) {
-        Ok(answer) => Ok(answer),
-        Err(RunError::Failed) => Err(Trouble::File),
-        Err(RunError::NoEntry) => Err(Trouble::NoEntry),
-        Err(RunError::Memory) => Err(Trouble::Memory),
-    }
-}
-
-/// Whether a text has colour. Where a terminal asks for it, that was settled before.
-fn is_in_color(color: Color) -> bool
-    ensures { result ≡ is_colored color }
-{
-    match color {
-        Color::Always => true,
-        Color::Auto | Color::Never => false,
-    }
-}
-
-/// What `annotate` writes of the file of a name.
-pub fn view_by(form: Form, color: Color, file: &str) -> View<'_>
-    ensures { result ≡ view_of form color file.entry }
-{
-    match form {
-        Form::Text => View::Text {
-            color: is_in_color(color),
-        },
-        Form::Page => View::Page { title: file },
-    }
-}
-
 /// Writes what people look at of the module by a table: whether it is that, and not a verdict line.
 fn viewed<S: Source, W: Sink>(
     alloc: Global,
@@ -234,16 +94,6 @@ fn viewed<S: Source, W: Sink>(
         Err(ViewError::NoFunction) => Err(Trouble::NoFunction),
         Err(ViewError::Memory) => Err(Trouble::Memory),
     }
-}
-
-/// What codes say, or one of them, as lines or as objects of JSON.
-pub fn rules_bytes(alloc: Global, code: Option<AnyCode>, json: bool) -> Result<Vec<u8>, AllocError>
-    ensures { IfOk result (λ v. AreRules code json v.items) }
-{
-    if json {
-        return rules_json(alloc, code);
-    }
-    Ok(rules_text(alloc, code)?.into_bytes())
 }
 
 /// Writes what codes say, or one of them: it is written.
@@ -302,9 +152,9 @@ fn done_by<S: Source, W: Sink, O: Sink>(
             tasked(alloc, *task, table, reach, file, out)
         }
         Command::Show { .. } => shown(alloc, table, file, out),
-        Command::Asm { big, explain, .. } => assembled(
-            alloc, table, *big, *explain, file, out, made,
-        ),
+        Command::Asm { big, explain, .. } => {
+            assemble_stream(alloc, table, order_by(*big), *explain, file, out, made)
+        }
         Command::Trace {
             function,
             choices,
@@ -313,7 +163,7 @@ fn done_by<S: Source, W: Sink, O: Sink>(
             ..
         } => {
             let reach = reach_by(*extended);
-            traced(alloc, table, reach, *function, choices, *limit, file, out)
+            trace_stream(alloc, table, reach, *function, choices, *limit, file, out)
         }
         Command::Annotate {
             file: name,
@@ -332,20 +182,6 @@ fn done_by<S: Source, W: Sink, O: Sink>(
         Command::Graph { function, .. } => viewed(alloc, table, View::Graph, *function, file, out),
         Command::Rules { code, json } => ruled(alloc, *code, *json, out),
         Command::Grammar { .. } => grammar_written(alloc, table, out),
-    }
-}
-
-/// Whether a command takes a module of an earlier version as one of 1.6.
-pub fn is_as_1_6(command: &Command) -> bool
-    ensures { result ≡ takes_as_1_6 command.now }
-{
-    match command {
-        Command::Judge { as_1_6, .. }
-        | Command::Show { as_1_6, .. }
-        | Command::Trace { as_1_6, .. }
-        | Command::Annotate { as_1_6, .. }
-        | Command::Graph { as_1_6, .. } => *as_1_6,
-        Command::Asm { .. } | Command::Rules { .. } | Command::Grammar { .. } => false,
     }
 }
 

@@ -3,18 +3,35 @@ ghost use Rattle.std.specs.Prelude.{◌≡◌, ◌≤◌, ℕ, List, Option, map
 ghost use Rattle.spv_builtin.specs.Source.{IsTableOf, breaks};
 ghost use Rattle.spv_grammar.specs.declared.error.GrammarError.{GrammarError};
 ghost use Rattle.spv_commands.specs.Trouble.{Gets};
-ghost use Rattle.spv_commands.specs.Each.{Ends};
+ghost use Rattle.spv_commands.specs.Part.{IsPart, told_line};
+ghost use Rattle.spv_streams.specs.Each.{Ends};
 
 use crate::files::Files;
-use crate::judging::{Judging, part_of, tell};
-use crate::program::{Trouble, report};
-use crate::writing::write_on;
 use spv_builtin::laws::one_table;
 use spv_builtin::table_of;
+use spv_commands::{Judging, Part, Trouble, judge_file, report, tell, write_on};
 use spv_table::Table;
 use spv_words::Sink;
 use std::alloc::Global;
 use std::mem::forget;
+
+/// What is written of the file of a number and a name.
+fn part_of<F: Files>(
+    alloc: Global,
+    how: Judging,
+    table: &Table,
+    name: &str,
+    number: usize,
+    files: &mut F,
+) -> Part
+    ensures part { IsPart table.now how name.now (F.known files.old number) result.text.items
+        (told_line name.now result.unread) result.status }
+    ensures small { result.status ≤ 2 }
+    ensures kept { (n : ℕ) → F.known files.new n ≡ F.known files.old n }
+{
+    let file = files.read(alloc, number);
+    judge_file(alloc, how, table, name, file)
+}
 
 /// Judges each file by a table, and answers the exit status.
 fn each_by<F: Files, W: Sink, E: Sink>(

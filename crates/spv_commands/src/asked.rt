@@ -1,0 +1,82 @@
+//! What the options of a command ask for.
+ghost use Rattle.std.specs.Prelude.{◌≡◌, IfOk};
+ghost use Rattle.spv_commands.specs.Assemble.{order_of};
+ghost use Rattle.spv_commands.specs.Task.{AreRules, detail_of, is_colored, reach_of, takes_as_1_6, view_of};
+
+use spv_command_line::{AnyCode, Color, Command, Form};
+use spv_explain::{Detail, rules_json, rules_text};
+use spv_extended::Reach;
+use spv_views::View;
+use spv_words::Order;
+use std::alloc::{AllocError, Global};
+
+/// How much an explanation tells, where it is to be full or not.
+pub fn detail_by(full: bool) -> Detail
+    ensures { result ≡ detail_of full }
+{
+    if full { Detail::Full } else { Detail::Short }
+}
+
+/// What is looked at, where the operands of extended instructions are to be looked at too, or are not.
+pub fn reach_by(extended: bool) -> Reach
+    ensures { result ≡ reach_of extended }
+{
+    if extended {
+        Reach::Extended
+    } else {
+        Reach::Profile
+    }
+}
+
+/// The order in which the bytes of words are written.
+pub fn order_by(big: bool) -> Order
+    ensures { result ≡ order_of big }
+{
+    if big { Order::Big } else { Order::Little }
+}
+
+/// Whether a text has colour. Where a terminal asks for it, that was settled before.
+fn is_in_color(color: Color) -> bool
+    ensures { result ≡ is_colored color }
+{
+    match color {
+        Color::Always => true,
+        Color::Auto | Color::Never => false,
+    }
+}
+
+/// What `annotate` writes of the file of a name.
+pub fn view_by(form: Form, color: Color, file: &str) -> View<'_>
+    ensures { result ≡ view_of form color file.entry }
+{
+    match form {
+        Form::Text => View::Text {
+            color: is_in_color(color),
+        },
+        Form::Page => View::Page { title: file },
+    }
+}
+
+/// Whether a command takes a module of an earlier version as one of 1.6.
+pub fn is_as_1_6(command: &Command) -> bool
+    ensures { result ≡ takes_as_1_6 command.now }
+{
+    match command {
+        Command::Judge { as_1_6, .. }
+        | Command::Show { as_1_6, .. }
+        | Command::Trace { as_1_6, .. }
+        | Command::Annotate { as_1_6, .. }
+        | Command::Graph { as_1_6, .. } => *as_1_6,
+        Command::Asm { .. } | Command::Rules { .. } | Command::Grammar { .. } => false,
+    }
+}
+
+/// What codes say, or one of them, as lines or as objects of JSON.
+pub fn rules_bytes(alloc: Global, code: Option<AnyCode>, json: bool) -> Result<Vec<u8>, AllocError>
+    ensures { IfOk result (λ v. AreRules code json v.items) }
+{
+    if json {
+        return rules_json(alloc, code);
+    }
+    Ok(rules_text(alloc, code)?.into_bytes())
+}

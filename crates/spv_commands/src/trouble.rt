@@ -1,0 +1,110 @@
+//! Why a run ends with an error, and the line that tells it.
+ghost use Rattle.std.specs.Prelude.{◌≡◌};
+ghost use Rattle.spv_commands.specs.Trouble.{Gets, grammar_text, trouble_text};
+
+use spv_explain::Unread;
+use spv_grammar::GrammarError;
+use spv_words::{Failed, Sink, write_all};
+use std::alloc::AllocError;
+use thiserror::Error;
+
+/// Why nothing is answered, or not all of an answer was written: the program ends with the exit status 2 (own).
+/// `report` writes its line.
+#[derive(Clone, Copy, Debug, Drop, Error, PartialEq, Eq)]
+pub enum Trouble {
+    /// The words of the command line fit no command: `error use`.
+    #[error("the words fit no command")]
+    Use,
+    /// A file does not open, or a read or a write failed: `error file`.
+    #[error("a read or a write failed")]
+    File,
+    /// A text is not UTF-8: `error file`.
+    #[error("the text is not UTF-8")]
+    NotText,
+    /// A growth of memory was refused: `error memory`.
+    #[error("out of memory")]
+    Memory,
+    /// The id whose run is asked for is no entry point's function: `error X1`.
+    #[error("the id is no entry point's function")]
+    NoEntry,
+    /// The id of the function that is asked for is none of the module: `error X2`.
+    #[error("the id is the result of no function")]
+    NoFunction,
+    /// The grammar file is refused: `error J1` to `error J7`, and `error memory` for J8.
+    #[error("{0}")]
+    Grammar(GrammarError),
+}
+
+impl From<Failed> for Trouble {
+    ghost use Rattle.std.specs.Prelude.{◌≡◌};
+    ghost use Rattle.spv_commands.specs.declared.trouble.Trouble.TheVariants as trouble;
+
+    ghost from_gives = { λ _ e. e ≡ trouble.File };
+
+    fn from(_error: Failed) -> Trouble {
+        Trouble::File
+    }
+}
+
+impl From<AllocError> for Trouble {
+    ghost use Rattle.std.specs.Prelude.{◌≡◌};
+    ghost use Rattle.spv_commands.specs.declared.trouble.Trouble.TheVariants as trouble;
+
+    ghost from_gives = { λ _ e. e ≡ trouble.Memory };
+
+    fn from(_error: AllocError) -> Trouble {
+        Trouble::Memory
+    }
+}
+
+impl From<Unread> for Trouble {
+    ghost use Rattle.std.specs.Prelude.{◌≡◌};
+    ghost use Rattle.spv_commands.specs.Trouble.{unread_trouble};
+
+    ghost from_gives = { λ why e. e ≡ unread_trouble why };
+
+    fn from(why: Unread) -> Trouble {
+        match why {
+            Unread::File => Trouble::File,
+            Unread::Memory => Trouble::Memory,
+        }
+    }
+}
+
+/// The line that tells a trouble.
+fn trouble_line(trouble: Trouble) -> &'static [u8]
+    ensures { result.now ≡ trouble_text trouble }
+{
+    match trouble {
+        Trouble::Use => b"error use\n",
+        Trouble::File | Trouble::NotText => b"error file\n",
+        Trouble::Memory => b"error memory\n",
+        Trouble::NoEntry => b"error X1\n",
+        Trouble::NoFunction => b"error X2\n",
+        Trouble::Grammar(error) => grammar_line(error),
+    }
+}
+
+/// The line that tells a refused grammar file. J8 is out of memory.
+fn grammar_line(error: GrammarError) -> &'static [u8]
+    ensures { result.now ≡ grammar_text error }
+{
+    match error {
+        GrammarError::J1 => b"error J1\n",
+        GrammarError::J2 => b"error J2\n",
+        GrammarError::J3 => b"error J3\n",
+        GrammarError::J4 => b"error J4\n",
+        GrammarError::J5 => b"error J5\n",
+        GrammarError::J6 => b"error J6\n",
+        GrammarError::J7 => b"error J7\n",
+        GrammarError::J8 => b"error memory\n",
+    }
+}
+
+/// Writes the line of a trouble, its line feed included. Where that fails too, there is nowhere left to tell it, and a
+/// beginning was written.
+pub fn report<E: Sink>(trouble: Trouble, err: &mut E)
+    ensures { Gets E.contents E.failures err.old err.new (trouble_text trouble) }
+{
+    let _ = write_all(trouble_line(trouble), err);
+}

@@ -1,0 +1,4 @@
+pub mod Parts
+pub mod Tasks
+pub mod Troubles
+pub mod Worked

@@ -1,0 +1,4 @@
+pub mod Begin
+pub mod Each
+pub mod Run
+pub mod inner
