@@ -129,14 +129,15 @@ PROMISES = (
     ),
     (
         "The program's answer",
-        "`answer` says what a command answers of the bytes of its files. `run` does what a command asks, and `run_each` "
-        "does it for several files: their clauses on bytes speak of readers and writers that tell them, as slices and "
-        "vectors do; files tell none.",
+        "`answer` says what a command answers of the bytes of its files, and `judge_file` what is written of one of "
+        "several. `run` does what a command asks, and `run_each` does it for several files: their clauses on bytes "
+        "speak of readers and writers that tell them, as slices and vectors do; files tell none.",
         (
             ("spv_commands", "answering.rt", "answer"),
-            ("spv_commands", "program.rt", "run"),
-            ("spv_commands", "files.rt", "read", "trait Files"),
-            ("spv_commands", "each.rt", "run_each"),
+            ("spv_commands", "judging.rt", "judge_file"),
+            ("spv_streams", "run.rt", "run"),
+            ("spv_streams", "files.rt", "read", "trait Files"),
+            ("spv_streams", "each.rt", "run_each"),
         ),
     ),
     (
