@@ -391,7 +391,7 @@ def refused_files(program, folder):
 
 
 def output_takes_nothing(program, folder):
-    """A full output is `error file`, and so is a pipe that no one reads."""
+    """A full output is `error file`."""
     with open("/dev/full", "wb") as full:
         got = run(program, ["grammar"], folder, env=under(), stdout=full)
     return difference(NO_FILE, got)

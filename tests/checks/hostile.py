@@ -1,6 +1,7 @@
 """Hostile use that no file shows: endless input, outputs that take nothing, files that are none."""
 
 import os
+import signal
 import subprocess
 import threading
 import time
@@ -12,6 +13,7 @@ GRAMMAR = TESTS / "profile.json"
 VALID = Answer(b"valid\n", b"", 0)
 TOO_LONG = Answer(b"fault W8\n", b"", 1)
 NO_FILE = Answer(b"", b"error file\n", 2)
+UNREAD = Answer(b"", b"", 128 + signal.SIGPIPE)
 
 
 def check_words(file=KERNEL, grammar=GRAMMAR):
@@ -98,7 +100,7 @@ def closed_pipe(program, folder):
         got = run(program, check_words(), folder, stdout=write_end)
     finally:
         os.close(write_end)
-    return difference(NO_FILE, got)
+    return difference(UNREAD, got)
 
 
 def both_outputs_full(program, folder):

@@ -2,6 +2,7 @@
 
 import os
 import resource
+import signal
 import subprocess
 import threading
 
@@ -193,7 +194,7 @@ def grammar_first(program, folder):
 
 
 def pipe_closed_early(program, folder):
-    """`head -1` after thousands of files: `error file`, no signal."""
+    """`head -1` after thousands of files: no line, and the status of a program that SIGPIPE ended."""
     names = [KERNEL] * 5000
     words = [str(program), "check", *map(str, names)]
     with subprocess.Popen(
@@ -205,7 +206,7 @@ def pipe_closed_early(program, folder):
         child.stdout.close()
         err = child.stderr.read()
         late.cancel()
-    wanted = (f"{KERNEL}: valid\n".encode(), b"error file\n", 2)
+    wanted = (f"{KERNEL}: valid\n".encode(), b"", 128 + signal.SIGPIPE)
     got = (first, err, child.returncode)
     return None if got == wanted else f"  wanted: {wanted}\n  got:    {got}"
 

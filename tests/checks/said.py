@@ -7,6 +7,7 @@ import json
 import os
 import pty
 import re
+import signal
 import struct
 import subprocess
 import threading
@@ -459,20 +460,48 @@ WRITE = [
 
 
 def outputs_that_fail(program, folder):
-    """A full output, and one that no one reads: one line in a pipe; else the output and the system's reason."""
+    """A full output: one line in a pipe; else the output and the system's reason."""
+    with open("/dev/full", "wb") as full:
+        for words in WRITE:
+            row = Row(words, "error file", ("writ", "output", NO_SPACE), how={"stdout": full})
+            wrong = each_said(row, program, folder)
+            if wrong:
+                return f"  {row}\n{wrong}"
+    return None
+
+
+def outputs_that_nobody_reads(program, folder):
+    """An output that nobody reads ends the program without a word, as the signal SIGPIPE ends others."""
     read_end, closed = os.pipe()
     os.close(read_end)
+    wanted = Answer(b"", b"", 128 + signal.SIGPIPE)
     try:
-        with open("/dev/full", "wb") as full:
-            for output, reason in ((full, NO_SPACE), (closed, "[Bb]roken pipe")):
-                for words in WRITE:
-                    row = Row(words, "error file", ("writ", "output", reason), how={"stdout": output})
-                    wrong = each_said(row, program, folder) if words != ["help"] else in_a_pipe(row, program, folder)
-                    if wrong:
-                        return f"  {row}\n{wrong}"
+        for words in WRITE:
+            for asked in words, [*words, VERBOSE]:
+                got = run(program, asked if words != ["help"] else words, folder, env=under(), stdout=closed)
+                wrong = difference(wanted, got)
+                if wrong:
+                    return f"  {asked}\n{wrong}"
     finally:
         os.close(closed)
     return None
+
+
+def asked_by_environment(program, folder):
+    """SPV_VERBOSE asks for what `--verbose` does, and `--verbose` may stand before the command."""
+    absent = folder / "absent.json"
+    asked = run(program, ["check", VERBOSE, KERNEL], folder, env=under(absent))
+    quiet = run(program, ["check", KERNEL], folder, env=under(absent))
+    if asked.err.count(b"SPV_GRAMMAR names this grammar file") != 1 or quiet.err != b"error file\n":
+        return f"  {asked}\n  {quiet}"
+    for value, wanted in ("1", asked), ("yes", asked), ("0", quiet), ("", quiet):
+        got = run(program, ["check", KERNEL], folder, env={**under(absent), "SPV_VERBOSE": value})
+        wrong = difference(wanted, got)
+        if wrong:
+            return f"  SPV_VERBOSE={value}\n{wrong}"
+    wrong = difference(asked, run(program, [VERBOSE, "check", KERNEL], folder, env=under(absent)))
+    twice = run(program, [VERBOSE, "check", VERBOSE, KERNEL], folder, env=under(absent))
+    return wrong or (None if twice.err.startswith(b"error use\n") else f"  {twice}")
 
 
 def same_file(program, folder):
@@ -516,6 +545,8 @@ def checks():
         ("a module for a text", module_for_text),
         ("several files", names_among_several),
         ("outputs that fail", outputs_that_fail),
+        ("outputs that nobody reads", outputs_that_nobody_reads),
+        ("asked by the environment", asked_by_environment),
         ("OUT that is FILE", same_file),
         ("long words", long_words),
     ]

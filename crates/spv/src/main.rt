@@ -184,7 +184,7 @@ fn with_texts<'a>(
         }
         Err(UseError::NoCommand) => Err(Trouble::Use),
         Err(UseError::Memory) => Err(Trouble::Memory),
-        Err(UseError::Help | UseError::Version) => show_text(rt, texts),
+        Err(UseError::Help | UseError::Version) => show_text(rt, why, texts),
     }
 }
 

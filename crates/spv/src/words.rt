@@ -1,7 +1,9 @@
 //! The words of the command line and of the environment, and what is told of words that are not understood.
 
+use crate::why::Why;
+use crate::writing::standard_output;
 use spv_commands::{Color, Command, Trouble, advice, help, text_asked};
-use spv_words::{FromWrite, write_all};
+use spv_words::write_all;
 use std::env;
 use std::env::VarError;
 use std::io::{ErrorKind, IsTerminal, Write};
@@ -78,11 +80,11 @@ pub fn settle_color(rt: &HostRuntime, command: &mut Command<'_>) {
 }
 
 /// Prints the help or the version that the words ask for, and answers the exit status.
-pub fn show_text(rt: &HostRuntime, words: &[&str]) -> Result<u8, Trouble> {
+pub fn show_text(rt: &HostRuntime, why: &Why<'_>, words: &[&str]) -> Result<u8, Trouble> {
     let Ok(text) = text_asked(rt.alloc(), words) else {
         return Err(Trouble::Memory);
     };
-    match write_all(text.as_bytes(), &mut FromWrite::new(rt.stdout())) {
+    match write_all(text.as_bytes(), &mut standard_output(rt, why)) {
         Ok(()) => Ok(0),
         Err(_) => Err(Trouble::File),
     }

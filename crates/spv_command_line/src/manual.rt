@@ -29,6 +29,7 @@ pub const PROGRAM: &str =
 Environment:
   SPV_GRAMMAR  the grammar file where --grammar is left out; without it the built-in grammar of
                SPIR-V 1.6 is used
+  SPV_VERBOSE  where it is neither empty nor 0: does what --verbose does
 
 Exit status:
   0  done, and each module is valid
