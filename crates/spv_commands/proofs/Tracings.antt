@@ -1,5 +1,5 @@
 -- What is traced of bytes that were read.
-use Rattle.std.proofs.Common.{◌≡◌, ◌≢◌, ◌↔◌, ◌≤◌, ◌++◌, ℕ, List, [], ◌∷◌, Option, Some, None, Result, Err, IfSome, IfOk, IsErrOf, Bool, true, false, length, take, ap, refl, codes, lit≤}
+use Rattle.std.proofs.Common.{◌≡◌, ◌≢◌, ◌⊎◌, ◌↔◌, ◌≤◌, ◌++◌, ℕ, List, [], ◌∷◌, Option, Some, None, Result, Ok, Err, IfSome, IfOk, IfErr, IsErrOf, Bool, true, false, length, take, ap, refl, inl, inr, codes, lit≤}
 use Rattle.std.specs.Io.KnownBytes.{Appends}
 use Rattle.spv_words.specs.Header.{IsFirstBroken, IsModule, RefusesBytes}
 use Rattle.spv_words.specs.declared.words.Order.{Order}
@@ -49,10 +49,16 @@ refused_bytes G reach function choices limit (Some xs) word.W6 h = refused_line_
 refused_bytes G reach function choices limit (Some xs) word.W7 h = refused_line_written G reach function choices limit xs word.W7 h
 refused_bytes G reach function choices limit (Some xs) word.W8 h = refused_line_written G reach function choices limit xs word.W8 h
 
-pub refused_stranger : (P : Type 0) (code : WordError) → IsErrOf (traced_refusal code) trouble.NoEntry → P
-refused_stranger P word.W1 e = cc
-refused_stranger P word.W9 e = cc
-refused_stranger P code e = cc
+pub refused_only : (P : Type 0) (code : WordError) → IfErr (traced_refusal code) (λ t. (t ≡ trouble.File) ⊎ ((t ≡ trouble.NoEntry) × P) ⊎ (t ≡ trouble.Memory))
+refused_only P word.W1 = inl refl
+refused_only P word.W9 = inr (inr refl)
+refused_only P word.W2 = tt
+refused_only P word.W3 = tt
+refused_only P word.W4 = tt
+refused_only P word.W5 = tt
+refused_only P word.W6 = tt
+refused_only P word.W7 = tt
+refused_only P word.W8 = tt
 
 -- W1 is told where it was read
 pub refused_count : {X : Type 0} (P : Type 0) (code : WordError) (r : Result X WordError) → r ≡ Err code → (P ↔ IsErrOf r word.W1) → (P ↔ IsErrOf (traced_refusal code) trouble.File)
@@ -92,10 +98,6 @@ pub lacks_entry : (G : Table) (reach : Reach) (function : ℕ) (bytes words : Li
 lacks_entry G reach function bytes words order p NoEntry h c r q = record { program = p; valid = program_of G reach bytes words order p h c; none = r }
 lacks_entry G reach function bytes words order p Memory h c r q = cc
 
-pub stop_is_no_failure : (e : TraceError) → traced_stop e ≢ trouble.File
-stop_is_no_failure NoEntry q = cc
-stop_is_no_failure Memory q = cc
-
 -- what is written of the words that were read
 pub known_tracing : (G : Table) (reach : Reach) (function : ℕ) (choices : List ℕ) (limit : ℕ) (known : Option (List ℕ)) (words : List ℕ) (order : Order) (r : Result Traced Trouble)
     → IfSome known (λ xs. IsModule order xs words)
@@ -108,6 +110,19 @@ pub known_stranger : (G : Table) (reach : Reach) (function : ℕ) (known : Optio
     → ((bytes : List ℕ) (o : Order) → IsModule o bytes words → P → HasNoEntry G reach bytes function) → P → IfSome known (λ bytes. HasNoEntry G reach bytes function)
 known_stranger G reach function None words order P h v p = tt
 known_stranger G reach function (Some xs) words order P h v p = v xs order h p
+
+abbrev failing : Trouble → Result Traced Trouble
+failing t = Err t
+
+pub known_only : (G : Table) (reach : Reach) (function : ℕ) (known : Option (List ℕ)) (words : List ℕ) (order : Order) (r : Result Traced Trouble)
+    → IfSome known (λ xs. IsModule order xs words)
+    → ((bytes : List ℕ) (o : Order) → IsModule o bytes words → IsErrOf r trouble.NoEntry → HasNoEntry G reach bytes function)
+    → IfErr r (λ t. (t ≡ trouble.NoEntry) ⊎ (t ≡ trouble.Memory))
+    → IfErr r (λ t. (t ≡ trouble.File) ⊎ ((t ≡ trouble.NoEntry) × IfSome known (λ bytes. HasNoEntry G reach bytes function)) ⊎ (t ≡ trouble.Memory))
+known_only G reach function known words order (Ok t) h v o = tt
+known_only G reach function known words order (Err t) h v (inl e) =
+    inr (inl (e, known_stranger G reach function known words order (IsErrOf (failing t) trouble.NoEntry) h v (ap failing e)))
+known_only G reach function known words order (Err t) h v (inr e) = inr (inr e)
 
 -- it was written whole
 pub traces : (G : Table) (reach : Reach) (function : ℕ) (choices : List ℕ) (limit : ℕ) (known kept new : Option (List ℕ)) (t : Traced) (answer : Bool)

@@ -61,9 +61,9 @@ pub fn traced_of(
 ) -> Result<Traced, Trouble>
     ensures traced { (bytes : List ℕ) (order : Order) → IsModule order bytes image.now
         → IfOk result (λ t. IsTracing table.now reach function choices.now limit bytes (output_of t) (is_run t)) }
-    ensures only { (bytes : List ℕ) (order : Order) → IsModule order bytes image.now
-        → IfErr result (λ t. ((t ≡ trouble.NoEntry) × HasNoEntry table.now reach bytes function)
-        ⊎ (t ≡ trouble.Memory)) }
+    ensures stranger { (bytes : List ℕ) (order : Order) → IsModule order bytes image.now
+        → IsErrOf result trouble.NoEntry → HasNoEntry table.now reach bytes function }
+    ensures only { IfErr result (λ t. (t ≡ trouble.NoEntry) ⊎ (t ≡ trouble.Memory)) }
 {
     let checked = match check(alloc, table, reach, image) {
         Ok(Verdict::Valid(checked)) => checked,

@@ -1,4 +1,4 @@
-use Rattle.std.proofs.Common.{Err, ap, false, inl, refl}
+use Rattle.std.proofs.Common.{Err, ap, false, inl, inr, refl}
 use Rattle.spv_verdict.specs.Text.{line_of}
 use Rattle.spv_verdict.specs.Verdict.{refused_line}
 use Rattle.spv_commands.specs.Trace.{Traces}
@@ -23,5 +23,7 @@ returns-in-Ok-Line-clause-gives c =
     c.fault-in-Ok-Line.ensures.out c.fault-in-Ok-Line.ensures.done c.fault-in-Ok-Line.ensures.made
     (traces_it c.args.table.now c.args.reach c.args.function c.args.choices.now c.args.limit c.args.bytes.items _ _ tracing)
 
-pub returns-in-Err-NoEntry-clause-only : goal.returns-in-Err-NoEntry-clause-only
-returns-in-Err-NoEntry-clause-only c = inl (refl, c.in-Err-NoEntry.ensures.stranger c.args.bytes.items c.in-Ok.field-0-1 c.in-Ok.ensures.gives (ap Err c.in-Err-NoEntry.field-0-is))
+pub returns-clause-only : goal.returns-clause-only
+returns-clause-only c =
+    let stranger = c.in-Err-traced_of.ensures.stranger c.args.bytes.items c.in-Ok.field-0-1 c.in-Ok.ensures.gives in
+    elim c.in-Err-traced_of.ensures.only [ inl e ↦ inl (e, stranger (ap Err e)) | inr e ↦ inr e ]

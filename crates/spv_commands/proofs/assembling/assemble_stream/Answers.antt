@@ -8,7 +8,6 @@ returns-in-Ok-clause-ends g c =
     record {
       whole = made_all c.args.table.now c.args.order c.args.explain _ c.in-Made.image _ _ _ (rw c.in-Made.is at comes) c.in-Ok.ensures.all;
       failed = search rules;
-      why = search rules;
       unwritten = search rules;
       unmade = search rules;
       begun = search rules;
@@ -20,7 +19,6 @@ returns-in-Made-clause-ends g c =
     record {
       whole = search rules;
       failed = search rules;
-      why = search rules;
       unwritten = search rules;
       unmade = search rules;
       begun = λ _. made_begun c.args.table.now c.args.order c.args.explain _ c.in-Made.image _ _ _ (rw c.in-Made.is at comes) c.write_image.ensures.begun;
@@ -32,7 +30,6 @@ returns-in-Ok-write_all-clause-ends g c =
     record {
       whole = failed_all c.args.table.now c.args.order c.args.explain _ _ c.as_slice.result.now _ _ _ (rw c.in-Fault.is at comes) (c.as_slice.ensures ∙ c.text_fault.ensures) c.in-Ok-write_all.ensures.all;
       failed = search rules;
-      why = search rules;
       unwritten = search rules;
       unmade = search rules;
       begun = search rules;
@@ -44,7 +41,6 @@ returns-in-Fault-clause-ends g c =
     record {
       whole = search rules;
       failed = search rules;
-      why = search rules;
       unwritten = search rules;
       unmade = search rules;
       begun = λ _. failed_begun c.args.table.now c.args.order c.args.explain _ _ c.as_slice.result.now _ _ _ (rw c.in-Fault.is at comes) (c.as_slice.ensures ∙ c.text_fault.ensures) c.write_all.ensures.begun;
@@ -56,7 +52,6 @@ returns-in-Ok-write_all-2-clause-ends g c =
     record {
       whole = failed_all c.args.table.now c.args.order c.args.explain _ _ c.as_slice-in-Told.result.now _ _ _ (rw c.in-Told.is at comes) c.as_slice-in-Told.ensures.value c.in-Ok-write_all-2.ensures.all;
       failed = search rules;
-      why = search rules;
       unwritten = search rules;
       unmade = search rules;
       begun = search rules;
@@ -68,7 +63,6 @@ returns-clause-ends g c =
     record {
       whole = search rules;
       failed = search rules;
-      why = search rules;
       unwritten = search rules;
       unmade = search rules;
       begun = λ _. failed_begun c.args.table.now c.args.order c.args.explain _ _ c.as_slice-in-Told.result.now _ _ _ (rw c.in-Told.is at comes) c.as_slice-in-Told.ensures.value c.write_all-in-Told.ensures.begun;

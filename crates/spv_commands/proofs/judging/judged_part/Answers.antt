@@ -1,5 +1,5 @@
 use Rattle.std.proofs.Common.{◌≡◌, refl, if◌then◌else◌}
-use Rattle.spv_commands.specs.Each.{IsPart}
+use Rattle.spv_commands.specs.Part.{IsPart}
 use Rattle.spv_commands.proofs.Parts.{fault_status, valid_status}
 use Rattle.spv_commands.proofs.judging.judged_part.Goals as goal
 use Rattle.spv_commands.proofs.judging.judged_part.Goals.{then-valid, else-valid}

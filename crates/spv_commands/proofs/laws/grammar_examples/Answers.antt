@@ -1,8 +1,5 @@
-use Rattle.spv_commands.proofs.Tasks.{grammar_begun, grammar_written}
+use Rattle.spv_commands.proofs.Tasks.{grammar_written}
 use Rattle.spv_commands.proofs.laws.grammar_examples.Goals as goal
 
 pub returns-clause-writes : goal.returns-clause-writes
 returns-clause-writes c = grammar_written
-
-pub returns-clause-begins : goal.returns-clause-begins
-returns-clause-begins c = grammar_begun

@@ -1,8 +1,7 @@
 use Rattle.std.proofs.Common.{refl, lit≤, arith}
-use Rattle.spv_commands.specs.Trouble.{entry, function, memory}
 use Rattle.spv_table.specs.Example.{empty_table}
-use Rattle.spv_commands.proofs.Tasks.{begins_short, does_short}
-use Rattle.spv_commands.proofs.Worked.{empty_given, nothing_breaks, nothing_given}
+use Rattle.spv_commands.proofs.Tasks.{does_short}
+use Rattle.spv_commands.proofs.Worked.{empty_given, nothing_given}
 use Rattle.spv_commands.proofs.laws.run_examples.Goals as goal
 
 pub returns-clause-begins_with : goal.returns-clause-begins_with
@@ -18,23 +17,3 @@ returns-clause-does c = λ command r n.
 
 pub returns-clause-does_nothing : goal.returns-clause-does_nothing
 returns-clause-does_nothing c = λ command bytes old new held kept answer t. nothing_given t.table t.given
-
-pub returns-clause-begins : goal.returns-clause-begins
-returns-clause-begins c = λ command r n.
-    begins_short command _ r n (empty_given c.table_examples.ensures.gives) (c.stream_examples.ensures.begins empty_table) (c.explain_examples.ensures.begins empty_table)
-    (c.show_examples.ensures.begins empty_table) (c.trace_examples.ensures.begins empty_table) (c.view_examples.ensures.begins empty_table)
-
-pub returns-clause-begins_nothing : goal.returns-clause-begins_nothing
-returns-clause-begins_nothing c = λ command bytes old new held kept t. nothing_given t.table t.given
-
-pub returns-clause-refused : goal.returns-clause-refused
-returns-clause-refused c = nothing_breaks ⊥ ⊥ ⊥
-
-pub returns-clause-memory : goal.returns-clause-memory
-returns-clause-memory c = λ text. memory
-
-pub returns-clause-no_entry : goal.returns-clause-no_entry
-returns-clause-no_entry c = λ text. entry tt
-
-pub returns-clause-no_function : goal.returns-clause-no_function
-returns-clause-no_function c = λ text. function tt

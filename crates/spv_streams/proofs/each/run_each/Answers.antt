@@ -1,6 +1,7 @@
 use Rattle.std.proofs.Common.{refl, option_map}
-use Rattle.spv_commands.proofs.Parts.{got_nothing, refused_on}
-use Rattle.spv_commands.proofs.each.run_each.Goals as goal
+use Rattle.spv_commands.proofs.Parts.{got_nothing}
+use Rattle.spv_streams.proofs.Parts.{refused_on}
+use Rattle.spv_streams.proofs.each.run_each.Goals as goal
 
 pub returns-in-Ok-clause-ends : goal.returns-in-Ok-clause-ends
 returns-in-Ok-clause-ends g c =

@@ -1,6 +1,6 @@
 use Rattle.std.proofs.Common.{◌-◌, ◌≡◌, ℕ, length, map, take}
-use Rattle.spv_commands.proofs.Parts.{Going}
-use Rattle.spv_commands.proofs.each.each_by.Given as goal
+use Rattle.spv_streams.proofs.Parts.{Going}
+use Rattle.spv_streams.proofs.each.each_by.Given as goal
 
 abbrev pub invariant-loop-number : goal.invariant-loop-number
 invariant-loop-number g l =

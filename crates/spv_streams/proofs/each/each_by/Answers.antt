@@ -1,6 +1,6 @@
 use Rattle.std.proofs.Common.{◌≡◌, ◌∙◌, arith, max, refl, rules}
-use Rattle.spv_commands.proofs.Parts.{begins, cut_on, ends_on, part_on}
-use Rattle.spv_commands.proofs.each.each_by.Goals as goal
+use Rattle.spv_streams.proofs.Parts.{begins, cut_on, ends_on, part_on}
+use Rattle.spv_streams.proofs.each.each_by.Goals as goal
 
 pub loop-number-init : goal.loop-number-init
 loop-number-init g c = (begins c.args.table.now c.args.how (g.F.Files.known c.args.files.now) _ _ _ _, λ n. refl)

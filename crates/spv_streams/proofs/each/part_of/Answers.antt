@@ -1,5 +1,5 @@
-use Rattle.spv_commands.proofs.Parts.{known_part}
-use Rattle.spv_commands.proofs.judging.part_of.Goals as goal
+use Rattle.spv_streams.proofs.Parts.{known_part}
+use Rattle.spv_streams.proofs.each.part_of.Goals as goal
 
 pub returns-clause-part : goal.returns-clause-part
 returns-clause-part g c =
