@@ -135,7 +135,7 @@ PROMISES = (
         (
             ("spv_commands", "answering.rt", "answer"),
             ("spv_commands", "judging.rt", "judge_file"),
-            ("spv_streams", "run.rt", "run"),
+            ("spv_streams", "runs.rt", "run"),
             ("spv_streams", "files.rt", "read", "trait Files"),
             ("spv_streams", "each.rt", "run_each"),
         ),

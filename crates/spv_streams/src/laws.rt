@@ -1,5 +1,5 @@
 //! What follows from the definitions of runs. Each function does nothing: its contract is what is proved.
-ghost use Rattle.std.specs.Prelude.{◌≡◌, ◌++◌, ◌∷◌, [], ℕ, List, Option, Some, None, codes};
+ghost use Rattle.std.specs.Prelude.{◌≡◌, ◌++◌, ◌∷◌, [], ℕ, List, Option, Some, None, codes, false};
 ghost use Rattle.spv_table.specs.Table.{Table};
 ghost use Rattle.spv_builtin.specs.Text.{IsGrammarText};
 ghost use Rattle.spv_rules.specs.declared.errors.AnyCode.{AnyCode};

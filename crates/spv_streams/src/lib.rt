@@ -4,9 +4,9 @@
 mod each;
 mod files;
 pub mod laws;
-mod run;
+mod runs;
 
 pub use each::run_each;
 pub use files::{Files, InMemory};
-pub use run::run;
+pub use runs::run;
 pub use spv_commands::{Judging, Telling, Trouble, Unread};

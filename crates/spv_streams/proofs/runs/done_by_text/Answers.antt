@@ -1,6 +1,6 @@
 use Rattle.std.proofs.Common.{refl, option_map}
 use Rattle.spv_streams.proofs.Troubles.{by_text, grammar_ends}
-use Rattle.spv_streams.proofs.run.done_by_text.Goals as goal
+use Rattle.spv_streams.proofs.runs.done_by_text.Goals as goal
 
 pub returns-in-Ok-clause-ends : goal.returns-in-Ok-clause-ends
 returns-in-Ok-clause-ends g c =

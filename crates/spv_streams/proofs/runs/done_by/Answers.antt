@@ -5,7 +5,7 @@ use Rattle.spv_streams.specs.Begin.{BeginsGrammar, BeginsRules, BeginsTask}
 use Rattle.spv_commands.specs.Trace.{BeginsTracing, Traces}
 use Rattle.spv_views.specs.View.{BeginsViewing, Views}
 use Rattle.spv_streams.proofs.Troubles.{alone, of_entries, of_functions, of_texts, of_two, unread}
-use Rattle.spv_streams.proofs.run.done_by.Goals as goal
+use Rattle.spv_streams.proofs.runs.done_by.Goals as goal
 
 pub returns-in-Judge-clause-ends : goal.returns-in-Judge-clause-ends
 returns-in-Judge-clause-ends g c =
