@@ -1,4 +1,4 @@
-use Rattle.spv_explain.proofs.WorkedJson.{escaped_told, found_told, not_named_told, unnamed_told, unread_told, valid_told}
+use Rattle.spv_explain.proofs.WorkedJson.{code_told, escaped_told, found_told, not_full_told, not_named_told, unnamed_told, unread_told, valid_told}
 use Rattle.spv_explain.proofs.laws.json_examples.Goals as goal
 
 pub returns-clause-valid : goal.returns-clause-valid
@@ -18,3 +18,9 @@ returns-clause-unread c = unread_told
 
 pub returns-clause-found : goal.returns-clause-found
 returns-clause-found c = found_told
+
+pub returns-clause-code : goal.returns-clause-code
+returns-clause-code c = code_told
+
+pub returns-clause-not_full : goal.returns-clause-not_full
+returns-clause-not_full c = not_full_told
