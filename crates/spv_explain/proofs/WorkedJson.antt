@@ -43,6 +43,10 @@ pub escaped_told : json_line (object_of (Some (34 ∷ 27 ∷ [])) verdicts.Valid
 unfolding print_from escape_byte
 escaped_told = refl
 
+pub late_told : json_line (object_of (Some (127 ∷ 194 ∷ 155 ∷ [])) verdicts.Valid []) ≡ codes "{\"file\":\"\\u007f\\u009b\",\"verdict\":\"valid\"}" ++ line_end
+unfolding print_from escape_byte
+late_told = refl
+
 pub unread_told : json_line (error_object (Some (codes "a.spv")) unread.File)
     ≡ codes "{\"file\":\"a.spv\",\"verdict\":\"error\",\"error\":\"file\"}" ++ line_end
 unfolding print_from escape_byte

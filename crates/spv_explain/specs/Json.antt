@@ -30,6 +30,7 @@ use Rattle.spv_fault_lines.specs.Facts.{facts_of}
 use Rattle.spv_fault_lines.specs.Refused.{front_of}
 use Rattle.spv_fault_lines.specs.Words.{malformed_facts}
 use Rattle.spv_fault_lines.specs.json_members.Members.{members_of, refused_members}
+use Rattle.spv_fault_lines.specs.json_members.Quiet.{quiet_of}
 use Rattle.spv_fault_lines.specs.json_members.Tokens.{number_member, text_member}
 use Rattle.spv_explain.specs.Evidence.{IsEvidence}
 use Rattle.spv_explain.specs.declared.answers.Answer.{Answer}
@@ -61,12 +62,12 @@ abbrev pub file_members : Option (List ℕ) → List Token
 file_members None = []
 file_members (Some name) = text_member (codes "file") name
 
--- the object of a verdict, with further members; and one object on a line
+-- the object of a verdict, with further members; and one object on a line, without control characters
 abbrev pub object_of : Option (List ℕ) → Judgment → List Token → List Token
 object_of name j members = begin_object ∷ file_members name ++ verdict_members j ++ members ++ end_object ∷ []
 
 abbrev pub json_line : List Token → List ℕ
-json_line tokens = print tokens ++ 10 ∷ []
+json_line tokens = quiet_of (print tokens) ++ 10 ∷ []
 
 -- The answer has the verdict of the bytes, and its object.
 pub record IsCheckAnswer (G : Table) (reach : Reach) (name : Option (List ℕ)) (bytes : List ℕ)

@@ -154,6 +154,9 @@ pub fn json_examples()
     // A control character is escaped as JSON has it, and so is a quotation mark.
     ensures escaped { json_line (object_of (Some (34 ∷ 27 ∷ [])) verdicts.Valid [])
         ≡ codes "{\"file\":\"\\\"\\u001b\",\"verdict\":\"valid\"}" ++ line_end }
+    // And so are DEL and a control character from U+0080 on.
+    ensures late { json_line (object_of (Some (127 ∷ 194 ∷ 155 ∷ [])) verdicts.Valid [])
+        ≡ codes "{\"file\":\"\\u007f\\u009b\",\"verdict\":\"valid\"}" ++ line_end }
     ensures unread { json_line (error_object (Some (codes "a.spv")) unread.File)
         ≡ codes "{\"file\":\"a.spv\",\"verdict\":\"error\",\"error\":\"file\"}" ++ line_end }
     // What is found in three bytes.

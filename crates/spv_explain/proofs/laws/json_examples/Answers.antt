@@ -1,4 +1,4 @@
-use Rattle.spv_explain.proofs.WorkedJson.{code_told, escaped_told, found_told, not_full_told, not_named_told, unnamed_told, unread_told, valid_told}
+use Rattle.spv_explain.proofs.WorkedJson.{code_told, escaped_told, found_told, late_told, not_full_told, not_named_told, unnamed_told, unread_told, valid_told}
 use Rattle.spv_explain.proofs.laws.json_examples.Goals as goal
 
 pub returns-clause-valid : goal.returns-clause-valid
@@ -12,6 +12,9 @@ returns-clause-not_named c = not_named_told
 
 pub returns-clause-escaped : goal.returns-clause-escaped
 returns-clause-escaped c = escaped_told
+
+pub returns-clause-late : goal.returns-clause-late
+returns-clause-late c = late_told
 
 pub returns-clause-unread : goal.returns-clause-unread
 returns-clause-unread c = unread_told
