@@ -350,8 +350,9 @@ OPCODES = "spv_module/src/opcode.rt"
 # The other constants of the code that definitions name: their files, and what they are.
 CONSTANTS = {
     "spv_builtin/src/words.rt": "the built-in grammar, which `tests/builtin` writes from Khronos' file",
-    "spv_rules/src/table.rt": "of each code of a verdict its name, its number in C, what it says and what breaks it",
-    "spv_rules/src/errors.rt": "the codes of errors, in order",
+    "spv_rules/src/table.rt": "of each code of a verdict its name, its number in C, what it says, the sources of that, "
+    "and what breaks it",
+    "spv_rules/src/errors.rt": "of each code of an error its name, what it says, the sources of that, and when it is told",
     "spv_annotate/src/opencl.rt": "the instructions of OpenCL.std, each with how many operands it takes",
     "spv_annotate/src/style.rt": "the parts of a page that are the same on each",
 }

@@ -205,7 +205,7 @@ def no_number(word):
 
 def object_of(line):
     """The object of a line, which is JSON without control characters, by the schema."""
-    if any(it < 0x20 for it in line):
+    if any(it < 0x20 or it == 0x7F for it in line) or re.search(rb"\xc2[\x80-\x9f]", line):
         raise Wrong(f"a control character: {line[:300]!r}")
     try:
         told = json.loads(line.decode(), object_pairs_hook=members, parse_constant=no_number)
@@ -361,6 +361,7 @@ ODD = (
     "line\nfeed.spv",
     "back\\slash.spv",
     "\x1b[31m.spv",
+    "\x7f\x9b31m.spv",
     "\x7f\x01.spv",
     "größe \u0085\u2028 \U0001f600",
     "<&>'.spv",

@@ -136,7 +136,7 @@ class Judge(ToldOfTargets, extended.ToldOfCalls):
             found.append("no line open")
         if self.code == "L1" and "missing" not in keys and self.unended():
             found.append("no line missing")
-        if self.code == "W5" and "help" not in keys and self.is_older():
+        if "help" not in keys and self.due_help() is not None:
             found.append("no line help")
         if self.code == "E2" and "imported" not in keys and self.one("part") == "a definition is imported":
             found.append("no line imported")
@@ -194,8 +194,19 @@ class Judge(ToldOfTargets, extended.ToldOfCalls):
         """Whether the version is one of 1.0 to 1.5."""
         return self.header()[1] in range(0x00010000, 0x00010600, 0x100)
 
+    def due_help(self):
+        """What is told to help, None where nothing is."""
+        front = self.facts.content[:4]
+        if self.code in ("W3", "W4") and front in (b"BC\xc0\xde", b"\xde\xc0\x17\x0b"):
+            return "it begins as LLVM bitcode, of which llvm-spirv makes a module"
+        if self.code in ("W3", "W4") and all(it in b"\t\n\r" or 32 <= it < 127 for it in front):
+            return "it begins as a text, of which spv asm makes a module"
+        if self.code == "W5" and self.is_older():
+            return "--as-1.6 reads it as a module of version 1.6"
+        return None
+
     def is_help(self, text):
-        return self.code == "W5" and self.is_older() and text == "--as-1.6 reads it as a module of version 1.6"
+        return text == self.due_help()
 
     def span(self):
         """The places of the words of the instruction that is told, as many as its first word counts: one at least."""
@@ -397,9 +408,10 @@ class Judge(ToldOfTargets, extended.ToldOfCalls):
         grammar = self.facts.grammar
         if not self.one("operand"):
             return grammar.entries[self.inst.opcode].get("capabilities", ())
-        sort, kind, value = self.inst.operands[self.operand()]
-        if kind == "Capability":
+        operand = self.inst.operands[self.operand()]
+        if operand[0] not in ("Value", "Mask") or operand[1] == "Capability":
             return ()
+        sort, kind, value = operand
         return grammar.enumerants[kind][self.bit() if sort == "Mask" else value].get("capabilities", ())
 
     def bit(self):
@@ -418,7 +430,7 @@ class Judge(ToldOfTargets, extended.ToldOfCalls):
         needed = NEEDED.get((self.inst.opcode, self.inst.operands[1][1]), ()) if self.inst.opcode in (21, 22) else ()
         if self.inst.opcode == VECTOR and self.inst.operands[2][1] in (8, 16):
             needed = (7,)
-        if not needed or self.one("operand") and self.operand() != (2 if self.inst.opcode == VECTOR else 1):
+        if not needed or not self.one("operand") or self.operand() != (2 if self.inst.opcode == VECTOR else 1):
             return False
         return text == " ".join(map(self.capability, needed)) and not set(needed) & types.implied
 

@@ -1,6 +1,5 @@
 mod Objects
 mod Readings
-mod RuleLines
 mod Shown
 mod Stages
 mod Sufficing
@@ -8,4 +7,3 @@ mod Tellings
 mod Worked
 mod WorkedExtended
 mod WorkedJson
-pub mod Sentences

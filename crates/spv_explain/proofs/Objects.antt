@@ -88,7 +88,7 @@ broken_explained G reach name bytes words order f e m shown r h b s j t =
     let is = plain_insts m in
     explained_by G reach name bytes (judgments.Broken f) (members_of G is shown (facts_of (slice_index words 3) is f.rule f.inst e)) r
     (fault_verdict G reach bytes words order f h (broken_fault G reach words f e m b)) (AreMembers.broken words order is f e shown h b.listing b.shown s) j
-    (subst (λ x. IfOk r (λ a. a.text.items ≡ json_line (object_of name (judgments.Broken f) (members_of G is shown (facts_of x is f.rule f.inst e))))) b.bound t)
+    (subst (λ x. IfOk r (λ a. a.text.items ≡ json_line (object_of name (judgments.Broken f) (members_of G is shown (facts_of x is f.rule f.inst e))))) b.header.bound t)
 
 -- bytes that gave no image
 explained_one : (G : Table) (reach : Reach) (name : Option (List ℕ)) (bytes : List ℕ) (code : WordError) (a : Answer) → IsFirstBroken code bytes

@@ -31,7 +31,7 @@ use Rattle.spv_verdict.proofs.Firsts.{one_first}
 use Rattle.spv_verdict.proofs.Verdicts.{Laws, SameModule, dead_list, same_module}
 use Rattle.spv_form_evidence.specs.words.Evidence as instructions
 use Rattle.spv_explain.specs.Evidence.{IsEvidence}
-use Rattle.spv_explain.specs.Explained.{IsShown, IsShownDead, verdict_in}
+use Rattle.spv_explain.specs.Explained.{IsShown, IsShownDead, IsSpelled, verdict_in}
 use Rattle.spv_lines.specs.Text.{ShownLines}
 use Rattle.spv_fault_lines.specs.declared.fact.Detail.{Detail}
 use Rattle.spv_explain.specs.Lines.{fault_text, malformed_text}
@@ -63,14 +63,14 @@ pub broken_reading : OneListing → (G : Table) (reach : Reach) (words : List �
     → IsHeaderOf words m.header → IsReading G reach (plain_insts m) (drop 5 words)
     → IsRefused G reach m.header.bound (plain_insts m) f n reached
     → IsShownAt G reach n.header.bound (plain_insts n) f e → IsListing G (plain_insts o) (drop 5 words)
-    → o.header.bound ≡ slice_index words 3 → IsBrokenModule G reach words f e o
+    → IsHeaderOf words o.header → IsBrokenModule G reach words f e o
 broken_reading one G reach words m n o f e reached h d r shown l b =
     let bound = slice_index words 3 in
     let same : d.spelled ≡ plain_insts o = one G d.spelled (plain_insts o) (drop 5 words) d.listing l in
     let seen : plain_insts m ≡ looked_at reach (plain_insts o) = d.seen ∙ ap (λ is. looked_at reach is) same in
     record {
       listing = l;
-      bound = b;
+      header = b;
       told = subst (λ is. IsTold G reach bound is (stop.Fault f)) seen (subst (λ k. IsTold G reach k (plain_insts m) (stop.Fault f)) h.bound r.told);
       shown = subst (λ is. IsShownAt G reach bound is f e) (r.same_insts ∙ seen)
           (subst (λ k. IsShownAt G reach k (plain_insts n) f e) (r.same_bound ∙ h.bound) shown);
@@ -85,7 +85,7 @@ broken_fault G reach words f e m h =
 pub answered : {E : Type 0} (G : Table) (reach : Reach) (words : List ℕ) (r : Answer Explained E) → IfOk r (λ e. IsExplained G reach words e)
     → IfOk r (λ e. IsAnswer G reach words (verdict_in e))
 answered G reach words (Ok (explained.Valid c)) h = h
-answered G reach words (Ok (explained.Malformed f place e)) h = IsFault.dead h.0.0 h.0.1
+answered G reach words (Ok (explained.Malformed f e)) h = IsFault.dead h.0.0 h.0.1
 answered G reach words (Ok (explained.Broken f e m)) h = broken_fault G reach words f e m h
 answered G reach words (Err _) h = tt
 
@@ -95,7 +95,7 @@ pub shown : {E : Type 0}
     → ¬ (IsMalformedAt G ws a k n)) → (G : Table) (reach : Reach) (words : List ℕ) (r : Answer Explained E)
     → IfOk r (λ e. IsExplained G reach words e) → IfOk r (λ e. IsShown G reach words e)
 shown one alive G reach words (Ok (explained.Valid c)) h = tt
-shown one alive G reach words (Ok (explained.Malformed f place e)) h = λ is l s.
+shown one alive G reach words (Ok (explained.Malformed f e)) h = λ is l s.
     absurd (alive G is (drop 5 words) f.rule f.inst (f.word - 5) l h.0.1)
 shown one alive G reach words (Ok (explained.Broken f e m)) h = λ is l s.
     let same : plain_insts m ≡ is = one G (plain_insts m) is (drop 5 words) h.listing l in
@@ -105,9 +105,16 @@ shown one alive G reach words (Err _) h = tt
 pub shown_dead : {E : Type 0} (G : Table) (reach : Reach) (words : List ℕ) (r : Answer Explained E)
     → IfOk r (λ e. IsExplained G reach words e) → IfOk r (λ e. IsShownDead G words e)
 shown_dead G reach words (Ok (explained.Valid c)) h = tt
-shown_dead G reach words (Ok (explained.Malformed f place e)) h = λ none. h.1
+shown_dead G reach words (Ok (explained.Malformed f e)) h = λ none. h.1
 shown_dead G reach words (Ok (explained.Broken f e m)) h = λ none. absurd (none (plain_insts m) h.listing)
 shown_dead G reach words (Err _) h = tt
+
+pub spelled_out : {E : Type 0} (G : Table) (reach : Reach) (words : List ℕ) (r : Answer Explained E)
+    → IfOk r (λ e. IsExplained G reach words e) → IfOk r (λ e. IsSpelled G words e)
+spelled_out G reach words (Ok (explained.Valid c)) h = tt
+spelled_out G reach words (Ok (explained.Malformed f e)) h = tt
+spelled_out G reach words (Ok (explained.Broken f e m)) h = record { listing = h.listing; header = h.header }
+spelled_out G reach words (Err _) h = tt
 
 -- lines of a fault
 pub explains : Laws → (z : Detail) (G : Table) (reach : Reach) (bytes words : List ℕ) (order : Order) (f : Fault) (e : Evidence) (m : Module) (shown : List (List ℕ)) (lines : List ℕ) → IsModule order bytes words
@@ -120,7 +127,7 @@ explains laws z G reach bytes words order f e m text lines h b are t = λ ws p j
     let shown : IsShownAt G reach (slice_index ws 3) (looked_at reach js) f e = rw (same.words, same.insts) at b.shown in
     let late : stages.of_profile ≤ stage_of f.rule = subst (λ q. stages.of_profile ≤ stage_of q) (sym one.rule) s in
     let there : IsEvidence G reach (slice_index ws 3) (looked_at reach js) f.rule f.inst e = shown late in
-    let t1 = subst (λ x. lines ≡ fault_text z G x (plain_insts m) text f.rule f.inst e) b.bound t in
+    let t1 = subst (λ x. lines ≡ fault_text z G x (plain_insts m) text f.rule f.inst e) b.header.bound t in
     let t2 = subst (λ x. lines ≡ fault_text z G (slice_index x 3) (plain_insts m) text f.rule f.inst e) same.words t1 in
     let t3 = subst (λ x. lines ≡ fault_text z G (slice_index ws 3) x text f.rule f.inst e) same.insts t2 in
     let t4 = subst (λ x. lines ≡ fault_text z G (slice_index ws 3) js text x f.inst e) one.rule t3 in

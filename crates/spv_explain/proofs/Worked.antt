@@ -24,6 +24,9 @@ use Rattle.spv_layout.specs.Stage as stages
 use Rattle.spv_layout.proofs.Layouts.{leads_first}
 use Rattle.spv_ids.specs.Broken as ids
 use Rattle.spv_ids.specs.Example.{of_void}
+use Rattle.spv_inst.specs.Outcome.{IsHeaderOf}
+use Rattle.spv_module.specs.Module.{plain_insts}
+use Rattle.spv_module.specs.declared.module.Module.{Module}
 use Rattle.spv_inst.proofs.Lists.{listing_same}
 use Rattle.spv_inst.proofs.Worked.{string_listed}
 use Rattle.spv_verdict.specs.Broken.{Broken}
@@ -53,7 +56,7 @@ use Rattle.spv_fault_lines.specs.declared.fact.Fact.TheVariants as fact
 use Rattle.spv_fault_lines.specs.declared.fact.Place.{Place as Standing}
 use Rattle.spv_rules.specs.declared.rules.Code.TheVariants as Code
 use Rattle.spv_explain.specs.Lines.{refused_text, rule_line}
-use Rattle.spv_explain.specs.Stream.{AreLinesOf}
+use Rattle.spv_explain.specs.Stream.{AreLinesOf, IsModuleOf}
 use Rattle.spv_explain.proofs.Sufficing.{of_layout_alone, suffices}
 
 -- lines
@@ -241,3 +244,9 @@ pub string_not_shown : ¬ (IsShownBy small Profile string_words string_fault NoE
 string_not_shown h =
     let e = h (string ∷ []) string_listed (omega arith) in
     no_entry_shows L1 0 NoEntry (of_layout_alone small Profile 9 (string ∷ []) L1 0 NoEntry e (omega arith)) refl
+
+pub string_spelled : (m : Module) → plain_insts m ≡ string ∷ [] → IsHeaderOf string_words m.header → IsModuleOf small string_words m
+string_spelled m e h = record { listing = subst (λ is. IsListing small is (drop 5 string_words)) (sym e) string_listed; header = h }
+
+pub string_not_spelled : (m : Module) → plain_insts m ≡ [] → ¬ (IsModuleOf small string_words m)
+string_not_spelled m e h = (let s : string ∷ [] ≡ plain_insts m = the_string (plain_insts m) h.listing in absurd cc)

@@ -1,6 +1,6 @@
 -- The texts of the worked examples of JSON.
 use Rattle.std.proofs.Common.{◌≡◌, ◌≤◌, ◌-◌, ◌∙◌, ◌++◌, ℕ, List, [], ◌∷◌, Some, None, ap, codes, drop, refl, sym, arith, inl, inr, slice_index}
-use Rattle.std.specs.Prelude.{◌⊎◌}
+use Rattle.std.specs.Prelude.{◌≢◌, ◌⊎◌, false, true}
 use Rattle.std.proofs.lemmas.Fmt.{decimal_digit}
 use Rattle.json.specs.Print.{escape_byte, print_from}
 use Rattle.json.specs.Token.{Token, key as name, string}
@@ -17,12 +17,14 @@ use Rattle.spv_layout.specs.First.{stage_of}
 use Rattle.spv_layout.specs.Stage.{of_profile}
 use Rattle.spv_evidence.specs.declared.evidence.Evidence.{Evidence}
 use Rattle.spv_form_evidence.specs.words.Evidence as instructions
+use Rattle.spv_rules.specs.declared.errors.AnyCode.TheVariants.{Error}
+use Rattle.spv_rules.specs.declared.errors.ErrorCode.TheVariants.{J5}
 use Rattle.spv_verdict.specs.Broken.{Broken}
 use Rattle.spv_verdict.specs.Verdict.{line_end}
 use Rattle.spv_verdict.specs.declared.verdict_line.Judgment.TheVariants as verdicts
 use Rattle.spv_fault_lines.specs.Refused.{front_of}
 use Rattle.spv_fault_lines.specs.json_members.Members.{refused_members}
-use Rattle.spv_explain.specs.Json.{AreMembers, error_object, json_line, object_of}
+use Rattle.spv_explain.specs.Json.{AreMembers, code_line, error_object, json_line, object_of}
 use Rattle.spv_explain.specs.declared.answers.Unread.TheVariants as unread
 use Rattle.spv_explain.proofs.Sufficing.{suffices}
 
@@ -41,10 +43,25 @@ pub escaped_told : json_line (object_of (Some (34 ∷ 27 ∷ [])) verdicts.Valid
 unfolding print_from escape_byte
 escaped_told = refl
 
+pub late_told : json_line (object_of (Some (127 ∷ 194 ∷ 155 ∷ [])) verdicts.Valid []) ≡ codes "{\"file\":\"\\u007f\\u009b\",\"verdict\":\"valid\"}" ++ line_end
+unfolding print_from escape_byte
+late_told = refl
+
 pub unread_told : json_line (error_object (Some (codes "a.spv")) unread.File)
     ≡ codes "{\"file\":\"a.spv\",\"verdict\":\"error\",\"error\":\"file\"}" ++ line_end
 unfolding print_from escape_byte
 unread_told = refl
+
+pub code_told : code_line false (Error J5) ≡ codes "{\"code\":\"J5\",\"rule\":\"Each category and each quantifier is a known one. [own]\",\"section\":\"own\"}" ++ line_end
+unfolding print_from escape_byte
+code_told = refl
+
+pub full_told : code_line true (Error J5) ≡ codes "{\"code\":\"J5\",\"rule\":\"Each category and each quantifier is a known one. [own]\",\"section\":\"own\",\"meaning\":\"an unknown category or quantifier\"}" ++ line_end
+unfolding print_from escape_byte
+full_told = refl
+
+pub not_full_told : code_line true (Error J5) ≢ code_line false (Error J5)
+not_full_told h = (let f : 44 ≡ 125 = ap (λ (t : List ℕ). slice_index t 93) (sym full_told ∙ h ∙ code_told) in absurd (omega (arith, f)))
 
 pub found_told : refused_members word.W2 (front_of (1 ∷ 2 ∷ 3 ∷ [])) ≡ name (codes "found") ∷ string (codes "3 bytes") ∷ []
 found_told = rw (decimal_digit 3 (omega arith)) refl

@@ -14,12 +14,13 @@ use Rattle.spv_verdict.specs.declared.checked.Verdict.TheVariants as verdict
 use Rattle.spv_explain.specs.declared.reading.Explained.{Explained}
 use Rattle.spv_explain.specs.declared.reading.Explained.TheVariants.{Valid, Malformed, Broken}
 use Rattle.spv_explain.specs.Evidence.{IsEvidence}
+use Rattle.spv_explain.specs.Stream.{IsModuleOf}
 use Rattle.spv_form_evidence.specs.words.Evidence as instructions
 
 -- the verdict that is explained
 abbrev pub verdict_in : Explained → Verdict
 verdict_in (Valid c) = verdict.Valid c
-verdict_in (Malformed f place e) = verdict.Fault f
+verdict_in (Malformed f e) = verdict.Fault f
 verdict_in (Broken f e m) = verdict.Fault f
 
 -- A fault of the stages from P on, of words that spell a list of instructions, comes with evidence: of the list as far
@@ -31,7 +32,7 @@ IsShownBy G reach words f e =
 
 abbrev pub IsShown : Table → Reach → List ℕ → Explained → Type 0
 IsShown G reach words (Valid c) = Unit {0}
-IsShown G reach words (Malformed f place e) = IsShownBy G reach words f e
+IsShown G reach words (Malformed f e) = IsShownBy G reach words f e
 IsShown G reach words (Broken f e m) = IsShownBy G reach words f e
 
 -- A fault of words that spell no list of instructions comes with evidence. Its word counts from the module's first.
@@ -42,5 +43,11 @@ IsShownDeadBy G words f e =
 
 abbrev pub IsShownDead : Table → List ℕ → Explained → Type 0
 IsShownDead G words (Valid c) = Unit {0}
-IsShownDead G words (Malformed f place e) = IsShownDeadBy G words f e
+IsShownDead G words (Malformed f e) = IsShownDeadBy G words f e
 IsShownDead G words (Broken f e m) = IsShownDeadBy G words f e
+
+-- A module with a fault is the one that the words spell, with their header.
+abbrev pub IsSpelled : Table → List ℕ → Explained → Type 0
+IsSpelled G words (Valid c) = Unit {0}
+IsSpelled G words (Malformed f e) = Unit {0}
+IsSpelled G words (Broken f e m) = IsModuleOf G words m

@@ -1,6 +1,5 @@
 -- The JSON object of a verdict, and of what shows a fault. (Own.)
-use Rattle.std.specs.Prelude.{◌≡◌, ◌≤◌, ◌++◌, ◌-◌, ◌==◌, ℕ, List, [], ◌∷◌, Option, Some, None, codes, drop, slice_index}
-use Rattle.std.specs.List.{after_first, before_first}
+use Rattle.std.specs.Prelude.{◌≡◌, ◌≤◌, ◌++◌, ◌-◌, ℕ, List, [], ◌∷◌, Bool, true, false, Option, Some, None, codes, drop, flat_map, slice_index}
 use Rattle.json.specs.Print.{print}
 use Rattle.json.specs.Token.{Token, begin_object, end_object}
 use Rattle.spv_words.specs.Header.{IsFirstBroken, IsModule}
@@ -15,9 +14,9 @@ use Rattle.spv_extended.specs.declared.reach.Reach.{Reach}
 use Rattle.spv_extended.specs.Reach.{looked_at}
 use Rattle.spv_layout.specs.First.{stage_of}
 use Rattle.spv_layout.specs.Stage as stages
-use Rattle.spv_rules.specs.Codes.{SaysSentence}
-use Rattle.spv_rules.specs.Errors.{any_name}
-use Rattle.spv_rules.specs.Rules.{name_of, sentence_of}
+use Rattle.spv_rules.specs.Codes.{all_codes}
+use Rattle.spv_rules.specs.Errors.{any_meaning, any_name, any_section, any_sentence}
+use Rattle.spv_rules.specs.Rules.{name_of, section_of, sentence_of}
 use Rattle.spv_rules.specs.declared.errors.AnyCode.{AnyCode}
 use Rattle.spv_rules.specs.declared.rules.Code.{Code}
 use Rattle.spv_rules.specs.declared.rules.Code.TheVariants.{Word, Rule}
@@ -31,19 +30,20 @@ use Rattle.spv_fault_lines.specs.Facts.{facts_of}
 use Rattle.spv_fault_lines.specs.Refused.{front_of}
 use Rattle.spv_fault_lines.specs.Words.{malformed_facts}
 use Rattle.spv_fault_lines.specs.json_members.Members.{members_of, refused_members}
+use Rattle.spv_fault_lines.specs.json_members.Quiet.{quiet_of}
 use Rattle.spv_fault_lines.specs.json_members.Tokens.{number_member, text_member}
 use Rattle.spv_explain.specs.Evidence.{IsEvidence}
 use Rattle.spv_explain.specs.declared.answers.Answer.{Answer}
 use Rattle.spv_explain.specs.declared.answers.Unread.{Unread}
 use Rattle.spv_explain.specs.declared.answers.Unread.TheVariants as unread
 
--- the sources of a sentence: what it has in brackets
-abbrev pub section_of : List ℕ → List ℕ
-section_of sentence = before_first (λ b. b == 93) (after_first (λ b. b == 91) sentence)
-
 -- what a code says, and its sources
-abbrev pub rule_members : List ℕ → List Token
-rule_members sentence = text_member (codes "rule") sentence ++ text_member (codes "section") (section_of sentence)
+abbrev pub rule_members : List ℕ → List ℕ → List Token
+rule_members sentence section = text_member (codes "rule") sentence ++ text_member (codes "section") section
+
+-- of a code of a verdict
+abbrev pub said_members : Code → List Token
+said_members code = rule_members (sentence_of code) (section_of code)
 
 -- a fault's code; for a fault of instructions, the instruction and the word by which it is told
 abbrev pub fault_members : Code → List Token
@@ -54,20 +54,20 @@ place_members f = number_member (codes "inst") f.inst ++ number_member (codes "w
 
 abbrev pub verdict_members : Judgment → List Token
 verdict_members Valid = text_member (codes "verdict") (codes "valid")
-verdict_members (Refused code) = fault_members (Word code) ++ rule_members (sentence_of (Word code))
-verdict_members (Broken f) = fault_members (Rule f.rule) ++ place_members f ++ rule_members (sentence_of (Rule f.rule))
+verdict_members (Refused code) = fault_members (Word code) ++ said_members (Word code)
+verdict_members (Broken f) = fault_members (Rule f.rule) ++ place_members f ++ said_members (Rule f.rule)
 
 -- the name of the file, if one is given
 abbrev pub file_members : Option (List ℕ) → List Token
 file_members None = []
 file_members (Some name) = text_member (codes "file") name
 
--- the object of a verdict, with further members; and one object on a line
+-- the object of a verdict, with further members; and one object on a line, without control characters
 abbrev pub object_of : Option (List ℕ) → Judgment → List Token → List Token
 object_of name j members = begin_object ∷ file_members name ++ verdict_members j ++ members ++ end_object ∷ []
 
 abbrev pub json_line : List Token → List ℕ
-json_line tokens = print tokens ++ 10 ∷ []
+json_line tokens = quiet_of (print tokens) ++ 10 ∷ []
 
 -- The answer has the verdict of the bytes, and its object.
 pub record IsCheckAnswer (G : Table) (reach : Reach) (name : Option (List ℕ)) (bytes : List ℕ)
@@ -111,16 +111,21 @@ abbrev pub error_object : Option (List ℕ) → Unread → List Token
 error_object name e = begin_object ∷ file_members name ++ text_member (codes "verdict") (codes "error")
     ++ text_member (codes "error") (unread_text e) ++ end_object ∷ []
 
--- The tokens are the object of a code: its name and what it says, and maybe where it is broken.
-pub record IsRuleObject (code : AnyCode) (tokens : List Token) : Type 0 where
-  pub sentence : List ℕ
-  pub says : SaysSentence code sentence
-  pub meaning : List Token
-  pub told : tokens ≡ begin_object ∷ text_member (codes "code") (any_name code) ++ rule_members sentence ++ meaning
-      ++ end_object ∷ []
+-- where a code is broken, if that is asked for
+abbrev pub meaning_members : Bool → AnyCode → List Token
+meaning_members false code = []
+meaning_members true code = text_member (codes "meaning") (any_meaning code)
 
--- The text has the objects of codes, one a line.
-pub data AreRuleLines : List AnyCode → List ℕ → Type 0 where
-  end : AreRuleLines [] []
-  more : (code : AnyCode) (further : List AnyCode) (tokens : List Token) (lines : List ℕ) → IsRuleObject code tokens
-      → AreRuleLines further lines → AreRuleLines (code ∷ further) (json_line tokens ++ lines)
+-- the object of a code: its name and what it says, and where it is broken if that is asked for
+abbrev pub rule_object : Bool → AnyCode → List Token
+rule_object full code = begin_object ∷ text_member (codes "code") (any_name code)
+    ++ rule_members (any_sentence code) (any_section code) ++ meaning_members full code ++ end_object ∷ []
+
+-- as a line
+abbrev pub code_line : Bool → AnyCode → List ℕ
+code_line full code = json_line (rule_object full code)
+
+-- what is told of all codes, or of one: the object of each, a line each; of one, with where it is broken
+abbrev pub told_json : Option AnyCode → List ℕ
+told_json None = flat_map (code_line false) all_codes
+told_json (Some code) = code_line true code

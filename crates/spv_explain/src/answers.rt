@@ -1,6 +1,5 @@
 //! What bytes come to as one JSON object on a line.
-ghost use Rattle.std.specs.Prelude.{◌≡◌, ◌++◌, ◌∷◌, ◌-◌, ◌==◌, ℕ, List, [], IfOk, Ok, OnOk, drop, option_map};
-ghost use Rattle.std.specs.List.{after_first, before_first};
+ghost use Rattle.std.specs.Prelude.{◌≡◌, ◌++◌, ◌∷◌, ◌-◌, ℕ, List, [], IfOk, Ok, OnOk, drop, option_map};
 ghost use Rattle.json.specs.Token.{begin_object, end_object};
 ghost use Rattle.spv_words.specs.Header.{IsModule};
 ghost use Rattle.spv_words.specs.declared.words.Order.{Order};
@@ -16,7 +15,6 @@ ghost use Rattle.spv_explain.specs.Json as objects;
 ghost use Rattle.spv_explain.specs.Json.{IsCheckAnswer, IsExplainAnswer, file_members, json_line, object_of, verdict_members};
 
 use crate::reading::{Explained, explained_of};
-use crate::stream::sentence;
 use spv_evidence::Evidence;
 use spv_extended::Reach;
 use spv_fault_lines::json_members::{Output, push_members, push_refused_members};
@@ -63,39 +61,19 @@ impl From<AllocError> for Unread {
     }
 }
 
-/// What a sentence has behind its first bracket.
-fn after_bracket(sentence: &str) -> &str
-    ensures { result.now ≡ after_first (λ b. b == 91) sentence.now }
-{
-    match sentence.split_once('[') {
-        Some((_, rest)) => rest,
-        None => "",
-    }
-}
-
-/// What a text has before its first closing bracket.
-fn before_bracket(text: &str) -> &str
-    ensures { result.now ≡ before_first (λ b. b == 93) text.now }
-{
-    match text.split_once(']') {
-        Some((front, _)) => front,
-        None => text,
-    }
-}
-
-/// The sources of a sentence.
-fn section_of(sentence: &str) -> &str
-    ensures { result.now ≡ objects.section_of sentence.now }
-{
-    before_bracket(after_bracket(sentence))
-}
-
 /// Adds what a code says, and its sources.
-pub fn push_rule(out: &mut Output, sentence: &str) -> Result<(), AllocError>
-    ensures { OnOk result (out.new ≡ out.old ++ objects.rule_members sentence.now) }
+pub fn push_rule(out: &mut Output, sentence: &str, section: &str) -> Result<(), AllocError>
+    ensures { OnOk result (out.new ≡ out.old ++ objects.rule_members sentence.now section.now) }
 {
     out.text_member("rule", sentence)?;
-    out.text_member("section", section_of(sentence))
+    out.text_member("section", section)
+}
+
+/// Adds what a code of a verdict says.
+fn push_said(out: &mut Output, code: Code) -> Result<(), AllocError>
+    ensures { OnOk result (out.new ≡ out.old ++ objects.said_members code) }
+{
+    push_rule(out, code.sentence(), code.section())
 }
 
 /// Adds that there is a fault, and its code.
@@ -119,7 +97,7 @@ fn push_refusal(out: &mut Output, code: WordError) -> Result<(), AllocError>
     ensures { OnOk result (out.new ≡ out.old ++ verdict_members (judgments.Refused code)) }
 {
     push_fault(out, Code::Word(code))?;
-    push_rule(out, sentence(Code::Word(code)))
+    push_said(out, Code::Word(code))
 }
 
 /// Adds a fault of instructions.
@@ -128,7 +106,7 @@ fn push_broken(out: &mut Output, fault: Fault) -> Result<(), AllocError>
 {
     push_fault(out, Code::Rule(fault.rule))?;
     push_place(out, fault)?;
-    push_rule(out, sentence(Code::Rule(fault.rule)))
+    push_said(out, Code::Rule(fault.rule))
 }
 
 /// Adds a verdict.

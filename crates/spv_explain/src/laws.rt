@@ -1,7 +1,7 @@
 //! That evidence suffices, whatever the rule, and worked examples. Each function does nothing: its contract is what is
 //! proved.
 
-ghost use Rattle.std.specs.Prelude.{◌≡◌, ◌≤◌, ◌++◌, ◌-◌, ◌⊎◌, ℕ, List, [], ◌∷◌, Some, None, codes, drop, false, true};
+ghost use Rattle.std.specs.Prelude.{◌≡◌, ◌≢◌, ◌≤◌, ◌++◌, ◌-◌, ◌⊎◌, ℕ, List, [], ◌∷◌, Some, None, codes, drop, false, true};
 ghost use Rattle.std.specs.Prelude.{slice_index};
 ghost use Rattle.json.specs.Token.{Token, key as name, string as text};
 ghost use Rattle.spv_words.specs.Header.{IsModule};
@@ -10,6 +10,7 @@ ghost use Rattle.spv_words.specs.declared.words.WordError.TheVariants.{W2, W4, W
 ghost use Rattle.spv_table.specs.Table.{Table};
 ghost use Rattle.spv_module.specs.Example.{small, string};
 ghost use Rattle.spv_module.specs.Instruction.{IsListing};
+ghost use Rattle.spv_module.specs.Module.{plain_insts};
 ghost use Rattle.spv_module.specs.Operand.{PlainInst};
 ghost use Rattle.spv_module.specs.declared.fault.Fault.{Fault};
 ghost use Rattle.spv_module.specs.declared.fault.Rule.{Rule as AnyRule};
@@ -25,11 +26,14 @@ ghost use Rattle.spv_ids.specs.Example.{of_void};
 ghost use Rattle.spv_form_evidence.specs.words.Evidence as instructions;
 ghost use Rattle.spv_evidence.specs.declared.evidence.Evidence.{Evidence};
 ghost use Rattle.spv_evidence.specs.declared.evidence.Evidence.TheVariants.{MayCome, Miscalled, NoEntry};
+ghost use Rattle.spv_inst.specs.Outcome.{IsHeaderOf};
+ghost use Rattle.spv_rules.specs.declared.errors.AnyCode.TheVariants.{Error};
+ghost use Rattle.spv_rules.specs.declared.errors.ErrorCode.TheVariants.{J5};
 ghost use Rattle.spv_verdict.specs.Broken.{Broken};
 ghost use Rattle.spv_verdict.specs.Verdict.{line_end};
 ghost use Rattle.spv_explain.specs.Evidence.{IsEvidence};
 ghost use Rattle.spv_explain.specs.Example.{labels, many_opcodes, short_call, string_fault, string_words, twice_void};
-ghost use Rattle.spv_explain.specs.Explained.{IsShown};
+ghost use Rattle.spv_explain.specs.Explained.{IsShown, IsSpelled};
 ghost use Rattle.spv_fault_lines.specs.Lines.{line_of};
 ghost use Rattle.spv_fault_lines.specs.Place.{comes_early, open_before, place_of};
 ghost use Rattle.spv_lines.specs.Plain.{plain_of};
@@ -39,7 +43,7 @@ ghost use Rattle.spv_fault_lines.specs.declared.fact.Fact.TheVariants as fact;
 ghost use Rattle.spv_rules.specs.declared.rules.Code.TheVariants.{Rule, Word};
 ghost use Rattle.spv_fault_lines.specs.json_members.Members.{refused_members};
 ghost use Rattle.spv_verdict.specs.declared.verdict_line.Judgment.TheVariants as verdicts;
-ghost use Rattle.spv_explain.specs.Json.{AreMembers, error_object, json_line, object_of, section_of};
+ghost use Rattle.spv_explain.specs.Json.{AreMembers, code_line, error_object, json_line, object_of};
 ghost use Rattle.spv_explain.specs.Lines.{refused_text, rule_line};
 ghost use Rattle.spv_explain.specs.Stream.{AreLinesOf};
 ghost use Rattle.spv_explain.specs.declared.reading.Explained.TheVariants as explained;
@@ -118,6 +122,11 @@ pub fn explained_examples()
     // That there is no entry point does not show it.
     ensures not_shown { (m : Module)
         → ¬ (IsShown small Profile string_words (explained.Broken string_fault NoEntry m)) }
+    // The module that the words spell has this one instruction, and their header.
+    ensures spelled { (m : Module) → plain_insts m ≡ string ∷ [] → IsHeaderOf string_words m.header
+        → IsSpelled small string_words (explained.Broken string_fault NoEntry m) }
+    ensures not_spelled { (m : Module) → plain_insts m ≡ []
+        → ¬ (IsSpelled small string_words (explained.Broken string_fault NoEntry m)) }
 {}
 
 /// A module that calls vloadn of OpenCL.std, number 171, without its last operand.
@@ -131,18 +140,23 @@ pub fn extended_examples()
         → ¬ (IsEvidence G Profile bound (looked_at Profile short_call) Y9 2 e) }
 {}
 
-/// The objects of verdicts, as texts. The sentence of W2 names its source in brackets, and that is the section.
+/// The objects of verdicts and of codes, as texts.
 pub fn json_examples()
     ensures valid { json_line (object_of (Some (codes "a.spv")) verdicts.Valid [])
         ≡ codes "{\"file\":\"a.spv\",\"verdict\":\"valid\"}" ++ line_end }
     ensures unnamed { json_line (object_of None verdicts.Valid []) ≡ codes "{\"verdict\":\"valid\"}" ++ line_end }
     ensures not_named { ¬ (json_line (object_of None verdicts.Valid [])
         ≡ codes "{\"file\":\"\",\"verdict\":\"valid\"}" ++ line_end) }
-    ensures section { section_of (codes "A text ends. [2.3; own]") ≡ codes "2.3; own" }
-    ensures no_section { section_of (codes "A text ends.") ≡ [] }
+    // A code, and one with where it is broken.
+    ensures code { code_line false (Error J5) ≡ codes "{\"code\":\"J5\"," ++ codes "\"rule\":\"Each category and each quantifier "
+        ++ codes "is a known one. [own]\"," ++ codes "\"section\":\"own\"}" ++ line_end }
+    ensures not_full { code_line true (Error J5) ≢ code_line false (Error J5) }
     // A control character is escaped as JSON has it, and so is a quotation mark.
     ensures escaped { json_line (object_of (Some (34 ∷ 27 ∷ [])) verdicts.Valid [])
         ≡ codes "{\"file\":\"\\\"\\u001b\",\"verdict\":\"valid\"}" ++ line_end }
+    // And so are DEL and a control character from U+0080 on.
+    ensures late { json_line (object_of (Some (127 ∷ 194 ∷ 155 ∷ [])) verdicts.Valid [])
+        ≡ codes "{\"file\":\"\\u007f\\u009b\",\"verdict\":\"valid\"}" ++ line_end }
     ensures unread { json_line (error_object (Some (codes "a.spv")) unread.File)
         ≡ codes "{\"file\":\"a.spv\",\"verdict\":\"error\",\"error\":\"file\"}" ++ line_end }
     // What is found in three bytes.

@@ -1,10 +1,11 @@
 //! The verdict on the words of a module, with what shows a fault.
-ghost use Rattle.std.specs.Prelude.{◌≡◌, IfOk, drop, slice_index};
+ghost use Rattle.std.specs.Prelude.{◌≡◌, IfOk, drop};
+ghost use Rattle.spv_inst.specs.Outcome.{IsHeaderOf};
 ghost use Rattle.spv_module.specs.Instruction.{IsListing};
 ghost use Rattle.spv_module.specs.Module.{plain_insts};
 ghost use Rattle.spv_verdict.specs.Answer.{IsAnswer};
 ghost use Rattle.spv_verdict.specs.Judged.{AreWordsOf};
-ghost use Rattle.spv_explain.specs.Explained.{IsShown, IsShownDead, verdict_in};
+ghost use Rattle.spv_explain.specs.Explained.{IsShown, IsShownDead, IsSpelled, verdict_in};
 ghost use Rattle.spv_explain.specs.inner.Reading.{IsExplained};
 
 use crate::evidence::evidence_of;
@@ -15,7 +16,7 @@ use spv_inst::{decode, listed_or_dead, one_listing};
 use spv_module::{Fault, Module, Stop};
 use spv_table::{Memory, Table};
 use spv_verdict::{Checked, Judged, judge, read};
-use spv_words::{Image, word};
+use spv_words::Image;
 use std::alloc::Global;
 
 /// The verdict on the words of a module, and of a fault what shows it.
@@ -27,8 +28,6 @@ pub enum Explained<'a> {
     Malformed {
         /// The rule, the instruction that fails, and the word by which that is told.
         fault: Fault,
-        /// The place of that instruction's first word.
-        place: u32,
         /// What shows that it fails.
         evidence: Evidence,
     },
@@ -43,17 +42,14 @@ pub enum Explained<'a> {
     },
 }
 
-/// The place of the first word of an instruction among the words of an image: the instructions before it tell how many
-/// words they have.
-fn first_word(image: &Image, inst: u32) -> u32 {
-    let mut at = 5u32;
-    for _ in 0..inst {
-        if at >= image.len() {
-            return at;
-        }
-        at = at.saturating_add(word(image, at) >> 16);
-    }
-    at
+/// A module with the header of an image.
+pub fn headed<'a>(image: &Image, module: Module<'a>) -> Module<'a>
+    ensures insts { plain_insts result ≡ plain_insts «module».entry }
+    ensures header { IsHeaderOf image.now result.header }
+{
+    let mut headed = module;
+    headed.header = image.header();
+    headed
 }
 
 /// A module that was read of the words of an image, as they spell it: one that was opened is let go, and the words are
@@ -69,14 +65,14 @@ fn spelled<'a>(
 ) -> Result<Module<'a>, Memory>
     requires read { AreWordsOf table.now reach «module» image.now }
     ensures listing { IfOk result (λ m. IsListing table.now (plain_insts m) (drop 5 image.now)) }
-    ensures bound { IfOk result (λ m. m.header.bound ≡ slice_index image.now 3) }
+    ensures header { IfOk result (λ m. IsHeaderOf image.now m.header) }
 {
     match reach {
-        Reach::Profile => Ok(module),
+        Reach::Profile => Ok(headed(image, module)),
         Reach::Extended => {
             drop(module);
             match decode(alloc, table, image) {
-                Ok(module) => Ok(module),
+                Ok(module) => Ok(headed(image, module)),
                 Err(_) => Err(Memory),
             }
         }
@@ -100,11 +96,7 @@ pub fn explained_of<'a>(
         Ok(module) => module,
         Err(Stop::Fault(fault)) => {
             let evidence = word_evidence(alloc, table, image, fault)?;
-            return Ok(Explained::Malformed {
-                fault,
-                place: first_word(image, fault.inst),
-                evidence,
-            });
+            return Ok(Explained::Malformed { fault, evidence });
         }
         Err(Stop::Memory) => return Err(Memory),
     };
@@ -144,6 +136,8 @@ pub fn explain<'a>(
     ensures shown { IfOk result (λ e. IsShown table.now reach image.now e) }
     // So is that of words that spell no list of instructions.
     ensures dead { IfOk result (λ e. IsShownDead table.now image.now e) }
+    // The module with a fault is the one that the words spell, with their header.
+    ensures spelled { IfOk result (λ e. IsSpelled table.now image.now e) }
 {
     one_listing();
     listed_or_dead();

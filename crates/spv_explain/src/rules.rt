@@ -1,8 +1,8 @@
 //! The codes as JSON objects, one a line.
-ghost use Rattle.std.specs.Prelude.{◌≡◌, ◌++◌, ◌∷◌, List, [], IfOk, OnOk, MatchOption};
-ghost use Rattle.json.specs.Token.{Token};
+ghost use Rattle.std.specs.Prelude.{◌≡◌, ◌++◌, IfOk, OnOk, false, flat_map};
 ghost use Rattle.spv_rules.specs.Codes.{all_codes};
-ghost use Rattle.spv_explain.specs.Json.{AreRuleLines, IsRuleObject};
+ghost use Rattle.spv_explain.specs.Json as objects;
+ghost use Rattle.spv_explain.specs.Json.{code_line, meaning_members, told_json};
 
 use crate::answers::push_rule;
 use spv_fault_lines::json_members::Output;
@@ -11,7 +11,7 @@ use std::alloc::{AllocError, Global};
 
 /// Adds where a code is broken, if that is asked for.
 fn push_meaning(out: &mut Output, code: AnyCode, full: bool) -> Result<(), AllocError>
-    ensures { OnOk result ((meaning : List Token) × (out.new ≡ out.old ++ meaning)) }
+    ensures { OnOk result (out.new ≡ out.old ++ meaning_members full code) }
 {
     if full {
         return out.text_member("meaning", code.meaning());
@@ -21,12 +21,12 @@ fn push_meaning(out: &mut Output, code: AnyCode, full: bool) -> Result<(), Alloc
 
 /// The object of a code.
 fn rule_object(alloc: Global, code: AnyCode, full: bool) -> Result<Output, AllocError>
-    ensures { IfOk result (λ o. IsRuleObject code o) }
+    ensures { IfOk result (λ o. o ≡ objects.rule_object full code) }
 {
     let mut out = Output::new(alloc);
     out.begin_object()?;
     out.text_member("code", code.name())?;
-    push_rule(&mut out, code.sentence())?;
+    push_rule(&mut out, code.sentence(), code.section())?;
     push_meaning(&mut out, code, full)?;
     out.end_object()?;
     Ok(out)
@@ -34,7 +34,7 @@ fn rule_object(alloc: Global, code: AnyCode, full: bool) -> Result<Output, Alloc
 
 /// The object of a code, as a line.
 fn rule_line(alloc: Global, code: AnyCode, full: bool) -> Result<Vec<u8>, AllocError>
-    ensures { IfOk result (λ v. AreRuleLines (code ∷ []) v.items) }
+    ensures { IfOk result (λ v. v.items ≡ code_line full code) }
 {
     let object = rule_object(alloc, code, full)?;
     let text = object.into_line()?;
@@ -50,7 +50,7 @@ fn push_bytes(text: &mut Vec<u8>, bytes: &[u8]) -> Result<(), AllocError>
 
 /// The objects of all codes, in the order of the tables.
 fn all_lines(alloc: Global) -> Result<Vec<u8>, AllocError>
-    ensures { IfOk result (λ v. AreRuleLines all_codes v.items) }
+    ensures { IfOk result (λ v. v.items ≡ flat_map (code_line false) all_codes) }
 {
     let mut text = Vec::new(alloc);
     let mut place = 0;
@@ -67,8 +67,7 @@ fn all_lines(alloc: Global) -> Result<Vec<u8>, AllocError>
 ///
 /// An `AllocError` comes only where a growth of memory was refused.
 pub fn rules_json(alloc: Global, code: Option<AnyCode>) -> Result<Vec<u8>, AllocError>
-    ensures { IfOk result (λ v. MatchOption code (AreRuleLines all_codes v.items)
-        (λ one. AreRuleLines (one ∷ []) v.items)) }
+    ensures { IfOk result (λ v. v.items ≡ told_json code) }
 {
     match code {
         Some(code) => rule_line(alloc, code, true),

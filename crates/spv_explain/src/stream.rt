@@ -11,14 +11,13 @@ ghost use Rattle.spv_verdict.specs.Verdict.{valid_line};
 ghost use Rattle.spv_verdict.specs.Text.{line_of, refusal_of};
 ghost use Rattle.spv_lines.specs.Text.{ShownLines};
 ghost use Rattle.spv_layout.specs.Place.{AreFew};
-ghost use Rattle.spv_rules.specs.Rules.{sentence_of};
 ghost use Rattle.spv_explain.specs.Lines as lines;
 ghost use Rattle.spv_explain.specs.Lines.{fault_text, malformed_text, refused_by};
 ghost use Rattle.spv_explain.specs.Stream.{BeginsExplaining, Explains, IsExplanation, IsModuleIn};
 ghost use Rattle.spv_inst.specs.Outcome.{IsHeaderOf};
 ghost use Rattle.spv_verdict.specs.declared.verdict_line.Judgment.TheVariants as judgments;
 
-use crate::reading::{Explained, explained_of};
+use crate::reading::{Explained, explained_of, headed};
 use spv_evidence::Evidence;
 use spv_extended::Reach;
 use spv_fault_lines::{About, Detail, Front, front_of, push_malformed, push_refused};
@@ -41,21 +40,13 @@ pub struct Explanation {
     pub lines: String,
 }
 
-/// What a code says, in a sentence.
-pub fn sentence(code: Code) -> &'static str
-    ensures { result.now ≡ sentence_of code }
-{
-    let text = code.c_sentence();
-    &text[..text.len() - 1]
-}
-
 /// The line of what a code says.
 fn rule_line(alloc: Global, code: Code) -> Result<String, AllocError>
     ensures { IfOk result (λ t. string_bytes t ≡ lines.rule_line code) }
 {
     let mut text = String::new(alloc);
     text.push_str("rule: ")?;
-    text.push_str(sentence(code))?;
+    text.push_str(code.sentence())?;
     text.push_str("\n")?;
     Ok(text)
 }
@@ -67,16 +58,6 @@ pub struct Told<'a> {
     pub explanation: Explanation,
     /// The module, with texts lent by its image; None where the words spell no list of instructions.
     pub module: Option<Module<'a>>,
-}
-
-/// A module with the header of an image.
-fn headed<'a>(image: &Image, module: Module<'a>) -> Module<'a>
-    ensures insts { plain_insts result ≡ plain_insts «module».entry }
-    ensures header { IsHeaderOf image.now result.header }
-{
-    let mut headed = module;
-    headed.header = image.header();
-    headed
 }
 
 /// The verdict of a valid module, which has no lines, and the module.
@@ -192,7 +173,7 @@ fn told_of<'a>(
             let explanation = broken_told(alloc, table, detail, &module, fault, evidence)?;
             Ok(Told {
                 explanation,
-                module: Some(headed(image, module)),
+                module: Some(module),
             })
         }
         Err(_) => Err(AllocError),

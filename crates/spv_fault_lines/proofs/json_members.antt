@@ -1,1 +1,2 @@
+mod Quieted
 mod Worked

@@ -4,6 +4,7 @@ use Rattle.std.specs.Prelude.{if◌then◌else◌, slice_get}
 use Rattle.std.specs.List.{list_any}
 use Rattle.spv_table.specs.Lookups.{is_number}
 use Rattle.spv_module.specs.Operand.{PlainInst, result_in}
+use Rattle.spv_module.specs.declared.opcode.TheConstants.{TYPE_VECTOR}
 use Rattle.spv_module.specs.declared.fault.Rule.{Rule}
 use Rattle.spv_module.specs.declared.fault.Rule.TheVariants.{D1, L1, L2}
 use Rattle.spv_evidence.specs.declared.condition.Condition.{Condition}
@@ -89,11 +90,17 @@ side_thing is s None = thing.Nothing
 side_thing is side.Number (Some n) = thing.Count n
 side_thing is s (Some x) = thing_of is x
 
--- what lists capabilities, before these
-abbrev pub lister_facts : ℕ → Lister → List Fact
-lister_facts n (lister.Value k) = fact.Operand n k ∷ []
-lister_facts n (lister.Bit k bit) = fact.Operand n k ∷ fact.Bit n k bit ∷ []
-lister_facts n l = []
+-- the operand that is the width or the count of a type: of an OpTypeVector operand 2, and of others operand 1
+abbrev pub width_operand : Option PlainInst → ℕ
+width_operand None = 1
+width_operand (Some i) = if nat_eq i.opcode TYPE_VECTOR then 2 else 1
+
+-- what lists capabilities, before these: at instruction n an operand, a bit of one, or the width or count
+abbrev pub lister_facts : List PlainInst → ℕ → Lister → List Fact
+lister_facts is n lister.Entry = []
+lister_facts is n (lister.Value k) = fact.Operand n k ∷ []
+lister_facts is n (lister.Bit k bit) = fact.Operand n k ∷ fact.Bit n k bit ∷ []
+lister_facts is n lister.Width = fact.Operand n (width_operand (slice_get is n)) ∷ []
 
 -- what the evidence at instruction n tells
 abbrev pub evidence_facts : List PlainInst → ℕ → Evidence → List Fact
@@ -107,7 +114,7 @@ evidence_facts is n (evidence.Defined k m) = fact.Operand n k ∷ fact.Defined m
 evidence_facts is n (evidence.Local k m f) = fact.Operand n k ∷ fact.Defined m ∷ fact.LocalTo f ∷ []
 evidence_facts is n (evidence.Miscast k role m) = fact.Operand n k ∷ fact.Role role ∷ fact.Defined m ∷ []
 evidence_facts is n (evidence.Capability c implied) = fact.Capability c implied ∷ []
-evidence_facts is n (evidence.Needs l) = lister_facts n l ++ (fact.NeedsOneOf n l ∷ [])
+evidence_facts is n (evidence.Needs l) = lister_facts is n l ++ (fact.NeedsOneOf n l ∷ [])
 evidence_facts is n evidence.NoEntry = fact.NoEntry ∷ []
 evidence_facts is n (evidence.Entry part) = fact.Part part ∷ []
 evidence_facts is n (evidence.Condition c k m wanted found types) =

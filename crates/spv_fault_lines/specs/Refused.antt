@@ -1,6 +1,6 @@
 -- What the lines tell of bytes that are no words of a module. (Own.)
-use Rattle.std.specs.Prelude.{◌++◌, ◌+◌, ◌*◌, ◌/◌, ◌%◌, ◌&&◌, ℕ, List, [], ◌∷◌, Option, Some, None, Bool, codes, decimal, length}
-use Rattle.std.specs.Prelude.{nat_eq, nat_lt, slice_index, if◌then◌else◌}
+use Rattle.std.specs.Prelude.{◌++◌, ◌+◌, ◌*◌, ◌/◌, ◌%◌, ◌&&◌, ◌||◌, ℕ, List, [], ◌∷◌, Option, Some, None, Bool, codes, decimal, length}
+use Rattle.std.specs.Prelude.{nat_eq, nat_le, nat_lt, slice_index, if◌then◌else◌}
 use Rattle.spv_words.specs.Header.{magic_number}
 use Rattle.spv_words.specs.Words.{word_of}
 use Rattle.spv_words.specs.declared.words.Order.{Order}
@@ -74,8 +74,33 @@ found_text code.W8 f = Some (codes "more than 16777216 bytes")
 found_text e f = None
 
 -- how a module of an earlier version is read
+abbrev pub version_help : ℕ → Option (List ℕ)
+version_help w = if is_earlier w then Some (codes "--as-1.6 reads it as a module of version 1.6") else None
+
+-- Is a word, the lowest byte first, that with which LLVM bitcode begins: `BC`, 0xC0 and 0xDE, or the magic number
+-- 0x0B17C0DE of a wrapper? [LLVM Bitcode File Format]
+abbrev pub is_bitcode : ℕ → Bool
+is_bitcode w = nat_eq w 3737142082 || nat_eq w 186106078
+
+-- May a byte be one of a text: a printing character of ASCII, a tab (9), a line feed (10) or a carriage return (13)? Are
+-- all four of a word such bytes?
+abbrev pub is_text_byte : ℕ → Bool
+is_text_byte b = nat_le 32 b && nat_lt b 127 || (nat_eq b 9 || (nat_eq b 10 || nat_eq b 13))
+
+abbrev pub is_text : ℕ → Bool
+is_text w = is_text_byte (w % 256) && (is_text_byte (w / 256 % 256)
+    && (is_text_byte (w / 65536 % 256) && is_text_byte (w / 16777216 % 256)))
+
+-- what makes a module of bytes that begin with this word, the lowest byte first
+abbrev pub source_help : ℕ → Option (List ℕ)
+source_help w = if is_bitcode w then Some (codes "it begins as LLVM bitcode, of which llvm-spirv makes a module")
+    else (if is_text w then Some (codes "it begins as a text, of which spv asm makes a module") else None)
+
+-- how bytes are read, or made a module
 abbrev pub help_text : WordError → Front → Option (List ℕ)
-help_text code.W5 f = if is_earlier f.version then Some (codes "--as-1.6 reads it as a module of version 1.6") else None
+help_text code.W3 f = source_help f.magic
+help_text code.W4 f = source_help f.magic
+help_text code.W5 f = version_help f.version
 help_text e f = None
 
 -- `found: 12 bytes`, as a line, where there is something to tell

@@ -1,5 +1,6 @@
 //! The facts of evidence.
-ghost use Rattle.std.specs.Prelude.{◌≡◌, ◌++◌, [], ◌∷◌, option_map, IfOk, OnOk};
+ghost use Rattle.std.specs.Prelude.{◌≡◌, ◌++◌, [], ◌∷◌, nat_eq, option_map, slice_get, if◌then◌else◌, IfOk, OnOk};
+ghost use Rattle.spv_module.specs.declared.opcode.TheConstants.{TYPE_VECTOR};
 ghost use Rattle.spv_module.specs.Module.{plain_inst, plain_insts};
 ghost use Rattle.spv_layout.specs.Place.{AreFew};
 ghost use Rattle.spv_fault_lines.specs.Facts as lists;
@@ -10,7 +11,7 @@ use crate::about::About;
 use crate::fact::{Fact, Place};
 use crate::place::comes_early;
 use spv_evidence::{Condition, Evidence, Listed, Lister};
-use spv_module::{Inst, Rule};
+use spv_module::{Inst, Rule, opcode};
 use std::alloc::AllocError;
 
 /// Adds a fact.
@@ -49,21 +50,11 @@ fn push_parents(facts: &mut Vec<Fact>, wrong: Fact, blocks: Listed<u32>) -> Resu
     push_two(facts, wrong, Fact::Predecessors { blocks })
 }
 
-/// Adds what lists capabilities, and those.
-fn push_needs(facts: &mut Vec<Fact>, inst: u32, lister: Lister) -> Result<(), AllocError>
-    ensures { OnOk result (facts.new.items ≡ facts.old.items ++ (lists.lister_facts inst lister
-        ++ (kinds.NeedsOneOf inst lister ∷ []))) }
+/// The operand that is the width or the count of a type with this opcode.
+fn width_place(code: u16) -> u32
+    ensures { result ≡ (if nat_eq code TYPE_VECTOR then 2 else 1) }
 {
-    match lister {
-        Lister::Entry | Lister::Width => {}
-        Lister::Value { operand } => push_one(facts, Fact::Operand { inst, operand })?,
-        Lister::Bit { operand, bit } => push_two(
-            facts,
-            Fact::Operand { inst, operand },
-            Fact::Bit { inst, operand, bit },
-        )?,
-    }
-    push_one(facts, Fact::NeedsOneOf { inst, lister })
+    if code == opcode::TYPE_VECTOR { 2 } else { 1 }
 }
 
 /// Adds a condition that fails, the operand at which it does and the instruction that defines its id, where there are
@@ -164,7 +155,7 @@ fn push_miscall(
     )
 }
 
-/// Adds the facts of evidence on forms, capabilities, entry points and extended instructions, or those of ids.
+/// Adds the facts of evidence on forms, implied capabilities, entry points and extended instructions, or those of ids.
 fn push_form_facts(facts: &mut Vec<Fact>, inst: u32, evidence: &Evidence) -> Result<(), AllocError>
     ensures { OnOk result (facts.new.items ≡ facts.old.items ++ parts.form_facts inst evidence.now) }
 {
@@ -195,7 +186,6 @@ fn push_form_facts(facts: &mut Vec<Fact>, inst: u32, evidence: &Evidence) -> Res
                 implied: *implied,
             },
         ),
-        Evidence::Needs { lister } => push_needs(facts, inst, *lister),
         Evidence::NoEntry => push_one(facts, Fact::NoEntry),
         Evidence::Entry { part } => push_one(facts, Fact::Part { part: *part }),
         Evidence::Miscalled {
@@ -254,6 +244,40 @@ fn tells_end(rule: Rule) -> bool
 }
 
 impl<'m, 'a> About<'m, 'a> {
+    /// The operand that is the width or the count of the type that an instruction declares.
+    fn width_operand(&self, inst: u32) -> u32
+        ensures { result ≡ lists.width_operand (slice_get (plain_insts self.now.«module».now) inst) }
+    {
+        match self.inst(inst) {
+            Some(inst) => width_place(inst.opcode),
+            None => 1,
+        }
+    }
+
+    /// Adds what lists capabilities, and those.
+    fn push_needs(&self, facts: &mut Vec<Fact>, inst: u32, lister: Lister) -> Result<(), AllocError>
+        ensures { OnOk result (facts.new.items ≡ facts.old.items ++ (lists.lister_facts
+            (plain_insts self.now.«module».now) inst lister ++ (kinds.NeedsOneOf inst lister ∷ []))) }
+    {
+        match lister {
+            Lister::Entry => {}
+            Lister::Value { operand } => push_one(facts, Fact::Operand { inst, operand })?,
+            Lister::Bit { operand, bit } => push_two(
+                facts,
+                Fact::Operand { inst, operand },
+                Fact::Bit { inst, operand, bit },
+            )?,
+            Lister::Width => push_one(
+                facts,
+                Fact::Operand {
+                    inst,
+                    operand: self.width_operand(inst),
+                },
+            )?,
+        }
+        push_one(facts, Fact::NeedsOneOf { inst, lister })
+    }
+
     /// Adds the type that is wanted, if there is one.
     fn push_wanted(&self, facts: &mut Vec<Fact>, wanted: Option<u32>) -> Result<(), AllocError>
         requires few { AreFew (plain_insts self.now.«module».now) }
@@ -315,7 +339,7 @@ impl<'m, 'a> About<'m, 'a> {
         }
     }
 
-    /// Adds the facts of evidence on types, or those of forms and ids.
+    /// Adds the facts of evidence on types and on what lists capabilities, or those of forms and ids.
     fn push_type_facts(
         &self,
         facts: &mut Vec<Fact>,
@@ -327,6 +351,7 @@ impl<'m, 'a> About<'m, 'a> {
             (plain_insts self.now.«module».now) inst evidence.now) }
     {
         match evidence {
+            Evidence::Needs { lister } => self.push_needs(facts, inst, *lister),
             Evidence::Condition {
                 condition,
                 operand,

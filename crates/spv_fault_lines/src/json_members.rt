@@ -5,6 +5,7 @@ pub mod laws;
 mod members;
 mod objects;
 mod output;
+mod quiet;
 
 pub use members::{push_members, push_refused_members};
 pub use output::Output;

@@ -1,15 +1,19 @@
 //! Laws of the definitions, and worked examples. Each function does nothing: its contract is what is proved.
 
-ghost use Rattle.std.specs.Prelude.{◌≡◌, ◌<◌, ℕ, List, [], Some, None, codes, length, MatchOption};
+ghost use Rattle.std.specs.Prelude.{◌≡◌, ◌<◌, ℕ, List, [], ◌∷◌, Some, None, codes, length, MatchOption};
 ghost use Rattle.spv_module.specs.Example.{small};
 ghost use Rattle.spv_module.specs.Operand.{PlainInst};
 ghost use Rattle.spv_module.specs.declared.opcode.TheConstants as opcode;
 ghost use Rattle.spv_layout.specs.Layout.{IsLayout, classes};
 ghost use Rattle.spv_layout.specs.Place.{IsOfFunction, IsOfBlock};
-ghost use Rattle.spv_layout.specs.Example.{small_function};
+ghost use Rattle.spv_layout.specs.Example.{bare, small_function};
+ghost use Rattle.spv_words.specs.declared.words.WordError.TheVariants.{W3, W4};
+ghost use Rattle.spv_evidence.specs.declared.evidence.Lister.TheVariants as lister;
+ghost use Rattle.spv_fault_lines.specs.Facts.{lister_facts};
 ghost use Rattle.spv_fault_lines.specs.Keys.{line_name, member_name};
 ghost use Rattle.spv_fault_lines.specs.Lines.{raw_of};
 ghost use Rattle.spv_fault_lines.specs.Place.{nowhere, place_of};
+ghost use Rattle.spv_fault_lines.specs.Refused.{front_of, help_text};
 ghost use Rattle.spv_fault_lines.specs.Shapes.{row_text};
 ghost use Rattle.spv_fault_lines.specs.declared.fact.Detail.TheVariants.{Short};
 ghost use Rattle.spv_fault_lines.specs.declared.fact.Fact.TheVariants as fact;
@@ -57,4 +61,29 @@ pub fn key_examples()
     // Where there is no least count, a line tells so.
     ensures no_count { raw_of Short small [] [] (fact.Least None) ≡ codes "least: none" }
     ensures not_nothing { ¬ (raw_of Short small [] [] (fact.Least None) ≡ codes "least:") }
+{}
+
+/// What lists capabilities at an OpTypeInt or an OpTypeVector: its width, operand 1, or its count, operand 2.
+pub fn lister_examples()
+    ensures width { lister_facts (bare opcode.TYPE_INT ∷ []) 0 lister.Width ≡ fact.Operand 0 1 ∷ [] }
+    ensures count { lister_facts (bare opcode.TYPE_VECTOR ∷ []) 0 lister.Width ≡ fact.Operand 0 2 ∷ [] }
+    ensures not_width { ¬ (lister_facts (bare opcode.TYPE_VECTOR ∷ []) 0 lister.Width ≡ fact.Operand 0 1 ∷ []) }
+    // The entry of an opcode is no operand.
+    ensures entry { lister_facts (bare opcode.TYPE_INT ∷ []) 0 lister.Entry ≡ [] }
+{}
+
+/// What makes a module of bytes that are none.
+pub fn help_examples()
+    // `BC`, 0xC0 and 0xDE, and the wrapper's magic number.
+    ensures bitcode { help_text W4 (front_of (66 ∷ 67 ∷ 192 ∷ 222 ∷ []))
+        ≡ Some (codes "it begins as LLVM bitcode, of which llvm-spirv makes a module") }
+    ensures wrapper { help_text W3 (front_of (222 ∷ 192 ∷ 23 ∷ 11 ∷ []))
+        ≡ Some (codes "it begins as LLVM bitcode, of which llvm-spirv makes a module") }
+    // `; SP`.
+    ensures text { help_text W4 (front_of (59 ∷ 32 ∷ 83 ∷ 80 ∷ []))
+        ≡ Some (codes "it begins as a text, of which spv asm makes a module") }
+    // What an ELF file begins with is neither: its first byte is 127.
+    ensures neither { help_text W4 (front_of (127 ∷ 69 ∷ 76 ∷ 70 ∷ [])) ≡ None }
+    ensures not_text { ¬ (help_text W4 (front_of (127 ∷ 69 ∷ 76 ∷ 70 ∷ []))
+        ≡ Some (codes "it begins as a text, of which spv asm makes a module")) }
 {}

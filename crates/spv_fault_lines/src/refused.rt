@@ -1,5 +1,5 @@
 //! The lines of bytes that are no words of a module.
-ghost use Rattle.std.specs.Prelude.{◌≡◌, ◌++◌, ◌<◌, ◌∷◌, [], OnOk, IfOk, Some, None, codes, if◌then◌else◌, option_map};
+ghost use Rattle.std.specs.Prelude.{◌≡◌, ◌++◌, ◌<◌, ◌∷◌, [], OnOk, IfOk, option_map};
 ghost use Rattle.std.specs.Prelude.{slice_index, string_bytes};
 ghost use Rattle.spv_fault_lines.specs.Refused as seen;
 ghost use Rattle.spv_fault_lines.specs.inner.Parts as parts;
@@ -163,24 +163,61 @@ pub fn found_in(alloc: Global, code: WordError, front: Front) -> Result<Option<S
 }
 
 /// How a module of an earlier version is read. Nothing of others.
-pub fn help_for(code: WordError, front: Front) -> Option<&'static str>
-    ensures { option_map (λ t. t.now) result ≡ seen.help_text code front }
-{
-    match code {
-        WordError::W5 => help_with(front.version),
-        _ => None,
-    }
-}
-
-/// The same of a version.
-fn help_with(version: u32) -> Option<&'static str>
-    ensures { option_map (λ t. t.now) result ≡ (if seen.is_earlier version
-        then Some (codes "--as-1.6 reads it as a module of version 1.6") else None) }
+fn version_help(version: u32) -> Option<&'static str>
+    ensures { option_map (λ t. t.now) result ≡ seen.version_help version }
 {
     if is_earlier(version) {
         return Some("--as-1.6 reads it as a module of version 1.6");
     }
     None
+}
+
+/// Whether LLVM bitcode, or a wrapper of it, begins with this word.
+fn is_bitcode(word: u32) -> bool
+    ensures { result ≡ seen.is_bitcode word }
+{
+    word == 0xdec0_4342 || word == 0x0b17_c0de
+}
+
+/// Whether a byte may be one of a text.
+fn is_text_byte(byte: u32) -> bool
+    ensures { result ≡ seen.is_text_byte byte }
+{
+    (32 <= byte && byte < 127) || (byte == 9 || (byte == 10 || byte == 13))
+}
+
+/// Whether all four bytes of a word may be of a text.
+fn is_text(word: u32) -> bool
+    ensures { result ≡ seen.is_text word }
+{
+    is_text_byte(word % 256)
+        && (is_text_byte(word / 256 % 256)
+            && (is_text_byte(word / 65536 % 256) && is_text_byte(word / 16777216 % 256)))
+}
+
+/// What makes a module of bytes that begin with this word. Nothing of what is neither LLVM bitcode nor a text.
+fn source_help(word: u32) -> Option<&'static str>
+    ensures { option_map (λ t. t.now) result ≡ seen.source_help word }
+{
+    if is_bitcode(word) {
+        return Some("it begins as LLVM bitcode, of which llvm-spirv makes a module");
+    }
+    if is_text(word) {
+        return Some("it begins as a text, of which spv asm makes a module");
+    }
+    None
+}
+
+/// How bytes that break a code are read, or made a module, by what stands in front of them: where they begin as LLVM
+/// bitcode or a text (W3, W4), or are a module of an earlier version (W5). Nothing of others.
+pub fn help_for(code: WordError, front: Front) -> Option<&'static str>
+    ensures { option_map (λ t. t.now) result ≡ seen.help_text code front }
+{
+    match code {
+        WordError::W3 | WordError::W4 => source_help(front.magic),
+        WordError::W5 => version_help(front.version),
+        _ => None,
+    }
 }
 
 /// Adds the line of a key, where there is something to tell.

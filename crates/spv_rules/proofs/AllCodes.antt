@@ -2,7 +2,7 @@
 use Rattle.std.proofs.Common.{◌≡◌, ◌≤◌, ◌-◌, ◌++◌, ◌∙◌, ℕ, zero, suc, List, [], ◌∷◌, Some, refl, ap, arith, length, map, slice_get}
 use Rattle.spv_rules.specs.declared.errors.AnyCode.{AnyCode}
 use Rattle.spv_rules.specs.declared.errors.AnyCode.TheVariants.{Verdict, Error}
-use Rattle.spv_rules.specs.declared.errors.TheConstants.{ERRORS}
+use Rattle.spv_rules.specs.Errors.{error_codes}
 use Rattle.spv_rules.specs.Codes.{all_codes}
 use Rattle.spv_rules.specs.Table.{Row, row_count, rows}
 
@@ -24,10 +24,10 @@ rows_long = refl
 
 pub verdict_at : (k : ℕ) (row : Row) → slice_get rows k ≡ Some row → slice_get all_codes k ≡ Some (Verdict row.0)
 unfolding all_codes
-verdict_at k row e = among_first rows (map Error ERRORS) k row e
+verdict_at k row e = among_first rows (map Error error_codes) k row e
 
-pub error_at : (k : ℕ) → row_count ≤ k → slice_get all_codes k ≡ slice_get (map Error ERRORS) (k - row_count)
+pub error_at : (k : ℕ) → row_count ≤ k → slice_get all_codes k ≡ slice_get (map Error error_codes) (k - row_count)
 unfolding all_codes
 error_at k l =
     let m : length rows ≤ k = omega (arith, rows_long) in
-    among_last rows (map Error ERRORS) k m ∙ ap (λ n. slice_get (map Error ERRORS) (k - n)) rows_long
+    among_last rows (map Error error_codes) k m ∙ ap (λ n. slice_get (map Error error_codes) (k - n)) rows_long

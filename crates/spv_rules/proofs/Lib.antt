@@ -1,3 +1,6 @@
 mod AllCodes
+mod ErrorRows
+mod Indented
 mod Named
 mod Rows
+pub mod Walk

@@ -1,33 +1,32 @@
 -- Codes that are looked up by name.
-use Rattle.std.proofs.Common.{◌≡◌, ◌∙◌, ◌<◌, ◌≤◌, ◌+◌, ℕ, List, Option, Some, None, refl, ap, sym, subst, inl, inr, arith}
+use Rattle.std.proofs.Common.{◌≡◌, ◌∙◌, ◌<◌, ◌≤◌, ◌+◌, ℕ, List, length, Option, Some, None, refl, ap, sym, subst, inl, inr, arith}
 use Rattle.std.specs.Prelude.{MatchOption, slice_get}
 use Rattle.std.proofs.Math.Nat.{eq-or-lt_of_le}
 use Rattle.std.proofs.lemmas.Option.{same_Some}
-use Rattle.spv_rules.specs.Errors.{any_name, error_name}
+use Rattle.spv_rules.specs.Errors.{any_name, error_codes, error_name}
 use Rattle.spv_rules.specs.Rules.{IsNamed, name_of}
 use Rattle.spv_rules.specs.inner.Found.{IsErrorNamed}
 use Rattle.spv_rules.specs.declared.errors.AnyCode.{AnyCode}
 use Rattle.spv_rules.specs.declared.errors.AnyCode.TheVariants.{Verdict, Error}
 use Rattle.spv_rules.specs.declared.errors.ErrorCode.{ErrorCode}
 use Rattle.spv_rules.specs.declared.errors.ErrorCode.TheVariants as error
-use Rattle.spv_rules.specs.declared.errors.TheConstants.{ERRORS}
 use Rattle.spv_rules.specs.declared.rules.Code.{Code}
 
 -- one code more does not have the name
-pub unnamed_more : (name : List ℕ) (place : ℕ) (this : ErrorCode) → slice_get ERRORS place ≡ Some this → ¬ (IsNamed name (error_name this))
-    → ((n : ℕ) (code : ErrorCode) → n < place → slice_get ERRORS n ≡ Some code → ¬ (IsNamed name (error_name code)))
-    → (n : ℕ) (code : ErrorCode) → n < place + 1 → slice_get ERRORS n ≡ Some code → ¬ (IsNamed name (error_name code))
+pub unnamed_more : (name : List ℕ) (place : ℕ) (this : ErrorCode) → slice_get error_codes place ≡ Some this → ¬ (IsNamed name (error_name this))
+    → ((n : ℕ) (code : ErrorCode) → n < place → slice_get error_codes n ≡ Some code → ¬ (IsNamed name (error_name code)))
+    → (n : ℕ) (code : ErrorCode) → n < place + 1 → slice_get error_codes n ≡ Some code → ¬ (IsNamed name (error_name code))
 unnamed_more name place this at not before n code l g h =
     let within : n ≤ place = omega (arith, l) in
     elim (eq-or-lt_of_le within) [
       | inl e ↦
-          let same : this ≡ code = same_Some this code (sym at ∙ ap (slice_get ERRORS) (sym e) ∙ g) in
+          let same : this ≡ code = same_Some this code (sym at ∙ ap (slice_get error_codes) (sym e) ∙ g) in
           not (subst (λ (c : ErrorCode). IsNamed name (error_name c)) (sym same) h)
       | inr b ↦ before n code b g h
     ]
 
 -- no code of an error has a name that none of the list has
-pub nameless_error : (name : List ℕ) → ((n : ℕ) (code : ErrorCode) → n < 19 → slice_get ERRORS n ≡ Some code → ¬ (IsNamed name (error_name code)))
+pub nameless_error : (name : List ℕ) → ((n : ℕ) (code : ErrorCode) → n < length error_codes → slice_get error_codes n ≡ Some code → ¬ (IsNamed name (error_name code)))
     → (code : ErrorCode) → ¬ (IsNamed name (error_name code))
 nameless_error name none error.J1 = none 0 error.J1 (omega arith) refl
 nameless_error name none error.J2 = none 1 error.J2 (omega arith) refl

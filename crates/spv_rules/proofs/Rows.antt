@@ -1,5 +1,5 @@
 -- What the rows of the table have.
-use Rattle.std.proofs.Common.{◌≡◌, ◌∙◌, ◌<◌, ◌≤◌, ◌+◌, ◌++◌, ℕ, zero, suc, nat_le, List, [], ◌∷◌, refl, sym, ap, true, Some, option_map, length, map, get_or, arith}
+use Rattle.std.proofs.Common.{◌≡◌, ◌∙◌, ◌<◌, ◌≤◌, ◌+◌, ◌-◌, ◌++◌, codes, take, ℕ, zero, suc, nat_le, List, [], ◌∷◌, refl, sym, ap, true, Some, option_map, length, map, get_or, arith}
 use Rattle.std.specs.Prelude.{slice_get}
 use Rattle.std.specs.Char.{to_ascii_lowercase}
 use Rattle.std.specs.List.{range_with_len}
@@ -15,7 +15,7 @@ use Rattle.spv_words.specs.contracts.words.WordError as word
 use Rattle.spv_rules.specs.declared.rules.Code.{Code}
 use Rattle.spv_rules.specs.declared.rules.Code.TheVariants.{Word, Rule}
 use Rattle.spv_rules.specs.declared.table.TheConstants.{WORD_ROWS, FORM_ROWS, TYPE_ROWS}
-use Rattle.spv_rules.specs.Rules.{IsNamed, name_of, number_of, place_of, sentence_of, without_last}
+use Rattle.spv_rules.specs.Rules.{IsNamed, name_of, number_of, place_of, section_of, sentence_of, without_last}
 use Rattle.spv_rules.specs.Table.{Row, Text, row_count, rows}
 use Rattle.spv_rules.specs.inner.Held.{Held, plain}
 
@@ -158,7 +158,7 @@ short_by code row h =
 pub has_row : (code : Code) → (row : Row) × (slice_get rows (place_of code) ≡ Some row)
 has_row code =
     let none : Text = record { now = [] } in
-    let other : Row = (code, 0, none, none, none, none) in
+    let other : Row = (code, 0, none, none, none, none, none) in
     (get_or rows (place_of code) other, slice_get-get_or rows (place_of code) other (omega (arith, how_many, place_below code)))
 
 -- no code has a name that no row has
@@ -174,3 +174,23 @@ pub numberless : (number : ℕ) → ((n : ℕ) (row : Row) → n < row_count →
 numberless number none code e =
     let found = has_row code in
     none (place_of code) found.0 (place_below code) found.1 (number_by code found.0 found.1 ∙ sym e)
+
+-- sentences end with their sources
+sourced : map (λ (row : Row). without_last row.4.now) rows
+    ≡ map (λ (row : Row). take (length row.4.now - (length row.5.now + 4)) row.4.now ++ codes " [" ++ row.5.now ++ codes "]") rows
+unfolding rows
+sourced = refl
+
+-- a text of a row
+pub told_by : (told : Row → List ℕ) (code : Code) (row : Row) → slice_get rows (place_of code) ≡ Some row → told row ≡ get_or (map told rows) (place_of code) []
+told_by told code row h = sym (get_or_from_slice_get (map told rows) (place_of code) (told row) [] (slice_get-map told rows (place_of code) ∙ ap (option_map told) h))
+
+pub sources : (code : Code) → (told : List ℕ) × (sentence_of code ≡ told ++ codes " [" ++ section_of code ++ codes "]")
+sources code =
+    let found = has_row code in
+    let row = found.0 in
+    let s = told_by (λ (r : Row). without_last r.4.now) code row found.1 in
+    let t = told_by (λ (r : Row). r.5.now) code row found.1 in
+    let told = take (length row.4.now - (length row.5.now + 4)) row.4.now in
+    let e = at_place (λ (r : Row). without_last r.4.now) (λ (r : Row). take (length r.4.now - (length r.5.now + 4)) r.4.now ++ codes " [" ++ r.5.now ++ codes "]") sourced (place_of code) row found.1 in
+    (told, sym s ∙ (e ∙ ap (λ z. told ++ codes " [" ++ z ++ codes "]") t))

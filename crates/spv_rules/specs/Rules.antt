@@ -84,3 +84,11 @@ without_last text = take (length text - 1) text
 -- what a code says, in a sentence: that of its row in the table
 abbrev pub sentence_of : Code → List ℕ
 sentence_of code = get_or (map (λ (row : Row). without_last row.4.now) rows) (place_of code) []
+
+-- the sources of that sentence, with which it ends in brackets
+abbrev pub section_of : Code → List ℕ
+section_of code = get_or (map (λ (row : Row). row.5.now) rows) (place_of code) []
+
+-- where a code is broken, a line for each place
+abbrev pub meaning_of : Code → List ℕ
+meaning_of code = get_or (map (λ (row : Row). row.6.now) rows) (place_of code) []

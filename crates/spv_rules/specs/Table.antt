@@ -7,9 +7,10 @@ use Rattle.spv_rules.specs.declared.table.TheConstants.{WORD_ROWS, FORM_ROWS, TY
 abbrev pub Text : Type 0
 Text = record { now : List ℕ }
 
--- a row: the code, its number in C, its name, the name and the sentence as C takes them, and where the code is broken
+-- a row: the code, its number in C, its name, the name and the sentence as C takes them, the sources that the sentence
+-- ends with, and where the code is broken
 abbrev pub Row : Type 0
-Row = Code × ℕ × Text × Text × Text × Text
+Row = Code × ℕ × Text × Text × Text × Text × Text
 
 -- all rows
 unfoldable pub rows : List Row

@@ -1,8 +1,15 @@
-//! Worked examples. A function here does nothing: its contract is what is proved.
+//! Laws of the definitions, and worked examples. A function here does nothing: its contract is what is proved.
 
-ghost use Rattle.std.specs.Prelude.{◌≡◌, ◌≢◌, codes};
+ghost use Rattle.std.specs.Prelude.{◌≡◌, ◌≢◌, ◌++◌, ℕ, List, codes};
 ghost use Rattle.spv_module.specs.declared.fault.Rule.TheVariants.{I1, I12, Y1, Y2, F1, G1, Y9};
+ghost use Rattle.spv_words.specs.declared.words.WordError.TheVariants.{W5};
+ghost use Rattle.spv_rules.specs.Codes.{code_line, indented};
+ghost use Rattle.spv_rules.specs.Errors.{any_meaning, any_section, any_sentence};
 ghost use Rattle.spv_rules.specs.Rules.{IsNamed, number_in, rule_text, two_digits};
+ghost use Rattle.spv_rules.specs.declared.errors.AnyCode.{AnyCode};
+ghost use Rattle.spv_rules.specs.declared.errors.AnyCode.TheVariants.{Error, Verdict};
+ghost use Rattle.spv_rules.specs.declared.errors.ErrorCode.TheVariants.{J5};
+ghost use Rattle.spv_rules.specs.declared.rules.Code.TheVariants.{Word};
 
 /// The codes of rules, as texts.
 pub fn code_examples()
@@ -21,4 +28,20 @@ pub fn code_examples()
     ensures other_number { number_in (codes "P1") ≢ 101 }
     ensures small { IsNamed (codes "i12") (codes "I12") }
     ensures not_small { ¬ (IsNamed (codes "i1") (codes "I12")) }
+{}
+
+/// The sentence of each code ends with its sources, in brackets.
+pub fn sentences_end_with_sources()
+    ensures { (code : AnyCode) → (told : List ℕ)
+        × (any_sentence code ≡ told ++ codes " [" ++ any_section code ++ codes "]") }
+{}
+
+/// What codes say, and the lines of it.
+pub fn sentence_examples()
+    ensures line { code_line (Verdict (Word W5)) ≡ codes "W5: The version, word 1, is 1.6: 0x00010600. [2.3; own]\n" }
+    ensures section { any_section (Verdict (Word W5)) ≡ codes "2.3; own" }
+    ensures not_first { any_section (Verdict (Word W5)) ≢ codes "2.3" }
+    ensures meaning { any_meaning (Error J5) ≡ codes "an unknown category or quantifier" }
+    ensures lines { indented (codes "a\nb") ≡ codes "    a\n    b\n" }
+    ensures not_indented { indented (codes "a\nb") ≢ codes "    a\nb\n" }
 {}

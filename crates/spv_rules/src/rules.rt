@@ -1,16 +1,16 @@
 //! Codes, and what each says: the text of `spv rules`.
-ghost use Rattle.std.specs.Prelude.{◌≡◌, ◌≤◌, ◌<◌, ◌++◌, [], ◌∷◌, Some, MatchOption};
-ghost use Rattle.std.specs.Prelude.{length, map, slice_get};
-ghost use Rattle.spv_rules.specs.Codes.{SaysSentence, all_codes};
-ghost use Rattle.spv_rules.specs.Errors.{any_name};
-ghost use Rattle.spv_rules.specs.Rules.{IsNamed, name_of, number_of, place_of, sentence_of};
+ghost use Rattle.std.specs.Prelude.{◌≡◌, ◌≤◌, ◌<◌, ◌++◌, [], ◌∷◌, Some, IfOk, MatchOption, OnOk};
+ghost use Rattle.std.specs.Prelude.{flat_map, length, map, slice_get, string_bytes};
+ghost use Rattle.spv_rules.specs.Codes.{all_codes, code_line, indented, told_text};
+ghost use Rattle.spv_rules.specs.Errors.{any_meaning, any_name, any_section, any_sentence, error_codes};
+ghost use Rattle.spv_rules.specs.Rules.{IsNamed, meaning_of, name_of, number_of, place_of, section_of, sentence_of};
 ghost use Rattle.spv_rules.specs.Table.{row_count, rows};
 ghost use Rattle.spv_rules.specs.inner.Held.{plain};
+ghost use Rattle.spv_rules.specs.inner.Lines.{indented_line};
 ghost use Rattle.spv_rules.specs.declared.errors.AnyCode.TheVariants.{Error};
-ghost use Rattle.spv_rules.specs.declared.errors.TheConstants.{ERRORS};
 ghost use Rattle.spv_rules.specs.declared.rules.Code.{Code};
 
-use crate::errors::{AnyCode, ERRORS};
+use crate::errors::{AnyCode, error_at, error_count};
 use crate::table::{Row, count, row_at};
 use spv_module::Rule;
 use spv_words::WordError;
@@ -68,8 +68,25 @@ impl Code {
 
     /// What it says, in a sentence, with its sources in brackets: sections of the Khronos SPIR-V Specification 1.6, or
     /// own.
-    pub fn sentence(self) -> &'static str {
-        self.row().4.trim_end_matches('\0')
+    pub fn sentence(self) -> &'static str
+        ensures { result.now ≡ sentence_of self }
+    {
+        let text = self.c_sentence();
+        &text[..text.len() - 1]
+    }
+
+    /// The sources of the sentence.
+    pub fn section(self) -> &'static str
+        ensures { result.now ≡ section_of self }
+    {
+        self.row().5
+    }
+
+    /// Where it is broken: a line for each place.
+    pub fn meaning(self) -> &'static str
+        ensures { result.now ≡ meaning_of self }
+    {
+        self.row().6
     }
 
     /// Its number in C: its letter's hundred, and then its own number, so that I7 is 107 and W2 is 2.
@@ -110,10 +127,10 @@ impl Code {
 
 /// The code of an error at a place among these; None behind the last.
 fn error_code_at(place: usize) -> Option<AnyCode>
-    ensures { result ≡ slice_get (map Error ERRORS) place }
+    ensures { result ≡ slice_get (map Error error_codes) place }
 {
-    if place < ERRORS.len() {
-        return Some(AnyCode::Error(ERRORS[place]));
+    if place < error_count() {
+        return Some(AnyCode::Error(error_at(place)));
     }
     None
 }
@@ -143,57 +160,74 @@ impl AnyCode {
 
     /// What it says, in a sentence, with its sources in brackets.
     pub fn sentence(self) -> &'static str
-        ensures { SaysSentence self result.now }
+        ensures { result.now ≡ any_sentence self }
     {
         match self {
-            AnyCode::Verdict(code) => verdict_sentence(code),
+            AnyCode::Verdict(code) => code.sentence(),
             AnyCode::Error(code) => code.sentence(),
         }
     }
 
-    /// Where it is broken, or when it is told: a line for each place.
-    pub fn meaning(self) -> &'static str {
+    /// The sources of the sentence.
+    pub fn section(self) -> &'static str
+        ensures { result.now ≡ any_section self }
+    {
         match self {
-            AnyCode::Verdict(code) => code.row().5,
+            AnyCode::Verdict(code) => code.section(),
+            AnyCode::Error(code) => code.section(),
+        }
+    }
+
+    /// Where it is broken, or when it is told: a line for each place.
+    pub fn meaning(self) -> &'static str
+        ensures { result.now ≡ any_meaning self }
+    {
+        match self {
+            AnyCode::Verdict(code) => code.meaning(),
             AnyCode::Error(code) => code.meaning(),
         }
     }
 }
 
-/// What a code of a verdict says.
-fn verdict_sentence(code: Code) -> &'static str
-    ensures { result.now ≡ sentence_of code }
+/// Adds the line of a code: its name and its sentence.
+fn push_code(out: &mut String, code: AnyCode) -> Result<(), AllocError>
+    ensures { OnOk result (string_bytes out.new ≡ string_bytes out.old ++ code_line code) }
 {
-    let text = code.c_sentence();
-    &text[..text.len() - 1]
+    out.push_str(code.name())?;
+    out.push_str(": ")?;
+    out.push_str(code.sentence())?;
+    out.push_str("\n")
 }
 
-/// Adds the line of a code: its name and its sentence.
-fn push_sentence(out: &mut String, name: &str, sentence: &str) -> Result<(), AllocError> {
-    out.push_str(name)?;
-    out.push_str(": ")?;
-    out.push_str(sentence)?;
+/// Adds a line after four spaces.
+fn push_indented(out: &mut String, line: &str) -> Result<(), AllocError>
+    ensures { OnOk result (string_bytes out.new ≡ string_bytes out.old ++ indented_line line.now) }
+{
+    out.push_str("    ")?;
+    out.push_str(line)?;
     out.push_str("\n")
 }
 
 /// Adds where a code is broken, each line of it after four spaces.
-fn push_meaning(out: &mut String, meaning: &str) -> Result<(), AllocError> {
-    for line in meaning.lines() {
-        out.push_str("    ")?;
-        out.push_str(line)?;
-        out.push_str("\n")?;
+fn push_meaning(out: &mut String, meaning: &str) -> Result<(), AllocError>
+    ensures { OnOk result (string_bytes out.new ≡ string_bytes out.old ++ indented meaning.now) }
+{
+    let mut rest = meaning;
+    while let Some((line, more)) = rest.split_once('\n') {
+        push_indented(out, line)?;
+        rest = more;
     }
-    Ok(())
+    push_indented(out, rest)
 }
 
 /// Adds the line of each code.
-fn push_sentences(out: &mut String) -> Result<(), AllocError> {
-    for place in 0..count() {
-        let code = row_at(place).0;
-        push_sentence(out, code.name(), code.sentence())?;
-    }
-    for code in &ERRORS {
-        push_sentence(out, code.name(), code.sentence())?;
+fn push_codes(out: &mut String) -> Result<(), AllocError>
+    ensures { OnOk result (string_bytes out.new ≡ string_bytes out.old ++ flat_map code_line all_codes) }
+{
+    let mut place = 0;
+    while let Some(code) = code_at(place) {
+        push_code(out, code)?;
+        place += 1;
     }
     Ok(())
 }
@@ -202,18 +236,16 @@ fn push_sentences(out: &mut String) -> Result<(), AllocError> {
 /// one is asked for, that line and where it is broken.
 ///
 /// An `AllocError` comes only where a growth of memory was refused.
-pub fn rules_text(alloc: Global, code: Option<AnyCode>) -> Result<String, AllocError> {
+pub fn rules_text(alloc: Global, code: Option<AnyCode>) -> Result<String, AllocError>
+    ensures { IfOk result (λ t. string_bytes t ≡ told_text code) }
+{
     let mut out = String::new(alloc);
     match code {
-        Some(AnyCode::Verdict(code)) => {
-            push_sentence(&mut out, code.name(), code.sentence())?;
-            push_meaning(&mut out, code.row().5)?;
-        }
-        Some(AnyCode::Error(code)) => {
-            push_sentence(&mut out, code.name(), code.sentence())?;
+        Some(code) => {
+            push_code(&mut out, code)?;
             push_meaning(&mut out, code.meaning())?;
         }
-        None => push_sentences(&mut out)?,
+        None => push_codes(&mut out)?,
     }
     Ok(out)
 }

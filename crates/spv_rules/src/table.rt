@@ -8,11 +8,13 @@ use crate::rules::Code;
 use spv_module::Rule;
 use spv_words::WordError;
 
-/// A row: a code, its number in C, its name, the name and the sentence as C takes them, and where the code is broken, a
-/// line for each place at which it is told. C takes a text with a zero octet at its end.
+/// A row: a code, its number in C, its name, the name and the sentence as C takes them, the sources that the sentence
+/// ends with, and where the code is broken, a line for each place at which it is told. C takes a text with a zero octet
+/// at its end.
 pub type Row = (
     Code,
     u32,
+    &'static str,
     &'static str,
     &'static str,
     &'static str,
@@ -29,6 +31,7 @@ macro_rules! row {
             stringify!($variant),
             concat!(stringify!($variant), "\0"),
             concat!($sentence, " [", $sources, "]\0"),
+            $sources,
             $broken,
         )
     };

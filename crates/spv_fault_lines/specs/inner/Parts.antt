@@ -29,21 +29,21 @@ id_facts n (evidence.Local k m f) = fact.Operand n k ∷ fact.Defined m ∷ fact
 id_facts n (evidence.Miscast k role m) = fact.Operand n k ∷ fact.Role role ∷ fact.Defined m ∷ []
 id_facts n e = []
 
--- on forms, capabilities and extended instructions, or on ids
+-- on forms, implied capabilities and extended instructions, or on ids
 abbrev pub form_facts : ℕ → Evidence → List Fact
 form_facts n (evidence.Opcode opcode) = fact.Opcode opcode ∷ []
 form_facts n (evidence.Due opcode k kind) = fact.Opcode opcode ∷ fact.Failing k ∷ fact.Due kind ∷ []
 form_facts n (evidence.Shape opcode known) = fact.Opcode opcode ∷ fact.Row opcode ∷ []
 form_facts n (evidence.Capability c implied) = fact.Capability c implied ∷ []
-form_facts n (evidence.Needs l) = lister_facts n l ++ (fact.NeedsOneOf n l ∷ [])
 form_facts n evidence.NoEntry = fact.NoEntry ∷ []
 form_facts n (evidence.Entry part) = fact.Part part ∷ []
 form_facts n (evidence.Miscalled number operands least most) =
     fact.Number number ∷ fact.Operands operands ∷ fact.Least least ∷ fact.Most most ∷ []
 form_facts n e = id_facts n e
 
--- on types, or on forms and ids
+-- on types and what lists capabilities, or on forms and ids
 abbrev pub typed_facts : List PlainInst → ℕ → Evidence → List Fact
+typed_facts is n (evidence.Needs l) = lister_facts is n l ++ (fact.NeedsOneOf n l ∷ [])
 typed_facts is n (evidence.Condition c k m wanted found types) =
     failing_facts n c k m ++ (type_facts is types ++ compared_facts is wanted found)
 typed_facts is n (evidence.Mismatch s wanted found of) = fact.Differs s ∷ asked_facts is of

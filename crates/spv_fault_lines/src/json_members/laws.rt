@@ -6,6 +6,7 @@ ghost use Rattle.spv_module.specs.Example.{small, string as one_string};
 ghost use Rattle.spv_fault_lines.specs.declared.fact.Fact.TheVariants as fact;
 ghost use Rattle.spv_fault_lines.specs.declared.fact.Thing.TheVariants as thing;
 ghost use Rattle.spv_fault_lines.specs.json_members.Members.{member_of};
+ghost use Rattle.spv_fault_lines.specs.json_members.Quiet.{quiet_of};
 
 /// Members of facts, of a module that has the one instruction %5 = OpString "abc".
 pub fn member_examples()
@@ -30,4 +31,14 @@ pub fn member_examples()
     // Where there is no greatest count, it is null.
     ensures no_count { member_of small [] [] (fact.Most None) ≡ name (codes "most") ∷ null ∷ [] }
     ensures not_zero { ¬ (member_of small [] [] (fact.Most None) ≡ name (codes "most") ∷ number (codes "0") ∷ []) }
+{}
+
+/// JSON texts without control characters.
+pub fn quiet_examples()
+    // DEL, and U+009B, which is two bytes.
+    ensures delete { quiet_of (34 ∷ 127 ∷ 34 ∷ []) ≡ codes "\"\\u007f\"" }
+    ensures late { quiet_of (97 ∷ 194 ∷ 155 ∷ 97 ∷ []) ≡ codes "a\\u009ba" }
+    ensures not_late { ¬ (quiet_of (194 ∷ 155 ∷ []) ≡ 194 ∷ 155 ∷ []) }
+    // U+00A9 is none.
+    ensures kept { quiet_of (194 ∷ 169 ∷ []) ≡ 194 ∷ 169 ∷ [] }
 {}

@@ -1,5 +1,6 @@
 //! A JSON text that is written token by token.
 
+use super::quiet::quieted;
 use crate::Key;
 use json::Writer;
 use std::alloc::{AllocError, Global};
@@ -9,6 +10,7 @@ use std::marker::Model;
 /// its tokens.
 #[derive(Drop)]
 pub struct Output {
+    alloc: Global,
     writer: Writer<Global>,
 }
 
@@ -29,6 +31,7 @@ impl Output {
     ghost use Rattle.std.specs.Prelude.{◌≡◌, ◌++◌, ◌∷◌, [], IfOk, OnOk, codes};
     ghost use Rattle.json.specs.Print.{print};
     ghost use Rattle.json.specs.Token.{begin_array, begin_object, boolean, end_array, end_object, key as name, null, string};
+    ghost use Rattle.spv_fault_lines.specs.json_members.Quiet.{quiet_of};
     ghost use Rattle.spv_fault_lines.specs.json_members.Tokens as tokens;
 
     /// A text without tokens. It takes no memory.
@@ -36,18 +39,19 @@ impl Output {
         ensures { result ≡ [] }
     {
         Output {
+            alloc,
             writer: Writer::new(Vec::new(alloc)),
         }
     }
 
-    /// The text as one line.
+    /// The text as one line, without control characters: DEL and those from U+0080 to U+009F stand as JSON escapes them.
     ///
     /// An `AllocError` comes only where a growth of memory was refused, as it does of each of these calls.
     pub fn into_line(self) -> Result<Vec<u8>, AllocError>
-        ensures { IfOk result (λ v. v.items ≡ print self ++ 10 ∷ []) }
+        ensures { IfOk result (λ v. v.items ≡ quiet_of (print self) ++ 10 ∷ []) }
     {
-        let Output { writer } = self;
-        let mut bytes = writer.into_inner();
+        let Output { alloc, writer } = self;
+        let mut bytes = quieted(alloc, writer.into_inner())?;
         bytes.push(b'\n')?;
         Ok(bytes)
     }

@@ -1,4 +1,4 @@
-use Rattle.spv_explain.proofs.Readings.{answered, shown, shown_dead}
+use Rattle.spv_explain.proofs.Readings.{answered, shown, shown_dead, spelled_out}
 use Rattle.spv_explain.proofs.reading.explain.Goals as goal
 
 pub returns-clause-verdict : goal.returns-clause-verdict
@@ -10,3 +10,6 @@ returns-clause-shown c =
 
 pub returns-clause-dead : goal.returns-clause-dead
 returns-clause-dead c = shown_dead c.args.table.now c.args.reach c.args.image.now _ c.explained_of.ensures
+
+pub returns-clause-spelled : goal.returns-clause-spelled
+returns-clause-spelled c = spelled_out c.args.table.now c.args.reach c.args.image.now _ c.explained_of.ensures

@@ -54,4 +54,4 @@ returns-in_ok-spelled-in-Broken c =
     let m = c.in-Ok.module in
     let j = subst (λ j. IsJudged G reach m.header.bound (plain_insts m) j) c.in-Broken.is c.in_ok-checked.ensures in
     broken_reading c.one_listing.ensures G reach c.args.image.now m c.in-Broken.module _ c.in-Broken.fault _ _ c.in-Ok.ensures.header
-    c.in-Ok.ensures.found j (c.in_ok-evidence-in-Broken.ensures reach (rw (j.same_bound, j.same_insts) j.refused)) c.in_ok-spelled-in-Broken.ensures.listing c.in_ok-spelled-in-Broken.ensures.bound
+    c.in-Ok.ensures.found j (c.in_ok-evidence-in-Broken.ensures reach (rw (j.same_bound, j.same_insts) j.refused)) c.in_ok-spelled-in-Broken.ensures.listing c.in_ok-spelled-in-Broken.ensures.header

@@ -1,5 +1,4 @@
-use Rattle.std.proofs.Common.{◌-◌, ℕ, Ok, arith, drop, length-drop, subst, sym}
-use Rattle.spv_module.specs.Instruction.{IsListing}
+use Rattle.std.proofs.Common.{◌-◌, ℕ, Ok, arith, drop, length-drop, subst}
 use Rattle.spv_module.specs.Module.{plain_insts}
 use Rattle.spv_verdict.proofs.Verdicts.{Laws}
 use Rattle.spv_explain.specs.inner.Reading.{IsExplained}
@@ -83,8 +82,5 @@ returns-in_ok-explanation-in-Ok-Broken c =
           broken_told {E = ℕ} laws c.args.detail G reach bytes words order c.in-Ok-Broken.fault c.in-Ok-Broken.evidence m t.lines
           (Ok c.in_ok-explanation-in-Ok-Broken.explanation) h b t.shown c.in_ok-explanation-in-Ok-Broken.ensures.verdict
           (c.in_ok-explanation-in-Ok-Broken.ensures.lines t.lines t.shown);
-      decoded = λ e. record {
-        listing = subst (λ x. IsListing G x (drop 5 words)) (sym c.headed.ensures.insts) b.listing;
-        header = c.headed.ensures.header;
-      };
+      decoded = λ e. record { listing = b.listing; header = b.header };
     }

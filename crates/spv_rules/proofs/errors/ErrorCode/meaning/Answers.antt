@@ -1,0 +1,7 @@
+use Rattle.spv_rules.specs.Errors.{ErrorRow}
+use Rattle.spv_rules.specs.inner.Held.{plain_error}
+use Rattle.spv_rules.proofs.ErrorRows.{told_by}
+use Rattle.spv_rules.proofs.errors.ErrorCode.meaning.Goals as goal
+
+pub returns : goal.returns
+returns c = told_by (λ (row : ErrorRow). row.4.now) c.args.self (plain_error c.row.result.now) c.row.ensures
