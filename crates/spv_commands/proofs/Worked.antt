@@ -1,5 +1,5 @@
 -- Worked examples of grammar files.
-use Rattle.std.proofs.Common.{◌∷◌, ◌+◌, ◌<◌, ℕ, List, Option, false, ap, arith, get_or, length, length-append, ◌≡◌, ◌++◌, [], Some, None, IsUtf8, codes, refl, sym}
+use Rattle.std.proofs.Common.{◌∷◌, ◌+◌, ◌<◌, ℕ, List, Option, false, true, ap, arith, get_or, length, length-append, ◌≡◌, ◌++◌, [], Some, None, IsUtf8, codes, refl, sym}
 use Rattle.std.specs.Borrow.{Bor}
 use Rattle.spv_words.specs.Header.{IsFirstBroken}
 use Rattle.spv_words.specs.declared.words.WordError.TheVariants.{W2}
@@ -20,7 +20,8 @@ use Rattle.spv_commands.specs.Example.{empty_grammar}
 use Rattle.spv_builtin.specs.Source.{IsTableOf}
 use Rattle.json.specs.Print.{print}
 use Rattle.spv_rules.specs.declared.errors.AnyCode.{AnyCode}
-use Rattle.spv_explain.specs.Json.{AreRuleLines, json_line}
+use Rattle.spv_explain.specs.Json.{json_line, rule_object, told_json}
+use Rattle.spv_fault_lines.specs.json_members.Quiet.{quiet_of}
 use Rattle.spv_verdict.specs.Verdict.{line_end}
 
 -- the text of two empty lists, and no text at all
@@ -43,12 +44,11 @@ pub nothing_given : (G : Table) → ¬ (IsTableOf (Some []) G)
 nothing_given G t = let e = t.is_tree in let n = nothing_read in cc
 
 -- an object has a line
-pub no_object : (code : AnyCode) (text : List ℕ) → text ≡ [] → ¬ (AreRuleLines (code ∷ []) text)
-no_object _ _ e (AreRuleLines.more code further tokens lines told rest) =
-    let l : length (json_line tokens ++ lines) ≡ 0 = ap length e in
-    let m : length (json_line tokens ++ lines) ≡ length (json_line tokens) + length lines = length-append (json_line tokens) lines in
-    let n : length (json_line tokens) ≡ length (print tokens) + 1 = length-append (print tokens) (10 ∷ []) in
-    omega (arith, l, m, n)
+pub no_object : (code : AnyCode) → ¬ ([] ≡ told_json (Some code))
+no_object code e =
+    let l : 0 ≡ length (json_line (rule_object true code)) = ap length e in
+    let n : length (json_line (rule_object true code)) ≡ length (quiet_of (print (rule_object true code))) + 1 = length-append (quiet_of (print (rule_object true code))) (10 ∷ []) in
+    omega (arith, l, n)
 
 -- a text of three bytes is answered by the line of its fault
 pub show_answers : (g : Option (Bor (List ℕ))) (f : Bor (List ℕ)) (G : Table) → IsTableOf (Some empty_grammar) G → IsFirstBroken W2 (1 ∷ 2 ∷ 3 ∷ [])

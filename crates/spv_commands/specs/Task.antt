@@ -1,5 +1,5 @@
 -- What a command does, by the text of its grammar file, or by the built-in grammar (own).
-use Rattle.std.specs.Prelude.{◌≡◌, ◌∷◌, [], ℕ, List, Option, Some, None, Bool, true, false, IfSome, IsUtf8, option_map, if◌then◌else◌}
+use Rattle.std.specs.Prelude.{◌≡◌, ℕ, List, Option, Some, None, Bool, true, false, IfSome, IsUtf8, option_map, if◌then◌else◌}
 use Rattle.std.specs.Borrow.{Bor}
 use Rattle.std.specs.Io.KnownBytes.{Appends}
 use Rattle.spv_table.specs.Table.{Table}
@@ -21,9 +21,9 @@ use Rattle.spv_commands.specs.Show.{Shows}
 use Rattle.spv_commands.specs.Trace.{HasNoEntry, Traces}
 use Rattle.spv_words.specs.Version.{as_1_6 as version_1_6}
 use Rattle.spv_verdict.specs.Stream.{TellsVerdict}
-use Rattle.spv_rules.specs.Codes.{all_codes}
+use Rattle.spv_rules.specs.Codes.{told_text}
 use Rattle.spv_rules.specs.declared.errors.AnyCode.{AnyCode}
-use Rattle.spv_explain.specs.Json.{AreRuleLines}
+use Rattle.spv_explain.specs.Json.{told_json}
 use Rattle.spv_explain.specs.Stream.{Explains}
 use Rattle.spv_fault_lines.specs.declared.fact.Detail.{Detail}
 use Rattle.spv_fault_lines.specs.declared.fact.Detail.TheVariants.{Short, Full}
@@ -59,11 +59,10 @@ taken as_1_6 bytes = if as_1_6 then version_1_6 bytes else bytes
 abbrev pub taken_by : Command → List ℕ → List ℕ
 taken_by command bytes = taken (takes_as_1_6 command) bytes
 
--- The text is what codes say, of all or of one: as lines, of which nothing is promised, or an object of JSON for each.
+-- The text is what codes say, of all or of one: as lines, or as an object of JSON for each.
 abbrev pub AreRules : Option AnyCode → Bool → List ℕ → Type 0
-AreRules code false text = Unit {0}
-AreRules None true text = AreRuleLines all_codes text
-AreRules (Some code) true text = AreRuleLines (code ∷ []) text
+AreRules code false text = text ≡ told_text code
+AreRules code true text = text ≡ told_json code
 
 -- The standard output that held the bytes `old`, where they are known, now also holds such a text, and nothing else.
 pub record WritesRules (code : Option AnyCode) (json : Bool) (old new : Option (List ℕ)) : Type 0 where

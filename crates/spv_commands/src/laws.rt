@@ -21,6 +21,8 @@ ghost use Rattle.spv_verdict.specs.declared.run.parts.Ending.TheVariants.{Finish
 ghost use Rattle.spv_commands.specs.Task.{DoesByText, MakesNothing, ReadsNoFile};
 ghost use Rattle.spv_commands.specs.Task.{AreRules, WritesGrammar, taken};
 ghost use Rattle.spv_rules.specs.declared.errors.AnyCode.{AnyCode};
+ghost use Rattle.spv_rules.specs.declared.errors.AnyCode.TheVariants.{Error};
+ghost use Rattle.spv_rules.specs.declared.errors.ErrorCode.TheVariants.{J5};
 ghost use Rattle.spv_commands.specs.Trouble.{BeginsWith, Gets, Writes, file_line, memory_line, unread_trouble};
 ghost use Rattle.spv_commands.specs.Streams.{IsAnswered, IsDone};
 ghost use Rattle.spv_commands.specs.Answer.{Answers, IsRefusal};
@@ -225,8 +227,10 @@ pub fn part_examples()
 
 /// Worked examples of what codes say.
 pub fn rule_examples()
-    // As lines any text may be written; an object of a code is never left out.
-    ensures lines { AreRules None false (codes "W1") }
+    // What one code says, as lines; an object of a code is never left out.
+    ensures lines { AreRules (Some (Error J5)) false (codes "J5: Each category and each quantifier is a known one. "
+        ++ codes "[own]\n    an unknown category or quantifier\n") }
+    ensures no_line { ¬ (AreRules (Some (Error J5)) false (codes "J5")) }
     ensures no_object { (code : AnyCode) → ¬ (AreRules (Some code) true []) }
 {}
 

@@ -2,6 +2,7 @@
 ghost use Rattle.std.specs.Prelude.{◌≡◌, ◌++◌, ◌∷◌, [], ℕ, List, Option, Some, None, codes, false};
 ghost use Rattle.spv_table.specs.Table.{Table};
 ghost use Rattle.spv_builtin.specs.Text.{IsGrammarText};
+ghost use Rattle.spv_rules.specs.Codes.{told_text};
 ghost use Rattle.spv_rules.specs.declared.errors.AnyCode.{AnyCode};
 ghost use Rattle.spv_command_line.specs.declared.command_line.Command.{Command};
 ghost use Rattle.spv_command_line.specs.declared.command_line.Command.TheVariants.{Rules};
@@ -51,7 +52,7 @@ pub fn ending_examples()
     ensures no_entry { (text : Option (List ℕ)) → IsErrorLine text ⊥ (Unit {0}) ⊥ entry_line }
     ensures no_function { (text : Option (List ℕ)) → IsErrorLine text ⊥ ⊥ (Unit {0}) function_line }
     ensures no_failure { (text : Option (List ℕ)) → ¬ (IsErrorLine text ⊥ ⊥ ⊥ file_line) }
-    ensures rules { (code : Option AnyCode) → RunsRules (Rules code false) (writer_of (codes "W1")) (λ line. ⊥) 0 }
+    ensures rules { (code : Option AnyCode) → RunsRules (Rules code false) (writer_of (told_text code)) (λ line. ⊥) 0 }
     ensures no_rules { (command : Command) → ¬ (RunsRules command (writer_of []) (λ line. ⊥) 1) }
 {}
 
