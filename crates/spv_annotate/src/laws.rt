@@ -22,16 +22,16 @@ ghost use Rattle.spv_annotate.specs.Notes.{call_note, comment, name_notes, short
 ghost use Rattle.spv_annotate.specs.Piece.{Block, Comment, Function, Section, text_of};
 ghost use Rattle.spv_annotate.specs.Values.{float_of, widened};
 
-/// Taking away the comments of the text for reading, the spaces before them and empty lines gives exactly the shown
-/// lines, each control character as `\xNN`, and literals of extended instructions without `%`: those of the header, and
-/// those of the instructions that were asked for, which are all where no function was.
+/// Taking away the line of the verdict, the comments of the text for reading, the spaces before them and empty lines
+/// gives exactly the shown lines, each control character as `\xNN`, and literals of extended instructions without `%`:
+/// those of the header, and those of the instructions that were asked for, which are all where no function was.
 pub fn bare_text_is_shown()
     ensures asked { (G : Table) (m : Module) (told : Option Finding) (function : Option ℕ) (S : Subject)
         → IsSpelled G (plain_insts m) → IsSubject G m told function S
-        → bare_text (flat_map (text_of false) (document S)) ≡ ended (S.header ++ asked_lines S) }
+        → bare_text told (flat_map (text_of false) (document S)) ≡ ended (S.header ++ asked_lines S) }
     ensures whole { (G : Table) (m : Module) (told : Option Finding) (S : Subject)
         → IsSpelled G (plain_insts m) → IsSubject G m told None S
-        → bare_text (flat_map (text_of false) (document S))
+        → bare_text told (flat_map (text_of false) (document S))
         ≡ ended (S.header ++ map (λ n. plain_of (line_of S n)) (range_with_len 0 (length S.insts))) }
 {}
 
@@ -102,7 +102,10 @@ pub fn bare_examples()
     // A `;` in quotes begins none.
     ensures quotes { bare (codes "%2 = OpString \"a;\\\"b\" ; c") ≡ codes "%2 = OpString \"a;\\\"b\"" }
     ensures not_before { ¬ (bare (codes "OpNop   ; inst 1") ≡ codes "OpNop   ") }
-    ensures lines { bare_text (codes "a\nb\nc\nd\ne ; f\n\nOpNop ; inst 0\n; ^ rule\n")
+    ensures lines { bare_text None (codes "a\nb\nc\nd\ne ; f\n\nOpNop ; inst 0\n; ^ rule\n")
         ≡ codes "a\nb\nc\nd\ne ; f\nOpNop\n" }
+    // Where a fault is told, its line stands first.
+    ensures verdict { (f : Finding) → bare_text (Some f) (codes "; fault\na\nb\nc\nd\ne\nOpNop ; inst 0\n")
+        ≡ codes "a\nb\nc\nd\ne\nOpNop\n" }
     ensures dim { text_of true (Comment (codes " ; a")) ≡ (27 ∷ codes "[2m ; a") ++ (27 ∷ codes "[0m") }
 {}
