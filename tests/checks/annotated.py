@@ -9,7 +9,7 @@ import pty
 import subprocess
 import threading
 
-from reading.annotate import DIM, PLAIN, RED, Reading, differences, opencl_names, shown_of
+from reading.annotate import DIM, PLAIN, RED, VERDICT, Reading, differences, opencl_names, shown_of
 from reading.assemble import assembled
 from reading.facts import FUNCTION, Facts
 from reading.text import visible
@@ -149,7 +149,7 @@ def cases_read(program, folder):
 
 # Notes.
 
-FLOATS = (0x3DCCCCCD, 0, 0x80000000, 0x3F800000, 0x7F800000, 0xFF800000, 0x7FC00000, 1, 0x7F7FFFFF, 0x4B800000)
+FLOATS = (0x3DCCCCCD, 0, 0x80000000, 0x3F800000, 0x7F800000, 0xFF800000, 0x7FC00001, 1, 0x7F7FFFFF, 0x4B800000)
 DOUBLES = (0x3FB999999999999A, 0, 1 << 63, 0x7FF << 52, 0x7FF8000000000001, 1, 0x7FEFFFFFFFFFFFFF, 0x4340000000000000)
 HALVES = (0x3C00, 0, 0x8000, 0x7C00, 0xFC00, 0x7E00, 1, 0x7BFF, 0x2E66)
 # (what of a name takes forty octets in a page, and what takes more)
@@ -173,6 +173,7 @@ DECLARATIONS = [
     '%49 = OpExtInstImport "OpenCL.DebugInfo.100"',
     "OpMemoryModel Physical64 OpenCL",
     'OpEntryPoint Kernel %10 "k;k"',
+    'OpEntryPoint Kernel %10 "ke;rnel"',
     "OpExecutionMode %10 ContractionOff",
     '%52 = OpString "a ; b"',
     'OpName %10 "ke;rnel"',
@@ -230,7 +231,7 @@ def noted(program, folder):
     path.write_bytes(content)
     wrong = module_differs(program, folder, GRAMMAR, Facts(grammar_read, content), path)
     text = text_of(asked(program, folder, "annotate", path))
-    wanted = ["%17 sum", ", sqrt", "from %13 %15", "; inst 0 word 5", "ke;rnel"]
+    wanted = ["NaN 0x7fc00001", "NaN 0x7ff8000000000001", "NaN 0x7e00", "%17 sum", ", sqrt", "from %13 %15", "; inst 0 word 5", "ke;rnel"]
     wanted += [" 171 %60 %17 2 ", " 176 %60 %17 %11 3 ", " %49 6 %60 4 ", " %51 171 %60 %17 %2 "]
     lacking = [it for it in wanted if it not in text]
     return wrong or (f"  lacks {lacking}:\n{text}" if lacking else None)
@@ -275,18 +276,20 @@ def uncoloured(text):
 
 
 def coloured(program, folder):
-    """With `--color=always` each comment is dim, and each line below a fault red; without them the text is the same."""
+    """With `--color=always` each comment is dim, and the line of the verdict and each below a fault red; without them
+    the text is the same."""
     for path in (KERNEL, BROKEN):
         plain = text_of(asked(program, folder, "annotate", path)).split("\n")
         for words in (["--color=always"], ["--color", "always"]):
             lines = text_of(asked(program, folder, "annotate", *words, path)).split("\n")
             if [uncoloured(line) for line in lines] != plain:
                 return f"  {path.name} {words}: {lines}"
-        for line in lines[5:]:
+        top = int(uncoloured(lines[0]).startswith(VERDICT))
+        for line in [*lines[:top], *lines[top + 5 :]]:
             at = line.find("; ")
             if at < 0:
                 continue
-            is_mark = uncoloured(line).startswith("; ^ ")
+            is_mark = uncoloured(line).startswith((VERDICT, "; ^ "))
             order = RED if is_mark else DIM
             if not line[:at].rstrip(" ").endswith(order) or not line.endswith(PLAIN) or line.count("\x1b") != 2:
                 return f"  {path.name}: {line!r}"

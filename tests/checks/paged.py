@@ -13,9 +13,9 @@ from dataclasses import dataclass, field
 from html.parser import HTMLParser
 from typing import Dict, List, Optional, Union
 
-from reading.annotate import Reading
+from reading.annotate import VERDICT, Reading
 from reading.assemble import assembled
-from reading.facts import FUNCTION, LABEL, Facts
+from reading.facts import FUNCTION, FUNCTION_END, LABEL, Facts
 from reading.text import visible
 from reading.verdict import grammar_in
 
@@ -207,9 +207,9 @@ class Marked:
         return self.text.count("\n", 0, at)
 
 
-def links_differ(root, facts, is_part=False):
-    """What is wrong with the links of the lines: an id leads to the line that defines it, and a definition to its uses.
-    On a page of one function a link may lead to an instruction of another part of the module, which is not there."""
+def links_differ(root, facts):
+    """What is wrong with the links of the lines: an id leads to the line that defines it, and a definition to its uses,
+    as far as they are on the page. No link leads nowhere."""
     found, marked, (anchors, twice) = [], Marked(root), anchors_of(root)
     lines = marked.lines
     if twice:
@@ -218,9 +218,7 @@ def links_differ(root, facts, is_part=False):
     for link in root.all("a"):
         target = anchors.get(link.attributes.get("href", "#")[1:])
         if target is None:
-            number = link.attributes.get("href", "")[1:]
-            if not is_part or not number.isdigit() or int(number) >= len(facts.insts):
-                found.append(f"a link to {link.attributes.get('href')}, which is not there")
+            found.append(f"a link to {link.attributes.get('href')}, which is not there")
         elif id(link) in marked.begins and id(target) in marked.begins:
             at, line, word = marked.line_at(link), lines[marked.line_at(target)], link.text()
             linked.add((at, word))
@@ -247,7 +245,8 @@ def unlinked(root, facts, marked, linked):
     place_of, found, users, reading = places_of(marked.lines), [], {}, Reading(facts)
     for number in range(len(facts.insts)):
         for of in dict.fromkeys(reading.ids(number, ("Type", "Id"))):
-            users.setdefault(facts.first.get(of), []).append(f"#{number}")
+            if number in place_of:
+                users.setdefault(facts.first.get(of), []).append(f"#{number}")
             is_shown = number in place_of and facts.first.get(of) in place_of
             if is_shown and (place_of[number], f"%{of}") not in linked:
                 found.append(f"%{of} of {marked.lines[place_of[number]]!r} is no link")
@@ -279,13 +278,36 @@ def contents_differ(root, facts, text):
     return found
 
 
+def verdict_differs(root, facts, text):
+    """What is wrong with the line of the verdict above the contents, which leads to its instruction if that is there,
+    and with the function that is marked."""
+    nav, found, (anchors, _) = only(root, "nav"), [], anchors_of(root)
+    told = text.split("\n")[0][2:] if text.startswith(VERDICT) else None
+    if [it.text() for it in nav.all("p")] != ([told] if told else []):
+        found.append(f"{[it.text() for it in nav.all('p')]} above the contents of {told}")
+    inst = int(re.search(r" inst (\d+) ", told)[1]) if told else None
+    wanted = [f"#{inst}"] if str(inst) in anchors else []
+    links = [it.attributes.get("href") for place in nav.all("p") for it in place.all("a")]
+    if links != wanted:
+        found.append(f"{told} leads to {links}, and not {wanted}")
+    functions = [*Reading(facts).function_of(), None]
+    faulty = functions[inst] if told else None
+    if told and inst == len(facts.insts) and inst > 0 and facts.insts[-1].opcode != FUNCTION_END:
+        faulty = functions[inst - 1]
+    marked = [it.attributes.get("class") for it in nav.all("summary")]
+    heads = [number for number, it in enumerate(facts.insts) if it.opcode == FUNCTION and str(number) in anchors]
+    if marked != [None, *("fault" if it == faulty else None for it in heads)]:
+        found.append(f"the contents are marked {marked}, where the fault is of {faulty}")
+    return found
+
+
 def lines_of(root):
     """The text of a page's lines: that of its part `main`, behind a first line feed."""
     text = only(root, "main").text()
     return text[1:] if text.startswith("\n") else text
 
 
-def page_differs(page, facts, text, name, is_part=False):
+def page_differs(page, facts, text, name):
     """None if a page is that of a text for reading, else what is wrong."""
     root, wrong = tree_of(page)
     found = form_differs(page, root, wrong, name)
@@ -294,7 +316,7 @@ def page_differs(page, facts, text, name, is_part=False):
         at = next((at for at, pair in enumerate(zip(got, wanted)) if pair[0] != pair[1]), min(len(got), len(wanted)))
         found.append(f"line {at + 1} reads {got[at : at + 1]}, and not {wanted[at : at + 1]}")
     else:
-        found += links_differ(root, facts, is_part) + contents_differ(root, facts, text)
+        found += links_differ(root, facts) + contents_differ(root, facts, text) + verdict_differs(root, facts, text)
     return "\n".join(f"  {it}" for it in found[:9]) or None
 
 
@@ -311,7 +333,7 @@ def module_differs(program, folder, facts, path):
         elif (got.err, got.status) != (b"", 0):
             wrong = f"  {got}"
         else:
-            wrong = page_differs(text_of(got), facts, text_of(plain), str(path), bool(words))
+            wrong = page_differs(text_of(got), facts, text_of(plain), str(path))
         if wrong:
             return f"  {' '.join(words)}\n{wrong}"
     return None

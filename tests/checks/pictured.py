@@ -133,11 +133,11 @@ def odd(text):
 
 
 def named(insts, opcode, places):
-    """The first name that instructions of an opcode give to each id: the places of the id and the name."""
+    """The names that instructions of an opcode give to each id, in order: the places of the id and the name."""
     found = {}
     for inst in insts:
         if inst.opcode == opcode:
-            found.setdefault(inst.operands[places[0]][1], inst.operands[places[1]][1])
+            found.setdefault(inst.operands[places[0]][1], []).append(inst.operands[places[1]][1])
     return found
 
 
@@ -159,7 +159,8 @@ def calls_wanted(facts):
     names, entries = named(insts, NAME, (0, 1)), named(insts, ENTRY, (1, 2))
     for body in bodies_of(insts):
         of = insts[body[0]].result
-        lines = [f"%{of}", *(odd(known[of]) for known in (names, entries) if of in known)]
+        told = [*names.get(of, ())[:1], *entries.get(of, ())]
+        lines = [f"%{of}", *(odd(name) for name in told)]
         is_defined = any(insts[it].opcode == LABEL for it in body)
         wanted.nodes[str(of)] = Node(lines, is_dashed=not is_defined, is_double=of in entries)
         for it in body:

@@ -13,7 +13,7 @@ from .facts import FUNCTION, FUNCTION_END, LABEL
 from .text import visible
 
 COLUMN = 48
-NAME, IMPORT, EXTENDED, CONSTANT, SPEC_CONSTANT, FLOAT = 5, 11, 12, 43, 50, 22
+NAME, IMPORT, EXTENDED, ENTRY, CONSTANT, SPEC_CONSTANT, FLOAT = 5, 11, 12, 15, 43, 50, 22
 BRANCH, CONDITIONAL, SWITCH = 249, 250, 251
 OPENCL = "OpenCL.std"
 OPENCL_FILE = Path("/usr/include/spirv/unified1/extinst.opencl.std.100.grammar.json")
@@ -26,6 +26,7 @@ MOST_OF_NAME, TOLD_OF_NAME = 40, (40, 20, 10, 6)
 FORMS = {16: ("<e", "<f"), 32: ("<f", "<f"), 64: ("<d", "<d")}
 IDS = ("Type", "Result", "Id")
 UNQUOTED = re.compile(r'"(?:[^"\\]|\\.)*"|;')
+VERDICT = "; fault "
 DIM, RED, PLAIN = "\x1b[2m", "\x1b[31m", "\x1b[0m"
 
 
@@ -84,25 +85,28 @@ def uncommented(line):
 
 
 def shown_of(text):
-    """The text of `show` that a text for reading has: without comments, the spaces before them and empty lines, behind
-    the header."""
+    """The text of `show` that a text for reading has: without the line of the verdict, comments, the spaces before them
+    and empty lines, behind the header."""
     lines = text.split("\n")
     assert lines.pop() == "", "the last line has no line feed"
+    lines = lines[lines[0].startswith(VERDICT) :]
     return [*lines[:5], *filter(None, map(uncommented, lines[5:]))]
 
 
 class Decimal:
-    """A note that is the decimal value of a number of a float type: any text that reads back as it will do."""
+    """A note that is the decimal value of a number of a float type: any text that reads back as it will do. Of what is
+    no number it has the bits."""
 
     def __init__(self, low, high, width):
         form, self.wide = FORMS[width]
         octets = (high << 32 | low).to_bytes(8, "little")
         self.value = struct.unpack(form, octets[: width // 8])[0]
+        self.bits = octets[: width // 8][::-1].hex()
 
     def is_told_by(self, text):
         """Whether a text is this number."""
         if math.isnan(self.value):
-            return text.lower().lstrip("-") == "nan"
+            return text == f"NaN 0x{self.bits}"
         return struct.pack(self.wide, float(text)) == struct.pack(self.wide, self.value)
 
 
@@ -114,7 +118,7 @@ class Reading:
         self.names, self.sets = {}, {}
         for inst in self.insts:
             if inst.opcode == NAME:
-                self.names.setdefault(inst.operands[0][1], short(inst.operands[1][1]))
+                self.names.setdefault(inst.operands[0][1], inst.operands[1][1])
         for of, number in facts.first.items():
             inst = self.insts[number]
             if inst.opcode == IMPORT:
@@ -171,9 +175,11 @@ class Reading:
     def notes(self, number):
         """The notes on an instruction, in order."""
         inst, found = self.insts[number], []
+        entry = [it[1] for it in inst.operands[1:3]] if inst.opcode == ENTRY else []
         for of in self.ids(number) if inst.opcode != NAME else ():
-            if of in self.names:
-                found.append(f"%{of} {self.names[of]}")
+            # (an OpEntryPoint that has the name of its function is not followed by it)
+            if of in self.names and [of, self.names[of]] != entry:
+                found.append(f"%{of} {short(self.names[of])}")
         if inst.opcode == EXTENDED and self.sets.get(inst.operands[2][1]) == OPENCL:
             name = opencl_names().get(inst.operands[3][1])
             found += [name] if name else []
@@ -205,9 +211,11 @@ class Reading:
         return parts
 
     def lines(self, asked=None):
-        """All lines, each as its parts; where a function is asked for those of it alone behind the header."""
+        """All lines, each as its parts, that of the verdict first; where a function is asked for those of it alone
+        behind the header."""
         functions = self.function_of()
-        found = [[line] for line in header(self.facts.words)]
+        found = [[f"; {line}"] for line in self.finding[:1]]
+        found += [[line] for line in header(self.facts.words)]
         for number in range(len(self.insts)):
             of = functions[number]
             if asked is None or of is not None and self.insts[of].result == asked:

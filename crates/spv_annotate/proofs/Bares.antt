@@ -1,5 +1,5 @@
 -- Taking away the comments of the text for reading gives the shown lines.
-use Rattle.std.proofs.Common.{◌≡◌, ◌≢◌, ◌<◌, ◌+◌, ◌++◌, ◌∙◌, ℕ, zero, suc, List, [], ◌∷◌, Option, Some, None, Bool, true, false, not, ◌&&◌, refl, sym, ap, arith, append_assoc, subst, length, take, drop, filter, map}
+use Rattle.std.proofs.Common.{◌≡◌, ◌≢◌, ◌<◌, ◌+◌, ◌++◌, ◌∙◌, ℕ, zero, suc, List, [], ◌∷◌, Option, Some, None, Bool, true, false, not, ◌&&◌, refl, sym, ap, arith, append_assoc, subst, length, take, drop, filter, map, get_or}
 use Rattle.std.specs.Prelude.{codes, decimal, if◌then◌else◌, is_some, nat_eq, nat_lt}
 use Rattle.std.specs.List.{AllByRecursion, flat_map, list_all, range_with_len}
 use Rattle.std.proofs.lemmas.Bool.Decides.{nat_tests}
@@ -18,8 +18,8 @@ use Rattle.spv_lines.proofs.Showing.{AreLines, lines-append, lines_ended}
 use Rattle.spv_lines.specs.Plain as plain
 use Rattle.spv_lines.specs.Plain.{is_control, is_late_control, plain_byte, plain_of}
 use Rattle.spv_annotate.specs.declared.finding.Finding.{Finding}
-use Rattle.spv_annotate.specs.Bare.{Outside, asked_lines, bare, bare_lines, bare_text, before_comment, is_blank, trimmed}
-use Rattle.spv_annotate.specs.Document.{IsSpelled, IsSubject, Subject, beginning, begun, document, ending, entries, entry, header_piece, is_of, line_of, line_pieces, mark_piece, marks}
+use Rattle.spv_annotate.specs.Bare.{Outside, asked_lines, bare, bare_below, bare_lines, bare_text, before_comment, below_verdict, is_blank, trimmed}
+use Rattle.spv_annotate.specs.Document.{IsSpelled, IsSubject, Subject, beginning, begun, document, ending, entries, entry, header_piece, is_of, line_of, line_pieces, mark_piece, marks, verdict_line, verdict_piece}
 use Rattle.spv_annotate.specs.Module.{inst_at, open_function, section_before, section_of}
 use Rattle.spv_annotate.specs.Notes.{column, comment, gap, notes, place_text}
 use Rattle.spv_annotate.specs.Piece.{PlainPiece, text_of}
@@ -214,8 +214,32 @@ ending_text S = split (is_of S.insts S.asked (length S.insts))
     split true = marks_text S.finding (length S.insts)
     split false = refl
 
-document_text : (S : Subject) → written (document S) ≡ ended (S.header ++ later_lines S)
-document_text S =
+-- the line of the verdict, if a fault is told
+abbrev verdict_lines : Option Finding → List (List ℕ)
+verdict_lines None = []
+verdict_lines (Some f) = (codes "; " ++ verdict_line f) ∷ []
+
+verdict_text : (o : Option Finding) → written (verdict_piece o) ≡ ended (verdict_lines o)
+verdict_text None = refl
+verdict_text (Some f) = refl
+
+first_feedless : (ls : List (List ℕ)) → AreLines ls → NoFeed (get_or ls 0 [])
+first_feedless [] h = tt
+first_feedless (l ∷ ls) h = h.0
+
+verdict_feedless : (o : Option Finding) → AreLines (verdict_lines o)
+verdict_feedless None = tt
+verdict_feedless (Some f) = (
+  feedless-append (codes "; ") (verdict_line f) (no_feed_by (codes "; ") refl) (first_feedless (lines_of f.lines.now) (lines_feedless f.lines.now)),
+  tt,
+)
+
+below_same : (o : Option Finding) (ls : List (List ℕ)) → below_verdict o (verdict_lines o ++ ls) ≡ ls
+below_same None ls = refl
+below_same (Some f) ls = refl
+
+below_text : (S : Subject) → written (flat_map header_piece S.header ++ entries S) ≡ ended (S.header ++ later_lines S)
+below_text S =
     let r = range_with_len 0 (length S.insts) in
     flat_map-append (text_of false) (flat_map header_piece S.header) (entries S)
     ∙ (ap (λ z. z ++ written (entries S)) (header_text S.header)
@@ -225,6 +249,15 @@ document_text S =
     ∙ (ap (λ z. ended (flat_map (entry_lines S) r) ++ z) (ending_text S)
     ∙ sym (ended-append (flat_map (entry_lines S) r) (ending_lines S)))))
     ∙ sym (ended-append S.header (later_lines S))))
+
+document_text : (S : Subject) → written (document S) ≡ ended (verdict_lines S.finding ++ (S.header ++ later_lines S))
+document_text S =
+    let v = verdict_lines S.finding in
+    let below = flat_map header_piece S.header ++ entries S in
+    flat_map-append (text_of false) (verdict_piece S.finding) below
+    ∙ (ap (λ z. z ++ written below) (verdict_text S.finding)
+    ∙ (ap (λ z. ended v ++ z) (below_text S)
+    ∙ sym (ended-append v (S.header ++ later_lines S))))
 
 -- None of these lines has a line feed.
 
@@ -357,12 +390,15 @@ bare_later S q e =
     ∙ (nothing_behind (bare_lines (flat_map (entry_lines S) (range_with_len 0 (length S.insts))))
     ∙ bare_range (entry_lines S) (is_of S.insts S.asked) (λ n. plain_of (line_of S n)) 0 (length S.insts) (λ n l. bare_entry S n (told_quiet S.insts (inst_at S.insts n) (inst_line S.lines n) (quiet_at S.lines n q (omega arith))))))
 
-bare_ended : (a b d e f : List ℕ) (ls : List (List ℕ)) → AreLines (a ∷ b ∷ d ∷ e ∷ f ∷ ls)
-    → bare_text (ended (a ∷ b ∷ d ∷ e ∷ f ∷ ls)) ≡ ended ((a ∷ b ∷ d ∷ e ∷ f ∷ []) ++ bare_lines ls)
-bare_ended a b d e f ls h = ap (λ ms. ended (take 5 ms ++ bare_lines (drop 5 ms))) (lines_ended (a ∷ b ∷ d ∷ e ∷ f ∷ ls) h)
+bare_ended : (o : Option Finding) (a b d e f : List ℕ) (ls : List (List ℕ)) → AreLines (a ∷ b ∷ d ∷ e ∷ f ∷ ls)
+    → bare_text o (ended (verdict_lines o ++ (a ∷ b ∷ d ∷ e ∷ f ∷ ls))) ≡ ended ((a ∷ b ∷ d ∷ e ∷ f ∷ []) ++ bare_lines ls)
+bare_ended o a b d e f ls h =
+    let all = a ∷ b ∷ d ∷ e ∷ f ∷ ls in
+    ap (λ ms. ended (bare_below (below_verdict o ms))) (lines_ended (verdict_lines o ++ all) (lines-append (verdict_lines o) all (verdict_feedless o) h))
+    ∙ ap (λ ms. ended (bare_below ms)) (below_same o all)
 
 pub bare_document : (G : Table) (m : Module) (told : Option Finding) (asked : Option ℕ) (S : Subject) → IsSpelled G (plain_insts m) → IsSubject G m told asked S
-    → bare_text (written (document S)) ≡ ended (S.header ++ asked_lines S)
+    → bare_text told (written (document S)) ≡ ended (S.header ++ asked_lines S)
 bare_document G m told asked S s t =
     let is = plain_insts m in
     let v : AreValues S.insts S.values = subst (λ (xs : List PlainInst). AreValues xs S.values) (sym t.insts) t.values in
@@ -370,8 +406,11 @@ bare_document G m told asked S s t =
     let n = shown_count G [] is S.lines t.lines ∙ ap length (sym t.insts) in
     let lf = later_feedless S v in
     let al = lines-append (header_lines m.header) (later_lines S) (header_feedless m.header) lf in
-    ap bare_text (document_text S ∙ ap (λ h. ended (h ++ later_lines S)) t.header)
-    ∙ (bare_ended (codes "; SPIR-V") (codes "; Version: 1.6") (codes "; Generator: " ++ decimal m.header.generator) (codes "; Bound: " ++ decimal m.header.bound) (codes "; Schema: 0") (later_lines S) al
+    let below = header_lines m.header ++ later_lines S in
+    ap (bare_text told) (document_text S
+    ∙ (ap (λ h. ended (verdict_lines S.finding ++ (h ++ later_lines S))) t.header
+    ∙ ap (λ o. ended (verdict_lines o ++ below)) t.finding))
+    ∙ (bare_ended told (codes "; SPIR-V") (codes "; Version: 1.6") (codes "; Generator: " ++ decimal m.header.generator) (codes "; Bound: " ++ decimal m.header.bound) (codes "; Schema: 0") (later_lines S) al
     ∙ (ap (λ ls. ended (header_lines m.header ++ ls)) (bare_later S q n)
     ∙ ap (λ h. ended (h ++ asked_lines S)) (sym t.header)))
 
@@ -387,6 +426,6 @@ none_asked S None e = ap (map (λ k. plain_of (line_of S k))) (filter_all (range
 none_asked S (Some x) e = cc
 
 pub bare_whole : (G : Table) (m : Module) (told : Option Finding) (S : Subject) → IsSpelled G (plain_insts m) → IsSubject G m told None S
-    → bare_text (written (document S)) ≡ ended (S.header ++ map (λ n. plain_of (line_of S n)) (range_with_len 0 (length S.insts)))
+    → bare_text told (written (document S)) ≡ ended (S.header ++ map (λ n. plain_of (line_of S n)) (range_with_len 0 (length S.insts)))
 bare_whole G m told S s t =
     bare_document G m told None S s t ∙ ap (λ ls. ended (S.header ++ ls)) (none_asked S S.asked t.asked)

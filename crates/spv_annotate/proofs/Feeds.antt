@@ -21,8 +21,11 @@ use Rattle.spv_extended.specs.declared.set.Set.{Set}
 use Rattle.spv_extended.specs.declared.set.Set.TheVariants.{OpenClStd, OpenClDebugInfo, DebugInfo, Other}
 use Rattle.spv_annotate.specs.Called.{called_by, ids_of}
 use Rattle.spv_annotate.specs.Module.{definition_of, inst_at, naming_of, predecessors, text_in}
-use Rattle.spv_annotate.specs.Notes.{block_note, call_name, call_note, call_text, column, comment, cut_at, from_note, from_text, gap, name_note, name_notes, name_text, note, notes, opencl_lines, opencl_name, place_text, short_name, told_most}
-use Rattle.spv_annotate.specs.Values.{IsValue}
+use Rattle.spv_annotate.specs.Notes.{block_note, call_name, call_note, call_text, column, comment, cut_at, from_note, from_text, gap, entry_named, name_note, name_unless, name_notes, name_text, note, notes, opencl_lines, opencl_name, place_text, short_name, told_most}
+use Rattle.spv_annotate.specs.Values.{IsValue, IsValueOf, hex_of, is_nan}
+use Rattle.spv_annotate.specs.declared.values.Bits.TheVariants.{Half, Single, Double}
+use Rattle.spv_annotate.proofs.Inks.{AreInk, hex_ink}
+use Rattle.spv_lines.specs.Digits.{hex_digits}
 use Rattle.spv_annotate.proofs.Texts.{decimal_feedless, id_feedless, no_feed_by}
 
 -- Texts without control characters.
@@ -100,9 +103,13 @@ name_note_feedless is x (Some n) =
 names_feedless : (is : List PlainInst) (i : PlainInst) → NoFeed (name_notes is i)
 names_feedless is i = split (nat_eq i.opcode NAME)
   where
-    split : (z : Bool) → NoFeed (if z then [] else flat_map (name_note is) (ids_of is i))
+    unless : (x : ℕ) (z : Bool) → NoFeed (if z then [] else name_note is x)
+    unless x true = tt
+    unless x false = name_note_feedless is x (naming_of is x)
+
+    split : (z : Bool) → NoFeed (if z then [] else flat_map (name_unless is (entry_named is i)) (ids_of is i))
     split true = tt
-    split false = flat_feedless (name_note is) (ids_of is i) (λ x. name_note_feedless is x (naming_of is x))
+    split false = flat_feedless (name_unless is (entry_named is i)) (ids_of is i) (λ x. unless x (is_number x (entry_named is i)))
 
 opencl_feedless : (k : ℕ) → NoFeed (opencl_name k)
 unfolding opencl_lines
@@ -142,9 +149,25 @@ block_feedless is n i = split (nat_eq i.opcode LABEL)
     split true = from_note_feedless is n (result_in i.operands)
     split false = tt
 
+ink_feedless : (t : List ℕ) → AreInk t → NoFeed t
+ink_feedless [] h = tt
+ink_feedless (b ∷ t) h = ((λ e. let d = h.0.dark in omega (arith, d, e)), ink_feedless t h.1)
+
 pub value_feedless : (b : Option Bits) (t : List ℕ) → IsValue b t → NoFeed t
 value_feedless None t h = rw h tt
-value_feedless (Some b) t h = tame_feedless t h.1
+value_feedless (Some b) t h = split (is_nan b) h
+  where
+    hex : (n x : ℕ) → NoFeed (hex_digits n x)
+    hex n x = ink_feedless (hex_digits n x) (hex_ink n x)
+
+    bits : (b : Bits) → NoFeed (hex_of b)
+    bits (Half n) = hex 4 n
+    bits (Single n) = hex 8 n
+    bits (Double n) = feedless-append (hex_digits 8 (n / 4294967296)) (hex_digits 8 (n % 4294967296)) (hex 8 (n / 4294967296)) (hex 8 (n % 4294967296))
+
+    split : (z : Bool) → IsValueOf z b t → NoFeed t
+    split true h = rw h (feedless-append (codes "NaN 0x") (hex_of b) (no_feed_by (codes "NaN 0x") refl) (bits b))
+    split false h = tame_feedless t h.1
 
 notes_feedless : (is : List PlainInst) (value : List ℕ) (n : ℕ) (i : PlainInst) → NoFeed value → NoFeed (notes is value n i)
 notes_feedless is value n i h =

@@ -1,43 +1,16 @@
 -- The texts of floats.
-use Rattle.std.proofs.Common.{◌≡◌, ◌<◌, ◌%◌, ◌++◌, ◌∙◌, ℕ, List, [], ◌∷◌, Some, Bool, true, false, refl, sym, ap, arith, from_bits, ltb}
-use lib.Ieee.{is_nan}
-use Rattle.std.proofs.lemmas.Float.Parse.{parse_float_on_literals}
-use Rattle.std.specs.Prelude.{codes, if◌then◌else◌, IsTrue, IsFalse}
+use Rattle.std.proofs.Common.{◌≡◌, ◌<◌, ◌/◌, ◌%◌, ◌++◌, ℕ, List, [], ◌∷◌, Bool, true, false, drop, refl, arith}
+use Rattle.std.specs.Prelude.{codes, if◌then◌else◌, nat_lt, IsTrue, IsFalse}
+use Rattle.std.specs.Str.{IsCharBoundary}
+use Rattle.spv_lines.specs.Digits.{hex_digit, hex_digits}
 use Rattle.std.specs.Fmt.{sign_text}
 use Rattle.std.specs.Str.Parse.{AllDigits}
-use Rattle.std.specs.Float.{binary32, binary64, float_is_finite}
+use Rattle.std.specs.Float.{float_is_finite}
 use Rattle.std.specs.Float.Ieee.{Float, nan, inf, fin}
-use Rattle.std.proofs.lemmas.Bool.{lt-ltb}
 use Rattle.std.proofs.lemmas.Str.Parse.{digit_from_value}
-use lib.Ieee.Bits.{nan_bits_is, nan_bits_above}
 use Rattle.std.specs.Float.Numeral.{Parts, exponent_text, text_of}
-use Rattle.ryu.specs.Parse.{parse_float}
 use Rattle.ryu.specs.Plain.{IsPlain, IsPlainNumber, word_of}
 use Rattle.spv_lines.proofs.Tame.{AreTame, tame-append}
-
-pub nan_single : (bits : ℕ) → is_nan (from_bits binary32 bits) ≡ ltb 2139095040 (bits % 2147483648)
-nan_single bits = sym (nan_bits_is binary32 bits) ∙ nan_bits_above binary32 bits
-
-pub nan_double : (bits : ℕ) → is_nan (from_bits binary64 bits) ≡ ltb 9218868437227405312 (bits % 9223372036854775808)
-nan_double bits = sym (nan_bits_is binary64 bits) ∙ nan_bits_above binary64 bits
-
-only_nan : (x : Float) → is_nan x ≡ true → x ≡ nan
-unfolding is_nan
-only_nan nan e = refl
-only_nan (inf s) e = cc
-only_nan (fin s m k) e = cc
-
-pub nan_reads_single : (bits : ℕ) → 2139095040 < bits % 2147483648 → parse_float binary32 (codes "NaN") ≡ Some (from_bits binary32 bits)
-unfolding parse_float_on_literals
-nan_reads_single bits l =
-    let e : parse_float binary32 (codes "NaN") ≡ Some nan = refl in
-    e ∙ ap Some (sym (only_nan (from_bits binary32 bits) (nan_single bits ∙ lt-ltb _ _ l)))
-
-pub nan_reads_double : (bits : ℕ) → 9218868437227405312 < bits % 9223372036854775808 → parse_float binary64 (codes "NaN") ≡ Some (from_bits binary64 bits)
-unfolding parse_float_on_literals
-nan_reads_double bits l =
-    let e : parse_float binary64 (codes "NaN") ≡ Some nan = refl in
-    e ∙ ap Some (sym (only_nan (from_bits binary64 bits) (nan_double bits ∙ lt-ltb _ _ l)))
 
 digits_tame : (ds : List ℕ) → AllDigits 10 ds → AreTame ds
 digits_tame [] h = tt
@@ -77,3 +50,23 @@ float_tame x t h g = split (float_is_finite x) refl
     split : (b : Bool) → float_is_finite x ≡ b → AreTame t
     split true e = plain_tame t (h e)
     split false e = rw (g e) (word_tame x)
+
+-- Bits in hexadecimal.
+
+small_digit : (d : ℕ) → d < 16 → hex_digit d < 128
+small_digit d l = by (nat_lt d 10) refl
+  where
+    by : (b : Bool) → nat_lt d 10 ≡ b → hex_digit d < 128
+    by true e = rw e (omega arith)
+    by false e = rw e (omega arith)
+
+pub half_begins : (n : ℕ) (t : List ℕ) → t ≡ hex_digits 8 n → 0 < 4 → IsCharBoundary t 4
+unfolding hex_digits
+half_begins n t e z = rw e (
+  omega arith,
+  λ l h. let s = small_digit (n / 16 / 16 / 16 % 16) (omega arith) in absurd (omega (arith, s, h)),
+)
+
+pub half_digits : (n : ℕ) → drop 4 (hex_digits 8 n) ≡ hex_digits 4 n
+unfolding hex_digits
+half_digits n = refl

@@ -19,6 +19,7 @@ pub mod Shown
 pub mod Small
 pub mod Texts
 pub mod Told
+pub mod Asked
 pub mod Walks
 pub mod Writings
 pub mod Usings

@@ -1,5 +1,5 @@
 -- Instructions without notes.
-use Rattle.std.proofs.Common.{◌≡◌, ◌≢◌, ◌+◌, ◌++◌, ◌∙◌, ◌||◌, ℕ, List, [], ◌∷◌, Some, None, Bool, true, false, cond, flat_map, length, nat_eq, refl, sym, ap, append-nil}
+use Rattle.std.proofs.Common.{◌≡◌, ◌≢◌, ◌+◌, ◌++◌, ◌∙◌, ◌||◌, ℕ, List, [], ◌∷◌, Option, Some, None, Bool, true, false, cond, flat_map, length, nat_eq, refl, sym, ap, append-nil}
 use Rattle.std.specs.Prelude.{if◌then◌else◌}
 use Rattle.std.specs.List.{list_any, position_from}
 use Rattle.std.proofs.lemmas.Bool.Decides.{nat_tests}
@@ -11,7 +11,7 @@ use Rattle.spv_layout.specs.Place.{first_word_of}
 use Rattle.spv_extended.specs.Call.{call_in}
 use Rattle.spv_annotate.specs.Called.{ids_of, set_of}
 use Rattle.spv_annotate.specs.Module.{inst_at, named_by, named_in, naming_of}
-use Rattle.spv_annotate.specs.Notes.{block_note, call_note, call_text, comment, from_note, gap, name_note, name_notes, name_text, note, notes, place_text}
+use Rattle.spv_annotate.specs.Notes.{block_note, call_note, call_text, comment, from_note, gap, entry_named, name_note, name_notes, name_unless, name_text, note, notes, place_text}
 use Rattle.spv_annotate.specs.inner.Known.{is_naming}
 
 neither : (a b : Bool) → (a || b) ≡ false → (a ≡ false) × (b ≡ false)
@@ -29,13 +29,14 @@ unnamed_from x k (i ∷ is) h =
 pub unnamed : (is : List PlainInst) → list_any is_naming is ≡ false → (x : ℕ) → naming_of is x ≡ None
 unnamed is h x = unnamed_from x 0 is h
 
-no_names : (is : List PlainInst) (xs : List ℕ) → ((x : ℕ) → naming_of is x ≡ None) → flat_map (name_note is) xs ≡ []
-no_names is [] n = refl
-no_names is (x ∷ xs) n = ap (λ o. name_text is x o ++ flat_map (name_note is) xs) (n x) ∙ no_names is xs n
-
 none_either : (b : Bool) (t : List ℕ) → t ≡ [] → (if b then [] else t) ≡ []
 none_either true t e = refl
 none_either false t e = e
+
+no_names : (is : List PlainInst) (o : Option ℕ) (xs : List ℕ) → ((x : ℕ) → naming_of is x ≡ None) → flat_map (name_unless is o) xs ≡ []
+no_names is o [] n = refl
+no_names is o (x ∷ xs) n =
+    ap (λ z. z ++ flat_map (name_unless is o) xs) (none_either (is_number x o) (name_note is x) (ap (name_text is x) (n x))) ∙ no_names is o xs n
 
 no_value : (t : List ℕ) → length t ≡ 0 → note t ≡ []
 no_value [] e = refl
@@ -50,7 +51,7 @@ no_notes is value n i h e l v =
     let f : nat_eq i.opcode EXT_INST ≡ false = grind (arith, nat_tests) in
     let g : nat_eq i.opcode LABEL ≡ false = grind (arith, nat_tests) in
     four_nothing (name_notes is i) (call_note is i) (note value) (block_note is n i)
-    (none_either (nat_eq i.opcode NAME) (flat_map (name_note is) (ids_of is i)) (no_names is (ids_of is i) (unnamed is h)))
+    (none_either (nat_eq i.opcode NAME) (flat_map (name_unless is (entry_named is i)) (ids_of is i)) (no_names is (entry_named is i) (ids_of is i) (unnamed is h)))
     (ap (λ (b : Bool). call_text (if b then call_in (set_of is) i.operands else None)) f)
     (no_value value v)
     (ap (λ (b : Bool). if b then from_note is n (result_in i.operands) else []) g)

@@ -1,10 +1,11 @@
 -- A text without its comments, the spaces before them and its empty lines. (Own.)
-use Rattle.std.specs.Prelude.{◌++◌, ◌&&◌, ℕ, List, [], ◌∷◌, Bool, true, false, nat_eq, if◌then◌else◌}
+use Rattle.std.specs.Prelude.{◌++◌, ◌&&◌, ℕ, List, [], ◌∷◌, Option, Some, None, Bool, true, false, nat_eq, if◌then◌else◌}
 use Rattle.std.specs.Prelude.{drop, filter, map, take}
 use Rattle.std.specs.Prelude.{length}
 use Rattle.std.specs.List.{range_with_len}
 use Rattle.spv_lines.specs.Text.{ended, lines_of}
 use Rattle.spv_lines.specs.Plain.{plain_of}
+use Rattle.spv_annotate.specs.declared.finding.Finding.{Finding}
 use Rattle.spv_annotate.specs.Document.{Subject, is_of, line_of}
 
 -- where in a line an octet stands: outside of quotes, within them, or behind a `\` within them
@@ -48,9 +49,18 @@ bare line = trimmed (before_comment Outside line)
 abbrev pub bare_lines : List (List ℕ) → List (List ℕ)
 bare_lines ls = filter (λ l. if is_blank l then false else true) (map bare ls)
 
--- a text without its comments, but for the five lines of its header
-abbrev pub bare_text : List ℕ → List ℕ
-bare_text t = ended (take 5 (lines_of t) ++ bare_lines (drop 5 (lines_of t)))
+-- the lines of a text without that of the verdict, which stands first where a fault is told
+abbrev pub below_verdict : Option Finding → List (List ℕ) → List (List ℕ)
+below_verdict None ls = ls
+below_verdict (Some f) ls = drop 1 ls
+
+-- lines without their comments, but for the first five, those of the header
+abbrev pub bare_below : List (List ℕ) → List (List ℕ)
+bare_below ls = take 5 ls ++ bare_lines (drop 5 ls)
+
+-- a text without the line of the verdict and its comments, but for the five lines of its header
+abbrev pub bare_text : Option Finding → List ℕ → List ℕ
+bare_text told t = ended (bare_below (below_verdict told (lines_of t)))
 
 -- the lines of the instructions that are asked for, as they are told, without control characters
 abbrev pub asked_lines : Subject → List (List ℕ)

@@ -1,6 +1,6 @@
 -- The text for reading of a module, in pieces. (Own.)
 use Rattle.std.specs.Prelude.{◌≡◌, ◌++◌, ◌&&◌, ℕ, List, [], ◌∷◌, Option, Some, None, Bool, true, false, not}
-use Rattle.std.specs.Prelude.{nat_eq, is_some, if◌then◌else◌, codes, length}
+use Rattle.std.specs.Prelude.{nat_eq, get_or, is_some, if◌then◌else◌, codes, length}
 use Rattle.std.specs.List.{flat_map, range_with_len}
 use Rattle.spv_table.specs.Lookups.{is_number}
 use Rattle.spv_module.specs.Operand.{PlainInst, result_in}
@@ -66,6 +66,15 @@ abbrev pub marks : Option Finding → ℕ → List PlainPiece
 marks None n = []
 marks (Some f) n = if nat_eq f.inst n then flat_map mark_piece (lines_of f.lines.now) else []
 
+-- the line of the verdict, the first of what is told of a fault
+abbrev pub verdict_line : Finding → List ℕ
+verdict_line f = get_or (lines_of f.lines.now) 0 []
+
+-- that line above all others, where a fault is told
+abbrev pub verdict_piece : Option Finding → List PlainPiece
+verdict_piece None = []
+verdict_piece (Some f) = Mark (codes "; " ++ verdict_line f) ∷ Break ∷ []
+
 -- the line of instruction n, with its comment
 abbrev pub line_pieces : Subject → ℕ → List ℕ → List PlainPiece
 line_pieces S n line = Line n line ∷ Comment (comment S.insts (S.values n) n line) ∷ Break ∷ []
@@ -88,9 +97,9 @@ ending S = if is_of S.insts S.asked (length S.insts) then marks S.finding (lengt
 abbrev pub entries : Subject → List PlainPiece
 entries S = flat_map (entry S) (range_with_len 0 (length S.insts)) ++ ending S
 
--- all pieces: those of the header, and those of the instructions
+-- all pieces: that of the verdict, those of the header, and those of the instructions
 abbrev pub document : Subject → List PlainPiece
-document S = flat_map header_piece S.header ++ entries S
+document S = verdict_piece S.finding ++ (flat_map header_piece S.header ++ entries S)
 
 -- What is written of a module under a table: its header, its instructions and their shown lines, what is told of a
 -- fault, and the function that is asked for.

@@ -1,7 +1,7 @@
 -- A small list of instructions.
-use Rattle.std.specs.Prelude.{List, [], ◌∷◌, codes}
+use Rattle.std.specs.Prelude.{ℕ, List, [], ◌∷◌, codes}
 use Rattle.spv_module.specs.declared.opcode.TheConstants as opcode
-use Rattle.spv_module.specs.Operand.{OfType, Result, Id, Word, Number, Text, PlainInst}
+use Rattle.spv_module.specs.Operand.{OfType, Result, Id, Word, Number, Text, Value, PlainInst}
 
 -- a name, the set OpenCL.std, a float type and a constant; a function with two blocks, the second of which goes on with
 -- itself
@@ -19,3 +19,7 @@ two_blocks =
     record { opcode = opcode.BRANCH; operands = Id 7 ∷ [] } ∷
     record { opcode = opcode.FUNCTION_END; operands = [] } ∷
     []
+
+-- an entry point of that name, which is %3
+abbrev pub entry_point : List ℕ → PlainInst
+entry_point name = record { opcode = opcode.ENTRY_POINT; operands = Value 0 6 ∷ Id 3 ∷ Text name ∷ [] }

@@ -1,11 +1,11 @@
 -- The comment behind the line of an instruction. (Own.)
 use Rattle.std.specs.Prelude.{◌+◌, ◌++◌, ◌&&◌, ℕ, zero, suc, List, [], ◌∷◌, Option, Some, None, Bool}
 use Rattle.std.specs.Prelude.{nat_eq, nat_le, nat_lt, slice_get, slice_index, unwrap_or, if◌then◌else◌, codes}
-use Rattle.std.specs.Prelude.{drop, length, take, decimal}
+use Rattle.std.specs.Prelude.{bytes_eq, drop, false, length, take, decimal}
 use Rattle.std.specs.List.{flat_map}
 use Rattle.spv_table.specs.Lookups.{is_number}
-use Rattle.spv_module.specs.Operand.{PlainInst, result_in}
-use Rattle.spv_module.specs.declared.opcode.TheConstants.{NAME, LABEL}
+use Rattle.spv_module.specs.Operand.{Plain, Id, Text, Value, PlainInst, result_in}
+use Rattle.spv_module.specs.declared.opcode.TheConstants.{ENTRY_POINT, NAME, LABEL}
 use Rattle.spv_extended.specs.declared.call.Call.{Call}
 use Rattle.spv_extended.specs.declared.set.Set.{Set}
 use Rattle.spv_extended.specs.declared.set.Set.TheVariants.{OpenClStd}
@@ -66,9 +66,27 @@ name_text is x (Some n) = codes ", " ++ id_text x ++ (32 ∷ short_name (text_in
 abbrev pub name_note : List PlainInst → ℕ → List ℕ
 name_note is x = name_text is x (naming_of is x)
 
--- the names of the ids on a line, but for that of an OpName, which has the name itself
+-- is a text the name that an OpName of that number gives, if there is one
+abbrev pub is_name : List PlainInst → List ℕ → Option ℕ → Bool
+is_name is t None = false
+is_name is t (Some n) = bytes_eq t (text_in (inst_at is n).operands)
+
+-- the function of an OpEntryPoint, where an OpName gives it the same name [3.49.5]
+abbrev pub entry_in : List PlainInst → List Plain → Option ℕ
+entry_in is (Value k v ∷ Id x ∷ Text t ∷ os) = if is_name is t (naming_of is x) then Some x else None
+entry_in is _ = None
+
+abbrev pub entry_named : List PlainInst → PlainInst → Option ℕ
+entry_named is i = if nat_eq i.opcode ENTRY_POINT then entry_in is i.operands else None
+
+-- the name of an id, but for one whose name stands on the line already
+abbrev pub name_unless : List PlainInst → Option ℕ → ℕ → List ℕ
+name_unless is named x = if is_number x named then [] else name_note is x
+
+-- the names of the ids on a line: none at an OpName, which has the name itself, and so with the function of an
+-- OpEntryPoint that has the same one
 abbrev pub name_notes : List PlainInst → PlainInst → List ℕ
-name_notes is i = if nat_eq i.opcode NAME then [] else flat_map (name_note is) (ids_of is i)
+name_notes is i = if nat_eq i.opcode NAME then [] else flat_map (name_unless is (entry_named is i)) (ids_of is i)
 
 -- the table of src/opencl.rt, where each number of an instruction of OpenCL.std has a line with its name
 unfoldable pub opencl_lines : List (List ℕ)

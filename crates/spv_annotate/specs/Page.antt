@@ -19,11 +19,11 @@ use Rattle.spv_annotate.specs.declared.edges.Edge.{Edge}
 use Rattle.spv_annotate.specs.declared.finding.Finding.{Finding}
 use Rattle.spv_annotate.specs.declared.linked.Quoting.{Quoting}
 use Rattle.spv_annotate.specs.declared.linked.Quoting.TheVariants.{Outside, Commented}
-use Rattle.spv_annotate.specs.declared.style.TheConstants.{HEAD, STYLE, LIST, MIDDLE, END}
+use Rattle.spv_annotate.specs.declared.style.TheConstants.{HEAD, STYLE, TITLED, LIST, MIDDLE, END}
 use Rattle.spv_annotate.specs.Called.{told_operands}
-use Rattle.spv_annotate.specs.Document.{Subject, IsSubject, beginning, document, is_of}
+use Rattle.spv_annotate.specs.Document.{Subject, IsSubject, beginning, document, is_of, verdict_line}
 use Rattle.spv_annotate.specs.Html.{escaped}
-use Rattle.spv_annotate.specs.Module.{definition_of, inst_at, naming_of, once, text_in}
+use Rattle.spv_annotate.specs.Module.{definition_of, function_of, inst_at, naming_of, once, text_in}
 use Rattle.spv_annotate.specs.Notes.{short_name}
 use Rattle.spv_annotate.specs.Quoted.{after_byte, begins_id}
 use Rattle.spv_annotate.specs.Piece.{PlainPiece, Header, Section, Function, Block, Line, Comment, Mark, Break}
@@ -95,23 +95,37 @@ uses_from n os = map (λ x. record { from = n; to = x }) (filter_map used_in os)
 abbrev pub uses_at : List PlainInst → ℕ → List Edge
 uses_at is n = uses_from n (told_operands is (inst_at is n))
 
--- all uses, in the order of the instructions
-abbrev pub uses_of : List PlainInst → List Edge
-uses_of is = flat_map (uses_at is) (range_with_len 0 (length is))
+-- those of an instruction that is asked for
+abbrev pub asked_uses : List PlainInst → Option ℕ → ℕ → List Edge
+asked_uses is asked n = if is_of is asked n then uses_at is n else []
 
--- the instructions that use an id, in order; one that uses it several times stands there as often
-abbrev pub users_of : List PlainInst → ℕ → List ℕ
-users_of is x = map (λ e. e.from) (filter (λ e. nat_eq e.to x) (uses_of is))
+-- all of these, in the order of the instructions
+abbrev pub uses_of : List PlainInst → Option ℕ → List Edge
+uses_of is asked = flat_map (asked_uses is asked) (range_with_len 0 (length is))
+
+-- the instructions that are asked for and use an id, in order; one that uses it several times stands there as often
+abbrev pub users_of : List PlainInst → Option ℕ → ℕ → List ℕ
+users_of is asked x = map (λ e. e.from) (filter (λ e. nat_eq e.to x) (uses_of is asked))
+
+-- an instruction, if it is asked for
+abbrev pub if_asked : List PlainInst → Option ℕ → ℕ → Option ℕ
+if_asked is asked n = if is_of is asked n then Some n else None
+
+-- an instruction to which a link leads: one that there is, and that is asked for
+abbrev pub on_page : List PlainInst → Option ℕ → ℕ → Option ℕ
+on_page is asked n = if nat_lt n (length is) then if_asked is asked n else None
 
 -- what is known where a page is written: the instructions of the module; of each id the instruction that defines it
--- and the one that names it, if there are such, and those that use it; the number of the instruction of the fault; and
--- of each id whether it is that of a block of the walk that shows the fault
+-- and those that use it, as far as they are asked for, and the one that names it, if there are such; the number of the
+-- instruction of the fault, and that of the OpFunction of the function that it is of; and of each id whether it is that
+-- of a block of the walk that shows the fault
 pub record Scene : Type 0 where
   pub insts : List PlainInst
   pub definition : ℕ → Option ℕ
   pub naming : ℕ → Option ℕ
   pub users : ℕ → List ℕ
   pub fault : Option ℕ
+  pub faulty : Option ℕ
   pub walked : ℕ → Bool
 
 -- is an instruction the label of a block of the walk
@@ -185,10 +199,15 @@ entry_link S n = link_to n (escaped (label_of S (result_in (inst_at S.insts n).o
 abbrev pub section_link : ℕ → ℕ → List ℕ
 section_link n s = codes "<a href=#" ++ (decimal n ++ (62 ∷ (section_title s ++ codes "</a>\n")))
 
+-- how a function is marked in the list of contents: as that of the fault, or not at all
+abbrev pub summary_class : Scene → ℕ → List ℕ
+summary_class S n = if is_number n S.faulty then codes " class=fault" else []
+
 -- what stands in the list of contents for a piece: a link to a section or a block, and for a function a list of its own
 abbrev pub contents_of : Scene → PlainPiece → List ℕ
 contents_of S (Section n s) = section_link n s
-contents_of S (Function n) = codes "</details>\n<details>\n<summary>" ++ (entry_link S n ++ codes "</summary>\n")
+contents_of S (Function n) = codes "</details>\n<details>\n<summary" ++ (summary_class S n ++ (62 ∷ (entry_link S n
+    ++ codes "</summary>\n")))
 contents_of S (Block n) = entry_link S n ++ codes "\n"
 contents_of S _ = []
 
@@ -199,20 +218,29 @@ outlined is asked n = if is_of is asked n then beginning is n else []
 abbrev pub beginnings : List PlainInst → Option ℕ → List PlainPiece
 beginnings is asked = flat_map (outlined is asked) (range_with_len 0 (length is))
 
--- what stands before the list of contents, by the parts of src/style.rt: the title, without control characters, twice
-abbrev pub front_of : List ℕ → List ℕ
-front_of title = HEAD.now ++ (title ++ (STYLE.now ++ (title ++ LIST.now)))
+-- the line of the verdict, where a fault is told: with a link to its instruction, if that is on the page
+abbrev pub notice : List PlainInst → Option ℕ → Option Finding → List ℕ
+notice is asked None = []
+notice is asked (Some f) =
+    codes "<p class=fault>" ++ (id_html (on_page is asked f.inst) (verdict_line f) ++ codes "</p>\n")
 
-abbrev pub page_front : List ℕ → List ℕ
-page_front title = front_of (escaped (plain_of title))
+-- what stands before the list of contents, by the parts of src/style.rt: the title, without control characters, twice,
+-- and the line of the verdict
+abbrev pub front_of : List ℕ → List ℕ → List ℕ
+front_of title told = HEAD.now ++ (title ++ (STYLE.now ++ (title ++ (TITLED.now ++ (told ++ LIST.now)))))
 
--- What is known where the page of a module is written, whose instructions these are, and of which this is told.
-pub record IsScene (is : List PlainInst) (finding : Option Finding) (S : Scene) : Type 0 where
+abbrev pub page_front : List ℕ → List ℕ → List ℕ
+page_front title told = front_of (escaped (plain_of title)) told
+
+-- What is known where the page of a module is written, whose instructions these are, of which this is told, and of
+-- which this function is asked for.
+pub record IsScene (is : List PlainInst) (finding : Option Finding) (asked : Option ℕ) (S : Scene) : Type 0 where
   pub insts : S.insts ≡ is
-  pub definition : (x : ℕ) → S.definition x ≡ definition_of is x
+  pub definition : (x : ℕ) → S.definition x ≡ option_and_then (if_asked is asked) (definition_of is x)
   pub naming : (x : ℕ) → S.naming x ≡ naming_of is x
-  pub users : (x : ℕ) → S.users x ≡ users_of is x
+  pub users : (x : ℕ) → S.users x ≡ users_of is asked x
   pub fault : S.fault ≡ option_map (λ f. f.inst) finding
+  pub faulty : S.faulty ≡ option_and_then (λ f. function_of is f.inst) finding
   pub walked : (x : ℕ) → S.walked x ≡ list_any (nat_eq x) (walk_of finding)
 
 -- The text is the page of a module: a list of contents, and the pieces of the text for reading.
@@ -221,6 +249,6 @@ pub record IsPage (G : Table) (m : Module) (title : List ℕ) (finding : Option 
   pub subject : Subject
   pub scene : Scene
   pub of : IsSubject G m finding asked subject
-  pub known : IsScene (plain_insts m) finding scene
-  pub all : t ≡ page_front title ++ (flat_map (contents_of scene) (beginnings (plain_insts m) asked)
+  pub known : IsScene (plain_insts m) finding asked scene
+  pub all : t ≡ page_front title (notice (plain_insts m) asked finding) ++ (flat_map (contents_of scene) (beginnings (plain_insts m) asked)
       ++ (MIDDLE.now ++ (flat_map (page_of scene) (document subject) ++ END.now)))

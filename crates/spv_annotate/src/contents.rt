@@ -1,9 +1,10 @@
 //! What is written in the list of contents of a page.
 
-ghost use Rattle.std.specs.Prelude.{◌≡◌, ◌++◌, OnOk, string_bytes};
+ghost use Rattle.std.specs.Prelude.{◌≡◌, ◌++◌, OnOk, codes, string_bytes};
 ghost use Rattle.spv_annotate.specs.Piece.{Function, plain_piece};
 ghost use Rattle.spv_annotate.specs.Page as page;
 ghost use Rattle.spv_annotate.specs.Page.{contents_of, entry_link, label_of, name_behind, section_link};
+ghost use Rattle.spv_annotate.specs.Page.{summary_class};
 ghost use Rattle.spv_annotate.specs.inner.Look.{scene};
 
 use crate::buffer::push_between;
@@ -73,12 +74,24 @@ impl<'p, 'a> Look<'p, 'a> {
         push_link(out, inst, label.as_str())
     }
 
+    /// Adds how a function is marked, and the end of its tag.
+    fn push_summary_class(&self, out: &mut String, inst: u32) -> Result<(), AllocError>
+        ensures { OnOk result (string_bytes out.new
+            ≡ string_bytes out.old ++ (summary_class (scene self.now) inst ++ codes ">")) }
+    {
+        if self.faulty == Some(inst) {
+            return out.push_str(" class=fault>");
+        }
+        out.push_str(">")
+    }
+
     /// Begins the list of a function.
     fn push_list(&self, out: &mut String, inst: u32) -> Result<(), AllocError>
         ensures { OnOk result (string_bytes out.new
             ≡ string_bytes out.old ++ contents_of (scene self.now) (Function inst)) }
     {
-        out.push_str("</details>\n<details>\n<summary>")?;
+        out.push_str("</details>\n<details>\n<summary")?;
+        self.push_summary_class(out, inst)?;
         self.push_entry(out, inst)?;
         out.push_str("</summary>\n")
     }

@@ -3,6 +3,6 @@
 pub struct Finding<'t> {
     /// The number of the instruction where it is told, from 0, or how many there are where it is told at the end.
     pub inst: u32,
-    /// The verdict line and the lines behind it.
+    /// The verdict line, and the lines behind it.
     pub lines: &'t str,
 }

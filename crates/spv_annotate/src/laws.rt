@@ -9,29 +9,29 @@ ghost use Rattle.spv_module.specs.Operand.{Id, OfType, Result, Word};
 ghost use Rattle.spv_lines.specs.Text.{ended};
 ghost use Rattle.spv_lines.specs.Plain.{plain_of};
 ghost use Rattle.spv_annotate.specs.declared.finding.Finding.{Finding};
-ghost use Rattle.spv_annotate.specs.declared.values.Bits.TheVariants.{Single};
+ghost use Rattle.spv_annotate.specs.declared.values.Bits.TheVariants.{Half, Single};
 ghost use Rattle.spv_annotate.specs.Bare.{asked_lines, bare, bare_text};
 ghost use Rattle.spv_annotate.specs.Document.{IsSpelled, IsSubject, Subject, beginning, document, is_of, line_of};
 ghost use Rattle.spv_extended.specs.Example.{call, imports};
 ghost use Rattle.spv_extended.specs.declared.signature.More.TheVariants.{Nothing};
 ghost use Rattle.spv_annotate.specs.declared.linked.Quoting.TheVariants.{Outside};
 ghost use Rattle.spv_annotate.specs.Called.{ids_of, told_operands, unmarked};
-ghost use Rattle.spv_annotate.specs.Example.{two_blocks};
+ghost use Rattle.spv_annotate.specs.Example.{entry_point, two_blocks};
 ghost use Rattle.spv_annotate.specs.Module.{inst_at, predecessors};
 ghost use Rattle.spv_annotate.specs.Notes.{call_note, comment, name_notes, short_name};
 ghost use Rattle.spv_annotate.specs.Piece.{Block, Comment, Function, Section, text_of};
-ghost use Rattle.spv_annotate.specs.Values.{float_of, widened};
+ghost use Rattle.spv_annotate.specs.Values.{IsValue, float_of, hex_of, is_nan, widened};
 
-/// Taking away the comments of the text for reading, the spaces before them and empty lines gives exactly the shown
-/// lines, each control character as `\xNN`, and literals of extended instructions without `%`: those of the header, and
-/// those of the instructions that were asked for, which are all where no function was.
+/// Taking away the line of the verdict, the comments of the text for reading, the spaces before them and empty lines
+/// gives exactly the shown lines, each control character as `\xNN`, and literals of extended instructions without `%`:
+/// those of the header, and those of the instructions that were asked for, which are all where no function was.
 pub fn bare_text_is_shown()
     ensures asked { (G : Table) (m : Module) (told : Option Finding) (function : Option ℕ) (S : Subject)
         → IsSpelled G (plain_insts m) → IsSubject G m told function S
-        → bare_text (flat_map (text_of false) (document S)) ≡ ended (S.header ++ asked_lines S) }
+        → bare_text told (flat_map (text_of false) (document S)) ≡ ended (S.header ++ asked_lines S) }
     ensures whole { (G : Table) (m : Module) (told : Option Finding) (S : Subject)
         → IsSpelled G (plain_insts m) → IsSubject G m told None S
-        → bare_text (flat_map (text_of false) (document S))
+        → bare_text told (flat_map (text_of false) (document S))
         ≡ ended (S.header ++ map (λ n. plain_of (line_of S n)) (range_with_len 0 (length S.insts))) }
 {}
 
@@ -40,6 +40,9 @@ pub fn note_examples()
     ensures names { name_notes two_blocks (inst_at two_blocks 8) ≡ codes ", %3 one" }
     // The OpName has the name itself.
     ensures none { name_notes two_blocks (inst_at two_blocks 0) ≡ [] }
+    // An OpEntryPoint has the name itself, if it is the same one.
+    ensures entry { name_notes two_blocks (entry_point (codes "one")) ≡ [] }
+    ensures other_entry { name_notes two_blocks (entry_point (codes "two")) ≡ codes ", %3 one" }
     ensures short { short_name (codes "a" ++ (27 ∷ codes "b")) ≡ codes "a\\x1bb" }
     ensures long { short_name (codes "123456789 123456789 123456789 123456789 12") ≡ codes
         "123456789 123456789 123456789 123456789 .." }
@@ -94,6 +97,12 @@ pub fn value_examples()
     ensures one { widened 15360 ≡ 1065353216 }
     ensures least { widened 1 ≡ 864026624 }
     ensures not_itself { ¬ (widened 15360 ≡ 15360) }
+    // 0x7fc00001 is no number, and 0x7f800000 is infinite.
+    ensures nan { is_nan (Single 2143289345) ≡ true }
+    ensures infinite { is_nan (Single 2139095040) ≡ false }
+    ensures bits { hex_of (Half 32257) ≡ codes "7e01" }
+    ensures as_bits { IsValue (Some (Single 2143289345)) (codes "NaN 0x7fc00001") }
+    ensures not_alone { ¬ (IsValue (Some (Single 2143289345)) (codes "NaN")) }
 {}
 
 /// Comments, taken away and written.
@@ -102,7 +111,10 @@ pub fn bare_examples()
     // A `;` in quotes begins none.
     ensures quotes { bare (codes "%2 = OpString \"a;\\\"b\" ; c") ≡ codes "%2 = OpString \"a;\\\"b\"" }
     ensures not_before { ¬ (bare (codes "OpNop   ; inst 1") ≡ codes "OpNop   ") }
-    ensures lines { bare_text (codes "a\nb\nc\nd\ne ; f\n\nOpNop ; inst 0\n; ^ rule\n")
+    ensures lines { bare_text None (codes "a\nb\nc\nd\ne ; f\n\nOpNop ; inst 0\n; ^ rule\n")
         ≡ codes "a\nb\nc\nd\ne ; f\nOpNop\n" }
+    // Where a fault is told, its line stands first.
+    ensures verdict { (f : Finding) → bare_text (Some f) (codes "; fault\na\nb\nc\nd\ne\nOpNop ; inst 0\n")
+        ≡ codes "a\nb\nc\nd\ne\nOpNop\n" }
     ensures dim { text_of true (Comment (codes " ; a")) ≡ (27 ∷ codes "[2m ; a") ++ (27 ∷ codes "[0m") }
 {}

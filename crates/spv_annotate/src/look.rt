@@ -19,6 +19,7 @@ use crate::drafted::{push_drafted, push_remark};
 use crate::html::push_escaped;
 use crate::linked::{Quoting, push_linked};
 use crate::numbers::Numbers;
+use crate::outline::opcode_at;
 use crate::piece::Piece;
 use crate::uses::Uses;
 use spv_module::{Inst, opcode};
@@ -31,14 +32,16 @@ pub struct Look<'p, 'a> {
     pub alloc: Global,
     /// The instructions of the module.
     pub insts: &'p [Inst<'a>],
-    /// Of each id the first instruction that defines it.
+    /// Of each id the first instruction that defines it, if that is asked for.
     pub definitions: &'p Numbers,
     /// Of each id the first OpName that names it.
     pub namings: &'p Numbers,
-    /// The uses of ids.
+    /// The uses of ids in what is asked for.
     pub uses: &'p Uses,
     /// The number of the instruction of the fault.
     pub fault: Option<u32>,
+    /// That of the OpFunction of the function that it is of.
+    pub faulty: Option<u32>,
     /// What is kept of the ids of the blocks of the walk that shows the fault, and of no other id.
     pub walk: &'p Numbers,
 }
@@ -94,10 +97,7 @@ impl<'p, 'a> Look<'p, 'a> {
     fn opcode(&self, inst: u32) -> u16
         ensures { result ≡ (inst_at (map plain_inst self.now.insts.now) inst).opcode }
     {
-        match self.insts.get(inst as usize) {
-            Some(inst) => inst.opcode,
-            None => 0,
-        }
+        opcode_at(self.insts, inst)
     }
 
     /// The result of an instruction.

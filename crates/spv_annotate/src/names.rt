@@ -6,7 +6,8 @@ ghost use Rattle.spv_module.specs.Module.{plain_inst, plain_operand, plain_opera
 ghost use Rattle.spv_annotate.specs.Module as specs;
 ghost use Rattle.spv_annotate.specs.Called.{told_from};
 ghost use Rattle.spv_annotate.specs.Module.{definition_of, id_in, inst_at, naming_of};
-ghost use Rattle.spv_annotate.specs.Notes.{name_note, name_notes, name_text};
+ghost use Rattle.spv_annotate.specs.Notes as notes;
+ghost use Rattle.spv_annotate.specs.Notes.{name_note, name_notes, name_text, name_unless};
 ghost use Rattle.spv_annotate.specs.inner.Numbers.{kept};
 
 use crate::literals::{signature_at, told};
@@ -70,28 +71,86 @@ fn id_of(operand: Operand<'_>) -> Option<u32>
     }
 }
 
-/// Adds the names of the ids that operands are, of which some are literals.
+/// Whether a text is the name that an OpName of that number gives, if there is one.
+fn is_name(insts: &[Inst<'_>], text: &str, naming: Option<u32>) -> bool
+    ensures { result ≡ notes.is_name (map plain_inst insts.now) text.now naming }
+{
+    match naming {
+        Some(at) => text == name_at(insts, at),
+        None => false,
+    }
+}
+
+/// The function of an OpEntryPoint with these operands, where an OpName gives it the same name.
+fn entry_in(insts: &[Inst<'_>], namings: &Numbers, operands: &[Operand<'_>]) -> Option<u32>
+    requires { (x : ℕ) → kept namings.now x ≡ naming_of (map plain_inst insts.now) x }
+    ensures { result ≡ notes.entry_in (map plain_inst insts.now) (plain_operands operands.now) }
+{
+    match operands {
+        [
+            Operand::Value { .. },
+            Operand::Id(id),
+            Operand::Text(name),
+            ..
+        ] if is_name(insts, name, namings.get(*id)) => Some(*id),
+        _ => None,
+    }
+}
+
+/// The function of an OpEntryPoint, where an OpName gives it the same name.
+fn entry_named(insts: &[Inst<'_>], namings: &Numbers, inst: &Inst<'_>) -> Option<u32>
+    requires { (x : ℕ) → kept namings.now x ≡ naming_of (map plain_inst insts.now) x }
+    ensures { result ≡ notes.entry_named (map plain_inst insts.now) (plain_inst inst.now) }
+{
+    if inst.opcode == opcode::ENTRY_POINT {
+        return entry_in(insts, namings, inst.operands.as_slice());
+    }
+    None
+}
+
+/// Adds an id and its name, if it has one, but for an id whose name stands on the line already.
+fn push_name_unless(
+    out: &mut String,
+    insts: &[Inst<'_>],
+    namings: &Numbers,
+    named: Option<u32>,
+    id: u32,
+) -> Result<(), AllocError>
+    requires { kept namings.now id ≡ naming_of (map plain_inst insts.now) id }
+    ensures { OnOk result (string_bytes out.new
+        ≡ string_bytes out.old ++ name_unless (map plain_inst insts.now) named id) }
+{
+    if named == Some(id) {
+        return Ok(());
+    }
+    push_name(out, insts, namings, id)
+}
+
+/// Adds the names of the ids that operands are, of which some are literals, but for an id whose name stands on the line
+/// already.
 fn push_operand_names(
     out: &mut String,
     insts: &[Inst<'_>],
     namings: &Numbers,
     signature: Signature,
+    named: Option<u32>,
     operands: &[Operand<'_>],
 ) -> Result<(), AllocError>
     requires { (x : ℕ) → kept namings.now x ≡ naming_of (map plain_inst insts.now) x }
     ensures { OnOk result (string_bytes out.new ≡ string_bytes out.old ++ flat_map
-        (name_note (map plain_inst insts.now))
+        (name_unless (map plain_inst insts.now) named)
         (filter_map id_in (told_from signature 0 (plain_operands operands.now)))) }
 {
     for (place, operand) in operands.iter().enumerate() {
         if let Some(id) = id_of(told(signature, place, *operand)) {
-            push_name(out, insts, namings, id)?;
+            push_name_unless(out, insts, namings, named, id)?;
         }
     }
     Ok(())
 }
 
-/// Adds the names of the ids on the line of an instruction, but for that of an OpName, which has the name itself.
+/// Adds the names of the ids on the line of an instruction, but for that of an OpName, which has the name itself, and of
+/// the function of an OpEntryPoint, which has the same one.
 ///
 /// An `AllocError` comes only where a growth of memory was refused, and then nothing is said of what is left.
 pub fn push_names(
@@ -110,5 +169,13 @@ pub fn push_names(
         return Ok(());
     }
     let signature = signature_at(insts, definitions, inst);
-    push_operand_names(out, insts, namings, signature, inst.operands.as_slice())
+    let named = entry_named(insts, namings, inst);
+    push_operand_names(
+        out,
+        insts,
+        namings,
+        signature,
+        named,
+        inst.operands.as_slice(),
+    )
 }

@@ -74,6 +74,51 @@ pub fn function_at(before: Option<u32>, at: u32, code: u16) -> Option<u32>
     before
 }
 
+/// The OpFunction of the function that is open behind an instruction, by the one that it is of.
+#[inline(always)]
+pub fn function_behind(function: Option<u32>, code: u16) -> Option<u32>
+    ensures { (is : List PlainInst) (at : ℕ) → (inst_at is at).opcode ≡ code → function ≡ function_of is at
+        → result ≡ open_function is (at + 1) }
+{
+    if code == opcode::FUNCTION_END {
+        return None;
+    }
+    function
+}
+
+/// The OpFunction of the function that is open before an instruction.
+fn function_before(insts: &[Inst<'_>], at: u32) -> Option<u32>
+    ensures { result ≡ open_function (map plain_inst insts.now) at }
+{
+    let mut last = at;
+    while last > 0 {
+        last -= 1;
+        match opcode_at(insts, last) {
+            opcode::FUNCTION => return Some(last),
+            opcode::FUNCTION_END => return None,
+            _ => {}
+        }
+    }
+    None
+}
+
+/// The opcode of an instruction; 0 where there is none of that number.
+pub fn opcode_at(insts: &[Inst<'_>], at: u32) -> u16
+    ensures { result ≡ (inst_at (map plain_inst insts.now) at).opcode }
+{
+    match insts.get(at as usize) {
+        Some(inst) => inst.opcode,
+        None => 0,
+    }
+}
+
+/// The OpFunction of the function that an instruction is of.
+pub fn function_in(insts: &[Inst<'_>], at: u32) -> Option<u32>
+    ensures { result ≡ function_of (map plain_inst insts.now) at }
+{
+    function_at(function_before(insts, at), at, opcode_at(insts, at))
+}
+
 /// Whether what stands in a function, or in none, is asked for.
 #[inline(always)]
 pub fn is_in_asked(insts: &[Inst<'_>], asked: Option<u32>, function: Option<u32>) -> bool

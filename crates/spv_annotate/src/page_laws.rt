@@ -3,7 +3,11 @@
 ghost use Rattle.std.specs.Prelude.{◌≡◌, ◌≢◌, ◌∷◌, [], ℕ, List, Some, None, false, codes, flat_map};
 ghost use Rattle.spv_annotate.specs.declared.linked.Quoting.TheVariants.{Commented, Outside};
 ghost use Rattle.spv_annotate.specs.Html.{untagged};
-ghost use Rattle.spv_annotate.specs.Page.{Scene, cut_from, linked, page_of, walk_ids};
+ghost use Rattle.spv_annotate.specs.declared.finding.Finding.{Finding};
+ghost use Rattle.spv_annotate.specs.Document.{verdict_line};
+ghost use Rattle.spv_annotate.specs.Example.{two_blocks};
+ghost use Rattle.spv_annotate.specs.Page.{Scene, contents_of, cut_from, linked, notice, on_page, page_of, users_of};
+ghost use Rattle.spv_annotate.specs.Page.{walk_ids};
 ghost use Rattle.spv_annotate.specs.Piece.{PlainPiece, Function, Header, Line, Mark, text_of};
 ghost use Rattle.spv_annotate.specs.Scenes.{nothing_known};
 
@@ -31,6 +35,31 @@ pub fn walk_examples()
     ensures walk { walk_ids (codes "walk: %13 %9") ≡ 13 ∷ 9 ∷ [] }
     ensures other { walk_ids (codes "in: %13") ≡ [] }
     ensures not_one { walk_ids (codes "walk: %13") ≢ 1 ∷ [] }
+{}
+
+/// Worked examples of what a page of one function leads to.
+pub fn asked_examples()
+    ensures there { on_page two_blocks (Some 4) 8 ≡ Some 8 }
+    ensures not_there { on_page two_blocks (Some 4) 3 ≡ None }
+    // No link leads behind the last instruction.
+    ensures end { on_page two_blocks None 11 ≡ None }
+    ensures users { users_of two_blocks None 2 ≡ 3 ∷ 4 ∷ 8 ∷ [] }
+    ensures asked_users { users_of two_blocks (Some 4) 2 ≡ 4 ∷ 8 ∷ [] }
+{}
+
+/// Worked examples of the line of a verdict.
+pub fn verdict_examples()
+    ensures line { (f : Finding) → f.lines.now ≡ codes "fault A1\nrule: a\n" → verdict_line f ≡ codes "fault A1" }
+    ensures not_whole { (f : Finding) → f.lines.now ≡ codes "fault A1\nrule: a\n" → verdict_line f ≢ f.lines.now }
+    ensures notice { (f : Finding) → f.inst ≡ 4 → f.lines.now ≡ codes "fault A1" → notice two_blocks (Some 4) (Some f)
+        ≡ codes "<p class=fault><a href=#4>fault A1</a></p>\n" }
+    ensures unlinked { (f : Finding) → f.inst ≡ 3 → f.lines.now ≡ codes "fault A1" → notice two_blocks (Some 4) (Some f)
+        ≡ codes "<p class=fault>fault A1</p>\n" }
+    // In the list of contents the function of the fault is marked, and no other.
+    ensures marked { contents_of (nothing_known 3) (Function 3)
+        ≡ codes "</details>\n<details>\n<summary class=fault><a href=#3></a></summary>\n" }
+    ensures unmarked { contents_of (nothing_known 3) (Function 4)
+        ≡ codes "</details>\n<details>\n<summary><a href=#4></a></summary>\n" }
 {}
 
 /// Worked examples of pieces, where nothing is known of the module but that instruction 3 is that of the fault.

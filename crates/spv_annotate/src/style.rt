@@ -23,6 +23,7 @@ a{color:var(--link);text-decoration:none}
 a:hover,a:focus{text-decoration:underline}
 nav{box-sizing:border-box;padding:1em;border-bottom:1px solid var(--rule);overflow-wrap:anywhere}
 nav h1{font-size:1.2em;margin:0 0 .5em}
+nav p{margin:0 0 .5em;padding:.25em .5em}
 nav details a{display:block;padding-left:1em}
 nav summary a{display:inline;padding:0}
 main{padding:1em;overflow-x:auto;font:13px/1.5 ui-monospace,monospace}
@@ -32,8 +33,8 @@ main i{font-style:normal;color:var(--dim)}
 main u{float:right;padding:.15em 0 0 1ch;font-size:.85em;text-decoration:none}
 main u a:before{content:attr(href)" "}
 main .walk{background:var(--walk-paper)}
-main .fault,main .fault i{color:var(--bad)}
-main .fault{background:var(--bad-paper)}
+nav .fault,nav .fault a,main .fault,main .fault i{color:var(--bad)}
+nav .fault,main .fault{background:var(--bad-paper)}
 main div:target{background:var(--here)}
 @media(min-width:70em){body{display:flex;align-items:flex-start}
 nav{position:sticky;top:0;flex:0 0 20em;height:100vh;overflow-y:auto;border:0;border-right:1px solid var(--rule)}
@@ -46,9 +47,12 @@ main div{width:auto;white-space:pre-wrap;content-visibility:visible}main u{float
 <nav>
 <h1>"#;
 
-/// What stands between the heading and the list of contents.
-pub const LIST: &str = r#"</h1>
-<details open>
+/// What stands behind the heading.
+pub const TITLED: &str = r#"</h1>
+"#;
+
+/// What begins the list of contents.
+pub const LIST: &str = r#"<details open>
 <summary>Sections</summary>
 "#;
 

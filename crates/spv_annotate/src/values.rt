@@ -1,25 +1,29 @@
 //! The decimal values of float constants.
 
-ghost use Rattle.std.specs.Prelude.{◌≡◌, ◌≢◌, ◌<◌, ◌≤◌, ℕ, IfOk, OnOk, Some, None, map, string_bytes};
+ghost use Rattle.std.specs.Prelude.{◌≡◌, ◌≢◌, ◌<◌, ◌≤◌, ◌++◌, ◌%◌, ℕ, IfOk, OnOk, Some, None, codes, false, map};
+ghost use Rattle.std.specs.Prelude.{string_bytes};
 ghost use Rattle.std.specs.Ordering.{nat_cmp};
 ghost use Rattle.std.specs.BTreeMap.{get};
+ghost use Rattle.spv_lines.specs.Digits.{hex_digits};
 ghost use Rattle.spv_module.specs.Module.{plain_inst, plain_operands};
 ghost use Rattle.spv_layout.specs.Place.{AreFew};
 ghost use Rattle.spv_annotate.specs.Module.{defined_by, definition_of};
 ghost use Rattle.spv_annotate.specs.Values as specs;
-ghost use Rattle.spv_annotate.specs.Values.{AreValues, IsValue, float_width};
+ghost use Rattle.spv_annotate.specs.Values.{AreValues, IsValue, IsValueOf, float_width, hex_of};
 ghost use Rattle.spv_annotate.specs.inner.Numbers.{kept};
 ghost use Rattle.spv_annotate.specs.inner.Values.{text_or_none, value_in};
 
 use crate::numbers::Numbers;
 use ryu::Buffer;
+use spv_lines::push_hex;
 use spv_module::{Inst, Operand, opcode};
 use std::alloc::{AllocError, Global};
 use std::collections::BTreeMap;
 
-/// The bits of a float: of a single one, or of a double one.
+/// The bits of a float: of a half one, a single one, or a double one.
 #[derive(Clone, Copy)]
 pub enum Bits {
+    Half(u32),
     Single(u32),
     Double(u64),
 }
@@ -87,7 +91,7 @@ fn bits_of(low: u32, high: u32, width: u32) -> Option<Bits>
     ensures { result ≡ specs.bits_of low high width }
 {
     match width {
-        16 => Some(Bits::Single(widened(low))),
+        16 => Some(Bits::Half(low % 65536)),
         32 => Some(Bits::Single(low)),
         64 => Some(Bits::Double(u64::from(low) + 4294967296 * u64::from(high))),
         _ => None,
@@ -147,23 +151,63 @@ fn float_of(insts: &[Inst<'_>], definitions: &Numbers, inst: &Inst<'_>) -> Optio
     }
 }
 
-/// The value of a single float.
-fn single_text(alloc: Global, bits: u32) -> Result<String, AllocError>
-    ensures { IfOk result (λ t. IsValue (Some (Bits.Single bits)) (string_bytes t)) }
+/// Whether bits are those of no number.
+fn is_nan(bits: Bits) -> bool
+    ensures { result ≡ specs.is_nan bits }
 {
-    if bits % 2147483648 > 2139095040 {
-        return String::from_str(alloc, "NaN");
+    match bits {
+        Bits::Half(bits) => bits % 32768 > 31744,
+        Bits::Single(bits) => bits % 2147483648 > 2139095040,
+        Bits::Double(bits) => bits % 9223372036854775808 > 9218868437227405312,
     }
+}
+
+/// Adds the last four hexadecimal digits of a number.
+fn push_short_hex(out: &mut String, alloc: Global, bits: u32) -> Result<(), AllocError>
+    ensures { OnOk result (string_bytes out.new ≡ string_bytes out.old ++ hex_digits 4 bits) }
+{
+    let mut digits = String::new(alloc);
+    push_hex(&mut digits, bits)?;
+    out.push_str(&digits.as_str()[4..])
+}
+
+/// Adds bits in hexadecimal, in as many digits as the width has.
+fn push_bits(out: &mut String, alloc: Global, bits: Bits) -> Result<(), AllocError>
+    ensures { OnOk result (string_bytes out.new ≡ string_bytes out.old ++ hex_of bits) }
+{
+    match bits {
+        Bits::Half(bits) => push_short_hex(out, alloc, bits),
+        Bits::Single(bits) => push_hex(out, bits),
+        Bits::Double(bits) => {
+            push_hex(out, (bits / 4294967296) as u32)?;
+            push_hex(out, (bits % 4294967296) as u32)
+        }
+    }
+}
+
+/// The text of a float that is no number: its bits.
+fn nan_text(alloc: Global, bits: Bits) -> Result<String, AllocError>
+    ensures { IfOk result (λ t. string_bytes t ≡ codes "NaN 0x" ++ hex_of bits) }
+{
+    let mut out = String::new(alloc);
+    out.push_str("NaN 0x")?;
+    push_bits(&mut out, alloc, bits)?;
+    Ok(out)
+}
+
+/// The value of a single float that is a number.
+fn single_text(alloc: Global, bits: u32) -> Result<String, AllocError>
+    requires { bits % 2147483648 ≤ 2139095040 }
+    ensures { IfOk result (λ t. IsValueOf false (Bits.Single bits) (string_bytes t)) }
+{
     String::from_str(alloc, Buffer::new().format(f32::from_bits(bits)))
 }
 
-/// The value of a double float.
+/// The value of a double float that is a number.
 fn double_text(alloc: Global, bits: u64) -> Result<String, AllocError>
-    ensures { IfOk result (λ t. IsValue (Some (Bits.Double bits)) (string_bytes t)) }
+    requires { bits % 9223372036854775808 ≤ 9218868437227405312 }
+    ensures { IfOk result (λ t. IsValueOf false (Bits.Double bits) (string_bytes t)) }
 {
-    if bits % 9223372036854775808 > 9218868437227405312 {
-        return String::from_str(alloc, "NaN");
-    }
     String::from_str(alloc, Buffer::new().format(f64::from_bits(bits)))
 }
 
@@ -171,7 +215,11 @@ fn double_text(alloc: Global, bits: u64) -> Result<String, AllocError>
 fn value_text(alloc: Global, bits: Bits) -> Result<String, AllocError>
     ensures { IfOk result (λ t. IsValue (Some bits) (string_bytes t)) }
 {
+    if is_nan(bits) {
+        return nan_text(alloc, bits);
+    }
     match bits {
+        Bits::Half(bits) => single_text(alloc, widened(bits)),
         Bits::Single(bits) => single_text(alloc, bits),
         Bits::Double(bits) => double_text(alloc, bits),
     }

@@ -1,7 +1,7 @@
 //! The text for reading, by any pen.
 
 ghost use Rattle.std.specs.Prelude.{◌≡◌, ◌≤◌, ◌<◌, ◌+◌, ◌++◌, ◌∷◌, [], ℕ, List, Option, IfOk, IfSome, OnOk};
-ghost use Rattle.std.specs.Prelude.{drop, is_some, length, option_map, string_bytes, take, true};
+ghost use Rattle.std.specs.Prelude.{drop, get_or, is_some, length, option_map, string_bytes, take, true};
 ghost use Rattle.std.specs.List.{flat_map, list_all, range_with_len};
 ghost use Rattle.spv_words.specs.Header.{greatest_length};
 ghost use Rattle.spv_module.specs.Module.{plain_insts};
@@ -10,7 +10,7 @@ ghost use Rattle.spv_lines.specs.Text.{header_lines, inst_line, lines_of};
 ghost use Rattle.spv_lines.specs.Plain.{plain_of};
 ghost use Rattle.spv_annotate.specs.Document as specs;
 ghost use Rattle.spv_annotate.specs.Document.{IsSpelled, IsSubject, Subject, begun, document, entry, header_piece};
-ghost use Rattle.spv_annotate.specs.Document.{is_of, line_pieces, mark_piece, marks};
+ghost use Rattle.spv_annotate.specs.Document.{is_of, line_pieces, mark_piece, marks, verdict_piece};
 ghost use Rattle.spv_annotate.specs.declared.linked.Quoting.TheVariants.{Outside};
 ghost use Rattle.spv_annotate.specs.Called as called;
 ghost use Rattle.spv_annotate.specs.Called.{told_line, unmarked};
@@ -60,6 +60,31 @@ struct Drafts {
     line: String,
     /// The comment behind it.
     comment: String,
+}
+
+/// The first line of a text; nothing where there is none.
+pub fn first_line(text: &str) -> &str
+    ensures { result.now ≡ get_or (lines_of text.now) 0 [] }
+{
+    if text.is_empty() {
+        return "";
+    }
+    let (line, _) = split_line(text);
+    line
+}
+
+/// Writes the line of the verdict, where a fault is told.
+fn write_verdict<P: Pen>(pen: &mut P, task: &Task<'_, '_>) -> Result<(), AllocError>
+    ensures { OnOk result (IsWritten P.text P.writes (verdict_piece task.now.finding) pen.old pen.new) }
+{
+    let Some(finding) = task.finding else {
+        return Ok(());
+    };
+    let mut draft = String::new(task.alloc);
+    draft.push_str("; ")?;
+    draft.push_str(first_line(finding.lines))?;
+    pen.write(Piece::Mark(draft.as_str()))?;
+    pen.write(Piece::Break)
 }
 
 /// Writes the first lines of a text, as those of a header, and gives what stands behind them.
@@ -387,7 +412,7 @@ fn write_ending<P: Pen>(
     write_marks(pen, task, task.module.insts.len() as u32)
 }
 
-/// Writes the text for reading, by the shown lines, those of the header first.
+/// Writes the text for reading, by the shown lines: first the line of the verdict and those of the header.
 fn write_shown<P: Pen>(pen: &mut P, task: &Task<'_, '_>, text: &str) -> Result<(), AllocError>
     requires known { IsKnown (plain_insts task.now.«module».now) task.now.known.now }
     requires words { IsShort (plain_insts task.now.«module».now) }
@@ -396,14 +421,16 @@ fn write_shown<P: Pen>(pen: &mut P, task: &Task<'_, '_>, text: &str) -> Result<(
     ensures { OnOk result (IsWritten P.text P.writes (document (subject_of task.now (drop 5 (lines_of text.now))))
         pen.old pen.new) }
 {
+    write_verdict(pen, task)?;
     let rest = write_header(pen, text, 5)?;
     write_entries(pen, task, rest)
 }
 
-/// Writes the text for reading of a module that words spell: the five lines of its header, and the line of each
-/// instruction with a comment behind it; empty lines before sections and functions; and what is told of a fault, below
-/// the line of its instruction. Where a function is asked for, by the id of its OpFunction, only the lines of the
-/// header and those from its OpFunction to its OpFunctionEnd are written, and what is told of a fault there.
+/// Writes the text for reading of a module that words spell: the line of the verdict, where a fault is told; the five
+/// lines of its header, and the line of each instruction with a comment behind it; empty lines before sections and
+/// functions; and what is told of a fault, below the line of its instruction. Where a function is asked for, by the id
+/// of its OpFunction, only the line of the verdict, those of the header and those from its OpFunction to its
+/// OpFunctionEnd are written, and what is told of a fault there.
 ///
 /// Time is linear in the words, but for logarithms.
 ///

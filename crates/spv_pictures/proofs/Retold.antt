@@ -1,9 +1,10 @@
 -- The frame of a picture of calls is that of a module with other texts.
-use Rattle.std.proofs.Common.{◌≡◌, ◌++◌, ◌∙◌, ℕ, Bool, true, false, List, [], ◌∷◌, Option, Some, None, flat_map, map, nat_eq, option_and_then, refl, ap}
-use Rattle.std.specs.Prelude.{◌||◌, codes, decimal, if◌then◌else◌, is_some, option_map}
+use Rattle.std.proofs.Common.{◌≡◌, ◌++◌, ◌∙◌, ℕ, Bool, true, false, List, [], ◌∷◌, Option, Some, None, flat_map, map, nat_eq, option_and_then, refl, ap, sym}
+use Rattle.std.proofs.lemmas.List.{map-append}
+use Rattle.std.specs.Prelude.{◌||◌, codes, decimal, if◌then◌else◌, option_map}
 use Rattle.spv_module.specs.Operand.{Plain, OfType, Result, Id, Word, Number, Text, Value, Mask, Argument, Mention, PlainInst, result_in}
 use Rattle.spv_module.specs.declared.opcode.TheConstants.{ENTRY_POINT, FUNCTION_CALL, LABEL, NAME}
-use Rattle.spv_pictures.specs.Calls.{call_edge, call_graph_text, callee_in, callee_of, declaration_mark, entry_in, entry_line, entry_mark, function_label, function_node, function_text, functions, has_label, name_in, name_line, name_of, named_by, or_later}
+use Rattle.spv_pictures.specs.Calls.{call_edge, call_graph_text, callee_in, callee_of, declaration_mark, entries_of, entry_in, entry_line, entry_lines, entry_mark, entry_names, given_to, function_label, function_node, function_text, functions, has_label, name_in, name_line, name_of, named_by, or_later}
 use Rattle.spv_pictures.specs.Function.{begins_function, ends_function}
 use Rattle.spv_pictures.specs.Label.{label_text, node_name, shown_id}
 use Rattle.spv_pictures.specs.Reading.{frame_of, retold, retold_operand}
@@ -175,10 +176,6 @@ module _ (f : List ℕ → List ℕ) where
   label_kept [] = refl
   label_kept (i ∷ body) = ap (λ b. nat_eq i.opcode LABEL || b) (label_kept body)
 
-  some_kept : (o : Option (List ℕ)) → is_some (option_map f o) ≡ is_some o
-  some_kept None = refl
-  some_kept (Some t) = refl
-
   label_same : (t : List ℕ) → Same 1 1 (label_text t) (label_text (f t))
   label_same t = same_texts (label_text t) (label_text (f t)) (label_unmarked t) (label_unmarked (f t))
 
@@ -186,22 +183,49 @@ module _ (f : List ℕ → List ℕ) where
   name_line_same None = same_nil 1
   name_line_same (Some t) = same-append 1 1 1 (codes "<BR/>") (codes "<BR/>") (label_text t) (label_text (f t)) (same_itself 1 (codes "<BR/>")) (label_same t)
 
-  entry_line_same : (o : Option (List ℕ)) → Same 1 1 (entry_line o) (entry_line (option_map f o))
-  entry_line_same None = same_nil 1
-  entry_line_same (Some t) =
+  given_kept : (x : ℕ) (o : Option (ℕ × List ℕ)) → given_to x (told o) ≡ map f (given_to x o)
+  given_kept x None = refl
+  given_kept x (Some p) = by (nat_eq p.0 x)
+    where
+      by : (b : Bool) → (if b then f p.1 ∷ [] else []) ≡ map f (if b then p.1 ∷ [] else [])
+      by true = refl
+      by false = refl
+
+  entry_names_kept : (is : List PlainInst) (x : ℕ) → entry_names (map (retold f) is) x ≡ map f (entry_names is x)
+  entry_names_kept [] x = refl
+  entry_names_kept (i ∷ is) x =
+      let g = λ (o : Option (ℕ × List ℕ)). given_to x o in
+      let later = entry_names (map (retold f) is) x in
+      ap (λ o. g o ++ later) (named_kept EntryPoint i) ∙ (ap (λ z. z ++ later) (given_kept x (named_by EntryPoint i))
+      ∙ (ap (λ z. map f (g (named_by EntryPoint i)) ++ z) (entry_names_kept is x) ∙ sym (map-append f (g (named_by EntryPoint i)) (entry_names is x))))
+
+  entries_kept : (is : List PlainInst) (o : Option ℕ) → entries_of (map (retold f) is) o ≡ map f (entries_of is o)
+  entries_kept is None = refl
+  entries_kept is (Some x) = entry_names_kept is x
+
+  entry_mark_kept : (ts : List (List ℕ)) → entry_mark (entry_lines (map f ts)) ≡ entry_mark (entry_lines ts)
+  entry_mark_kept [] = refl
+  entry_mark_kept (t ∷ ts) = refl
+
+  entry_line_same : (t : List ℕ) → Same 1 1 (entry_line t) (entry_line (f t))
+  entry_line_same t =
       let a = codes "<B><BR/>" in
       let b = codes "</B>" in
       same-append 1 1 1 a a (label_text t ++ b) (label_text (f t) ++ b) (same_itself 1 a) (same-append 1 1 1 (label_text t) (label_text (f t)) b b (label_same t) (same_itself 1 b))
+
+  entry_lines_same : (ts : List (List ℕ)) → Same 1 1 (entry_lines ts) (entry_lines (map f ts))
+  entry_lines_same [] = same_nil 1
+  entry_lines_same (t ∷ ts) = same-append 1 1 1 (entry_line t) (entry_line (f t)) (entry_lines ts) (entry_lines (map f ts)) (entry_line_same t) (entry_lines_same ts)
 
 shown_unmarked : (x : Option ℕ) → HasNoMark (shown_id x)
 shown_unmarked None = record { all = refl }
 shown_unmarked (Some x) = unmarked-append (codes "%") (decimal x) (record { all = refl }) (decimal_unmarked x)
 
-marks_level : (a b : Bool) → IsLevel (entry_mark a ++ (declaration_mark b ++ codes ";\n"))
-marks_level true true = record { level = refl }
-marks_level true false = record { level = refl }
-marks_level false true = record { level = refl }
-marks_level false false = record { level = refl }
+marks_level : (t : List ℕ) (b : Bool) → IsLevel (entry_mark t ++ (declaration_mark b ++ codes ";\n"))
+marks_level [] true = record { level = refl }
+marks_level [] false = record { level = refl }
+marks_level (c ∷ t) true = record { level = refl }
+marks_level (c ∷ t) false = record { level = refl }
 
 call_level : (from to : Option ℕ) → IsLevel (call_edge from to)
 call_level from None = record { level = refl }
@@ -218,30 +242,31 @@ moved : (s t u : List ℕ) → u ≡ t → Same 0 0 s t → Same 0 0 s u
 moved s t u q h = rw q h
 
 module _ (f : List ℕ → List ℕ) where
-  function_label_same : (x : Option ℕ) (name entry : Option (List ℕ)) → Same 0 0 (function_label x name entry) (function_label x (option_map f name) (option_map f entry))
-  function_label_same x name entry =
+  function_label_same : (x : Option ℕ) (name : Option (List ℕ)) (ts : List (List ℕ)) → Same 0 0 (function_label x name (entry_lines ts)) (function_label x (option_map f name) (entry_lines (map f ts)))
+  function_label_same x name ts =
       let a = codes " [label=<" in
       let b = codes ">]" in
       let s = shown_id x in
       let n = name_line name in
       let m = name_line (option_map f name) in
-      let e = entry_line entry in
-      let g = entry_line (option_map f entry) in
+      let e = entry_lines ts in
+      let g = entry_lines (map f ts) in
       same-append 0 1 0 a a (s ++ (n ++ (e ++ b))) (s ++ (m ++ (g ++ b))) (same_itself 0 a)
       (same-append 1 1 0 s s (n ++ (e ++ b)) (m ++ (g ++ b)) (same_texts s s (shown_unmarked x) (shown_unmarked x))
-      (same-append 1 1 0 n m (e ++ b) (g ++ b) (name_line_same f name) (same-append 1 1 0 e g b b (entry_line_same f entry) (same_itself 1 b))))
+      (same-append 1 1 0 n m (e ++ b) (g ++ b) (name_line_same f name) (same-append 1 1 0 e g b b (entry_lines_same f ts) (same_itself 1 b))))
 
-  node_same : (x : Option ℕ) (name entry : Option (List ℕ)) (b : Bool) → Same 0 0 (function_node x name entry b) (function_node x (option_map f name) (option_map f entry) b)
-  node_same x name entry b =
+  node_same : (x : Option ℕ) (name : Option (List ℕ)) (ts : List (List ℕ)) (b : Bool) → Same 0 0 (function_node x name (entry_lines ts) b) (function_node x (option_map f name) (entry_lines (map f ts)) b)
+  node_same x name ts b =
       let a = codes "  " in
       let n = node_name x in
-      let l = function_label x name entry in
-      let k = function_label x (option_map f name) (option_map f entry) in
-      let m = entry_mark (is_some entry) ++ (declaration_mark b ++ codes ";\n") in
-      let q : function_node x (option_map f name) (option_map f entry) b ≡ a ++ (n ++ (k ++ m)) = ap (λ c. a ++ (n ++ (k ++ (entry_mark c ++ (declaration_mark b ++ codes ";\n"))))) (some_kept f entry) in
-      moved (a ++ (n ++ (l ++ m))) (a ++ (n ++ (k ++ m))) (function_node x (option_map f name) (option_map f entry) b) q
+      let last = declaration_mark b ++ codes ";\n" in
+      let l = function_label x name (entry_lines ts) in
+      let k = function_label x (option_map f name) (entry_lines (map f ts)) in
+      let m = entry_mark (entry_lines ts) ++ last in
+      let q : function_node x (option_map f name) (entry_lines (map f ts)) b ≡ a ++ (n ++ (k ++ m)) = ap (λ c. a ++ (n ++ (k ++ (c ++ last)))) (entry_mark_kept f ts) in
+      moved (a ++ (n ++ (l ++ m))) (a ++ (n ++ (k ++ m))) (function_node x (option_map f name) (entry_lines (map f ts)) b) q
       (same-append 0 0 0 a a (n ++ (l ++ m)) (n ++ (k ++ m)) (same_itself 0 a)
-      (same-append 0 0 0 n n (l ++ m) (k ++ m) (same_level n (name_level x)) (same-append 0 0 0 l k m m (function_label_same x name entry) (same_level m (marks_level (is_some entry) b)))))
+      (same-append 0 0 0 n n (l ++ m) (k ++ m) (same_level n (name_level x)) (same-append 0 0 0 l k m m (function_label_same x name ts) (same_level m (marks_level (entry_lines ts) b)))))
 
   function_same : (is g : List PlainInst) → Same 0 0 (function_text is g) (function_text (map (retold f) is) (map (retold f) g))
   function_same is [] = same_nil 0
@@ -252,15 +277,17 @@ module _ (f : List ℕ → List ℕ) where
       let r = result_kept f i.operands in
       let b = has_label body in
       let calls = λ (from : Option ℕ) (js : List PlainInst). flat_map (λ (j : PlainInst). call_edge from (callee_of j)) js in
-      let text = λ (z : Option ℕ). function_node z (option_and_then (name_of Name js) z) (option_and_then (name_of EntryPoint js) z) (has_label (map (retold f) body)) ++ calls z (map (retold f) body) in
+      let after = map (retold f) body in
+      let text = λ (z : Option ℕ). function_node z (option_and_then (name_of Name js) z) (entry_lines (entries_of js z)) (has_label after) ++ calls z after in
       let name = option_and_then (name_of Name is) x in
-      let entry = option_and_then (name_of EntryPoint is) x in
-      let q : text y ≡ function_node x (option_map f name) (option_map f entry) b ++ calls x body
-      = ap text r ∙ (ap (λ z. function_node x z (option_and_then (name_of EntryPoint js) x) (has_label (map (retold f) body)) ++ calls x (map (retold f) body)) (name_at_kept f Name is x)
-      ∙ (ap (λ z. function_node x (option_map f name) z (has_label (map (retold f) body)) ++ calls x (map (retold f) body)) (name_at_kept f EntryPoint is x)
-      ∙ (ap (λ z. function_node x (option_map f name) (option_map f entry) z ++ calls x (map (retold f) body)) (label_kept f body) ∙ ap (λ z. function_node x (option_map f name) (option_map f entry) b ++ z) (calls_kept f x body)))) in
-      moved (function_text is (i ∷ body)) (function_node x (option_map f name) (option_map f entry) b ++ calls x body) (text y) q
-      (same-append 0 0 0 (function_node x name entry b) (function_node x (option_map f name) (option_map f entry) b) (calls x body) (calls x body) (node_same x name entry b) (same_level (calls x body) (calls_level x body)))
+      let ts = entries_of is x in
+      let node = function_node x (option_map f name) (entry_lines (map f ts)) b in
+      let q : text y ≡ node ++ calls x body
+      = ap text r ∙ (ap (λ z. function_node x z (entry_lines (entries_of js x)) (has_label after) ++ calls x after) (name_at_kept f Name is x)
+      ∙ (ap (λ z. function_node x (option_map f name) (entry_lines z) (has_label after) ++ calls x after) (entries_kept f is x)
+      ∙ (ap (λ z. function_node x (option_map f name) (entry_lines (map f ts)) z ++ calls x after) (label_kept f body) ∙ ap (λ z. node ++ z) (calls_kept f x body)))) in
+      moved (function_text is (i ∷ body)) (node ++ calls x body) (text y) q
+      (same-append 0 0 0 (function_node x name (entry_lines ts) b) node (calls x body) (calls x body) (node_same x name ts b) (same_level (calls x body) (calls_level x body)))
 
   functions_same : (is : List PlainInst) (gs : List (List PlainInst)) → Same 0 0 (flat_map (function_text is) gs) (flat_map (function_text (map (retold f) is)) (map (map (retold f)) gs))
   functions_same is [] = same_nil 0

@@ -5,7 +5,7 @@ use Rattle.std.specs.Fmt.{digits}
 use Rattle.std.specs.Str.{chars}
 use lib.Utf8.{encode}
 use Rattle.spv_pictures.specs.Blocks.{block_graph_text, marked_row}
-use Rattle.spv_pictures.specs.Calls.{call_graph_text}
+use Rattle.spv_pictures.specs.Calls.{call_graph_text, entry_lines}
 use Rattle.spv_pictures.specs.Example.{inst, kernel, kernel_blocks, kernel_calls, kernel_lines, no_blocks}
 use Rattle.spv_pictures.specs.Label.{drawn_text, label_text}
 use Rattle.spv_pictures.specs.Reading.{frame_of, read_back}
@@ -46,3 +46,7 @@ none_example = refl
 pub red_example : marked_row true (record { number = 3; inst = inst 253 []; line = codes "OpReturn" }) ≡ codes "<FONT COLOR=\"red\">3: OpReturn</FONT><BR ALIGN=\"LEFT\"/>"
 unfolding chars encode digits
 red_example = refl
+
+pub entries_example : entry_lines (codes "l" ∷ codes "k" ∷ []) ≡ codes "<B><BR/>l</B><B><BR/>k</B>"
+unfolding chars encode
+entries_example = refl

@@ -1,18 +1,18 @@
 //! The picture of a module's calls.
-ghost use Rattle.std.specs.Prelude.{◌≡◌, ◌<◌, ◌++◌, ◌∷◌, Option, IfOk, OnOk, drop, flat_map, is_some, length};
+ghost use Rattle.std.specs.Prelude.{◌≡◌, ◌<◌, ◌++◌, ◌∷◌, ℕ, Option, Some, IfOk, OnOk, drop, flat_map, length};
 ghost use Rattle.std.specs.Prelude.{map, option_map, string_bytes};
 ghost use Rattle.spv_module.specs.Module.{plain_inst, plain_insts, plain_operands};
 ghost use Rattle.spv_module.specs.Operand.{result_in};
 ghost use Rattle.spv_pictures.specs.Calls as calls;
 ghost use Rattle.spv_pictures.specs.Calls.{call_edge, call_graph_text, entry_line, function_label, function_node};
-ghost use Rattle.spv_pictures.specs.Calls.{function_text, functions, name_line};
-ghost use Rattle.spv_pictures.specs.declared.names.Naming.TheVariants.{Name, EntryPoint};
+ghost use Rattle.spv_pictures.specs.Calls.{function_text, functions, given_to, name_line, named_by};
+ghost use Rattle.spv_pictures.specs.declared.names.Naming.TheVariants.{EntryPoint};
 ghost use Rattle.spv_pictures.specs.inner.Adds.{Adds};
-ghost use Rattle.spv_pictures.specs.inner.Names.{AreKnown};
+ghost use Rattle.spv_pictures.specs.inner.Names.{AreKnown, HasEntries, kept};
 
 use crate::function::body_of;
 use crate::label::{push_id, push_label, push_node_name};
-use crate::names::{Naming, first_name, places_of};
+use crate::names::{Naming, first_name, named, places_of};
 use spv_module::{Inst, Module, Operand, opcode};
 use std::alloc::{AllocError, Global};
 use std::collections::BTreeMap;
@@ -22,7 +22,8 @@ use std::collections::BTreeMap;
 pub struct Known<'m, 'a> {
     insts: &'m [Inst<'a>],
     names: BTreeMap<u32, usize>,
-    entries: BTreeMap<u32, usize>,
+    /// Of each id the lines of the entry points that it is.
+    entries: BTreeMap<u32, String>,
 }
 
 /// Looks for the names of instructions.
@@ -31,7 +32,7 @@ fn look_for_names<'m, 'a>(alloc: Global, insts: &'m [Inst<'a>]) -> Result<Known<
     ensures insts { IfOk result (λ k. k.insts.now ≡ insts.now) }
 {
     let names = places_of(alloc, Naming::Name, insts)?;
-    let entries = places_of(alloc, Naming::EntryPoint, insts)?;
+    let entries = entry_lines_of(alloc, insts)?;
     Ok(Known {
         insts,
         names,
@@ -53,30 +54,68 @@ fn push_name_line(out: &mut String, name: Option<&str>) -> Result<(), AllocError
     }
 }
 
-/// Adds the name of an entry point, if a function is one.
-fn push_entry_line(out: &mut String, name: Option<&str>) -> Result<(), AllocError>
-    ensures { OnOk result (string_bytes out.new ≡ string_bytes out.old
-        ++ entry_line (option_map (λ t. t.now) name.entry)) }
+/// Adds the name of an entry point.
+fn push_entry_line(out: &mut String, name: &str) -> Result<(), AllocError>
+    ensures { OnOk result (string_bytes out.new ≡ string_bytes out.old ++ entry_line name.now) }
 {
-    match name {
-        Some(name) => {
-            out.push_str("<B><BR/>")?;
-            push_label(out, name)?;
-            out.push_str("</B>")
-        }
+    out.push_str("<B><BR/>")?;
+    push_label(out, name)?;
+    out.push_str("</B>")
+}
+
+/// Adds the name of one entry point more of a function to what is kept of it.
+fn keep_entry(
+    alloc: Global,
+    entries: &mut BTreeMap<u32, String>,
+    function: u32,
+    name: &str,
+) -> Result<(), AllocError>
+    ensures { OnOk result ((x : ℕ) → kept entries.new x
+        ≡ kept entries.old x ++ calls.entry_lines (given_to x (Some (function, name.now)))) }
+{
+    let mut lines = match entries.remove(&function) {
+        Some(lines) => lines,
+        None => String::new(alloc),
+    };
+    push_entry_line(&mut lines, name)?;
+    entries.insert(function, lines)?;
+    Ok(())
+}
+
+/// The same of an instruction, if it is an OpEntryPoint.
+fn keep_entry_of(
+    alloc: Global,
+    entries: &mut BTreeMap<u32, String>,
+    inst: &Inst<'_>,
+) -> Result<(), AllocError>
+    ensures { OnOk result ((x : ℕ) → kept entries.new x
+        ≡ kept entries.old x ++ calls.entry_lines (given_to x (named_by EntryPoint (plain_inst inst.now)))) }
+{
+    match named(Naming::EntryPoint, inst) {
+        Some((function, name)) => keep_entry(alloc, entries, function, name),
         None => Ok(()),
     }
 }
 
-/// Adds what marks an entry point.
-fn push_entry_mark(out: &mut String, entry: Option<&str>) -> Result<(), AllocError>
-    ensures { OnOk result (string_bytes out.new ≡ string_bytes out.old
-        ++ calls.entry_mark (is_some (option_map (λ t. t.now) entry.entry))) }
+/// Of each id the lines of the entry points that it is, in the order of the instructions.
+fn entry_lines_of(alloc: Global, insts: &[Inst<'_>]) -> Result<BTreeMap<u32, String>, AllocError>
+    ensures { IfOk result (HasEntries (map plain_inst insts.now)) }
 {
-    match entry {
-        Some(_) => out.push_str(" [peripheries=2]"),
-        None => Ok(()),
+    let mut entries = BTreeMap::new(alloc);
+    for inst in insts {
+        keep_entry_of(alloc, &mut entries, inst)?;
     }
+    Ok(entries)
+}
+
+/// Adds what marks an entry point, by its lines.
+fn push_entry_mark(out: &mut String, entries: &str) -> Result<(), AllocError>
+    ensures { OnOk result (string_bytes out.new ≡ string_bytes out.old ++ calls.entry_mark entries.now) }
+{
+    if entries.is_empty() {
+        return Ok(());
+    }
+    out.push_str(" [peripheries=2]")
 }
 
 /// Adds what marks a declaration.
@@ -94,15 +133,15 @@ fn push_function_label(
     out: &mut String,
     id: Option<u32>,
     name: Option<&str>,
-    entry: Option<&str>,
+    entries: &str,
 ) -> Result<(), AllocError>
     ensures { OnOk result (string_bytes out.new ≡ string_bytes out.old
-        ++ function_label id (option_map (λ t. t.now) name.entry) (option_map (λ t. t.now) entry.entry)) }
+        ++ function_label id (option_map (λ t. t.now) name.entry) entries.now) }
 {
     out.push_str(" [label=<")?;
     push_id(out, id)?;
     push_name_line(out, name)?;
-    push_entry_line(out, entry)?;
+    out.push_str(entries)?;
     out.push_str(">]")
 }
 
@@ -111,16 +150,16 @@ fn push_node(
     out: &mut String,
     id: Option<u32>,
     name: Option<&str>,
-    entry: Option<&str>,
+    entries: &str,
     has_block: bool,
 ) -> Result<(), AllocError>
     ensures { OnOk result (string_bytes out.new ≡ string_bytes out.old
-        ++ function_node id (option_map (λ t. t.now) name.entry) (option_map (λ t. t.now) entry.entry) has_block) }
+        ++ function_node id (option_map (λ t. t.now) name.entry) entries.now has_block) }
 {
     out.push_str("  ")?;
     push_node_name(out, id)?;
-    push_function_label(out, id, name, entry)?;
-    push_entry_mark(out, entry)?;
+    push_function_label(out, id, name, entries)?;
+    push_entry_mark(out, entries)?;
     push_declaration_mark(out, has_block)?;
     out.push_str(";\n")
 }
@@ -181,6 +220,20 @@ fn has_label(insts: &[Inst<'_>]) -> bool
 }
 
 impl<'m, 'a> Known<'m, 'a> {
+    /// The lines of the entry points that a function is.
+    fn entries_of(&self, id: Option<u32>) -> &str
+        requires { AreKnown self.now }
+        ensures { result.now ≡ calls.entry_lines (calls.entries_of (map plain_inst self.now.insts.now) id) }
+    {
+        let Some(id) = id else {
+            return "";
+        };
+        match self.entries.get(&id) {
+            Some(lines) => lines.as_str(),
+            None => "",
+        }
+    }
+
     /// Adds a function, by its OpFunction and the instructions of it that follow.
     fn push_function(
         &self,
@@ -194,8 +247,7 @@ impl<'m, 'a> Known<'m, 'a> {
     {
         let id = head.result_id();
         let name = first_name(Naming::Name, &self.names, self.insts, id);
-        let entry = first_name(Naming::EntryPoint, &self.entries, self.insts, id);
-        push_node(out, id, name, entry, has_label(body))?;
+        push_node(out, id, name, self.entries_of(id), has_label(body))?;
         push_calls(out, id, body)
     }
 
@@ -230,8 +282,8 @@ impl<'m, 'a> Known<'m, 'a> {
 }
 
 /// The picture of a module's calls, in DOT: a node for each function, and an edge for each function that it calls. A
-/// node has the function's id, and below it the first name that an OpName gives it and, in bold, that of its first
-/// OpEntryPoint. An entry point has two borders, a function without a block a dashed one. Of texts control characters
+/// node has the function's id, and below it the first name that an OpName gives it and, in bold, those of its
+/// OpEntryPoints. An entry point has two borders, a function without a block a dashed one. Of texts control characters
 /// stand as `\xNN`. Time is near-linear in the words of the module.
 ///
 /// An `AllocError` comes only where a growth of memory was refused.

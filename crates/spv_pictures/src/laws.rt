@@ -7,9 +7,9 @@ ghost use Rattle.spv_table.specs.Table.{Table};
 ghost use Rattle.spv_layout.specs.Shape.{FitsShape, IsUse};
 ghost use Rattle.spv_layout.specs.declared.form.Role.TheVariants as role;
 ghost use Rattle.spv_module.specs.declared.opcode.TheConstants as opcode;
-ghost use Rattle.spv_module.specs.Operand.{PlainInst};
+ghost use Rattle.spv_module.specs.Operand.{Id, PlainInst, Text, Value};
 ghost use Rattle.spv_pictures.specs.Blocks.{block_graph_text, edges_of, goes, marked_row};
-ghost use Rattle.spv_pictures.specs.Calls.{call_graph_text};
+ghost use Rattle.spv_pictures.specs.Calls.{call_graph_text, entry_lines, entry_names};
 ghost use Rattle.spv_pictures.specs.Example.{inst, kernel, kernel_blocks, kernel_calls, kernel_lines, no_blocks};
 ghost use Rattle.spv_pictures.specs.Label.{drawn_text, label_text};
 ghost use Rattle.spv_pictures.specs.Reading.{frame_of, is_mark, read_back, retold};
@@ -52,6 +52,10 @@ pub fn label_examples()
 /// A kernel that calls a function which is declared, and its three blocks.
 pub fn picture_examples()
     ensures calls { call_graph_text kernel ≡ kernel_calls }
+    ensures entries { entry_names (inst opcode.ENTRY_POINT (Value 0 6 ∷ Id 1 ∷ Text (codes "l") ∷ []) ∷ kernel) 1
+        ≡ codes "l" ∷ codes "k" ∷ [] }
+    ensures entry_lines { entry_lines (codes "l" ∷ codes "k" ∷ []) ≡ codes "<B><BR/>l</B><B><BR/>k</B>" }
+    ensures no_entry { entry_names kernel 2 ≡ [] }
     ensures blocks { block_graph_text None kernel kernel_lines 1 ≡ kernel_blocks }
     ensures none { block_graph_text None kernel kernel_lines 9 ≡ no_blocks }
     ensures step { goes (5 ∷ 7 ∷ 8 ∷ []) 7 8 ≡ true }

@@ -18,7 +18,7 @@ pub enum Naming {
 }
 
 /// The id that an instruction names in that way, and its name.
-fn named<'a>(naming: Naming, inst: &Inst<'a>) -> Option<(u32, &'a str)>
+pub fn named<'a>(naming: Naming, inst: &Inst<'a>) -> Option<(u32, &'a str)>
     ensures { option_map (λ p. (p.0, p.1.now)) result ≡ named_by naming (plain_inst inst.now) }
 {
     match (naming, inst.opcode, inst.operands.as_slice()) {

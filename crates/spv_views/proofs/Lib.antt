@@ -1,2 +1,3 @@
 pub mod Viewings
 pub mod lemmas
+pub mod Beginnings

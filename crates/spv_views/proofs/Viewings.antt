@@ -28,9 +28,11 @@ use Rattle.spv_words.specs.Header.{greatest_length}
 use Rattle.spv_layout.specs.Place.{IsShort, word_count}
 use Rattle.spv_explain.specs.Stream.{IsModuleOf}
 use Rattle.spv_annotate.specs.Document.{IsSpelled}
-use Rattle.spv_views.specs.View.{AreLaidOut, AreListed, BeginsViewing, HasNoText, HasPart, IsViewing, KeepsLayout, LacksFunction, Views, has_function, judged, lacks, mislaid, unlisted, viewed}
+use Rattle.spv_views.specs.View.{AreLaidOut, AreListed, BeginsViewing, HasNoText, HasPart, IsTextOf, IsViewing, KeepsLayout, LacksFunction, Views, begun, has_function, judged, lacks, mislaid, shows_beginning, unlisted, viewed, wordless}
+use Rattle.spv_views.specs.inner.Beginning.{IsBegun}
 use Rattle.spv_views.specs.inner.Viewed.{IsWrittenBy, is_behind_layout, is_text, output_of, viewed_refusal}
 use Rattle.spv_views.specs.declared.view.View.{View}
+use Rattle.spv_views.specs.declared.view.View.TheVariants.{Text, Page, Graph}
 use Rattle.spv_views.specs.declared.view.ViewError.{ViewError}
 use Rattle.spv_views.specs.declared.view.ViewError.TheVariants as trouble
 use Rattle.spv_views.specs.declared.viewing.Viewed.{Viewed}
@@ -55,14 +57,14 @@ behind rule.L2 = (λ e. cc, λ h. absurd (omega (arith, h)))
 behind _ = (λ e. omega arith, λ h. refl)
 
 -- bytes that are no words have no list
-pub no_words : (G : Table) (bytes : List ℕ) (code : WordError) (function : Option ℕ)
-    → ((e : WordError) (o : Order) (bs ws : List ℕ) → IsModule o bs ws → ¬ IsFirstBroken e bs) → IsFirstBroken code bytes → HasNoText G bytes function
-no_words G bytes code function never h = unlisted function (λ m l. never code l.order bytes l.words l.is_module h)
+pub no_words : (how : View) (G : Table) (bytes : List ℕ) (code : WordError) (function : Option ℕ)
+    → ((e : WordError) (o : Order) (bs ws : List ℕ) → IsModule o bs ws → ¬ IsFirstBroken e bs) → IsFirstBroken code bytes → HasNoText how G bytes function
+no_words how G bytes code function never h = wordless function (λ o ws m. never code o bytes ws m h)
 
 refused_line_written : (how : View) (G : Table) (function : Option ℕ) (bytes : List ℕ) (code : WordError)
     → ((e : WordError) (o : Order) (bs ws : List ℕ) → IsModule o bs ws → ¬ IsFirstBroken e bs) → IsFirstBroken code bytes
     → IsViewing how G function bytes (refused_line code) false
-refused_line_written how G function bytes code never h = judged (refused_line code) (no_words G bytes code function never h) (IsVerdict.refused code h)
+refused_line_written how G function bytes code never h = judged (refused_line code) (no_words how G bytes code function never h) (IsVerdict.refused code h)
 
 -- a code that was read
 pub refused_bytes : ((e : WordError) (o : Order) (bs ws : List ℕ) → IsModule o bs ws → ¬ IsFirstBroken e bs) → (how : View) (G : Table) (function : Option ℕ) (known : Option (List ℕ)) (code : WordError)
@@ -92,15 +94,44 @@ refused_count P code r q h = (λ p. let e = h.0 p in cc, λ e. cc)
 
 -- words that are no list of instructions
 pub no_list : ((o p : Order) (bs ws vs : List ℕ) → IsModule o bs ws → IsModule p bs vs → (o ≡ p) × (ws ≡ vs))
-    → (G : Table) (bytes words : List ℕ) (order : Order) (function : Option ℕ) → IsModule order bytes words → ((is : List PlainInst) → ¬ (IsListing G is (drop 5 words))) → HasNoText G bytes function
-no_list once G bytes words order function h none =
-    unlisted function (λ m l. none (plain_insts m) (subst (λ (ws : List ℕ). IsListing G (plain_insts m) (drop 5 ws)) ((once l.order order bytes l.words words l.is_module h).1) l.listed.listing))
+    → (how : View) (G : Table) (bytes words : List ℕ) (order : Order) (function : Option ℕ) → IsModule order bytes words → ((is : List PlainInst) → ¬ (IsListing G is (drop 5 words)))
+    → shows_beginning how function ≡ false → HasNoText how G bytes function
+no_list once how G bytes words order function h none s =
+    unlisted function s (λ m l. none (plain_insts m) (subst (λ (ws : List ℕ). IsListing G (plain_insts m) (drop 5 ws)) ((once l.order order bytes l.words words l.is_module h).1) l.listed.listing))
 
 -- of words that are no list, the verdict line; and so where a function is asked for, and functions cannot be told apart
 pub unlisted_line : ((o p : Order) (bs ws vs : List ℕ) → IsModule o bs ws → IsModule p bs vs → (o ≡ p) × (ws ≡ vs))
     → (how : View) (G : Table) (function : Option ℕ) (bytes words : List ℕ) (order : Order) (e : Explanation) → IsModule order bytes words → ((is : List PlainInst) → ¬ (IsListing G is (drop 5 words)))
-    → IsExplanation Short G Profile bytes e → IsViewing how G function bytes (line_of e.judgment) false
-unlisted_line once how G function bytes words order e h none x = judged (line_of e.judgment) (no_list once G bytes words order function h none) x.verdict
+    → shows_beginning how function ≡ false → IsExplanation Short G Profile bytes e → IsViewing how G function bytes (line_of e.judgment) false
+unlisted_line once how G function bytes words order e h none s x = judged (line_of e.judgment) (no_list once how G bytes words order function h none s) x.verdict
+
+-- or the instructions before the one that is malformed
+begun_by : (how : View) (G : Table) (function : Option ℕ) (bytes words : List ℕ) (order : Order) (e : Explanation) (m : Module) (text : List ℕ) → IsModule order bytes words
+    → IsBegun G words m → shows_beginning how function ≡ true → IsExplanation Short G Profile bytes e → IsTextOf how G function bytes m text → IsViewing how G function bytes text false
+begun_by how G function bytes words order e m text h b s x t = begun m text s (record {
+  words = words;
+  order = order;
+  is_module = h;
+  header = b.header;
+  part = b.part;
+  rest = b.rest;
+  all = b.all;
+  listed = b.listed;
+  rule = b.rule;
+  word = b.word;
+  malformed = b.malformed;
+}) t
+
+never_shown : (how : View) (id : ℕ) → shows_beginning how (Some id) ≡ true → ⊥
+never_shown (Text color) id e = cc
+never_shown (Page title) id e = cc
+never_shown Graph id e = cc
+
+pub begun_viewed : (how : View) (G : Table) (function : Option ℕ) (bytes words : List ℕ) (order : Order) (e : Explanation) (m : Module) (text : List ℕ) → IsModule order bytes words
+    → IsBegun G words m → shows_beginning how function ≡ true → IsExplanation Short G Profile bytes e → IsWrittenBy how G m e None text → IsViewing how G function bytes text false
+begun_viewed how G None bytes words order e m text h b s x w =
+    begun_by how G None bytes words order e m text h b s x (record { explanation = e; explains = x; finding = w.finding; of = w.of; written = w.written })
+begun_viewed how G (Some id) bytes words order e m text h b s x w = absurd (never_shown how id s)
 
 pub mislaid_line : (how : View) (G : Table) (id : ℕ) (bytes : List ℕ) (e : Explanation) → IsExplanation Short G Profile bytes e → ¬ (KeepsLayout e.judgment)
     → IsViewing how G (Some id) bytes (line_of e.judgment) false
@@ -177,6 +208,7 @@ short_begun_viewing never G how function h =
 pub no_view : (how : View) (G : Table) (function : Option ℕ) (bytes output : List ℕ) (answer : Bool) → answer ≡ true → ((o : Order) (ws : List ℕ) → ¬ (IsModule o bytes ws))
     → ¬ (IsViewing how G function bytes output answer)
 no_view how G function bytes _ _ e never (judged line n v) = cc
+no_view how G function bytes _ _ e never (begun m text s a t) = cc
 no_view how G function bytes _ _ e never (viewed m text l p t) = never l.order l.words l.is_module
 
 pub none_lacking : (G : Table) (bytes : List ℕ) (function : Option ℕ) → ((o : Order) (ws : List ℕ) → ¬ (IsModule o bytes ws)) → ¬ (LacksFunction G bytes function)

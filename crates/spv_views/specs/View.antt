@@ -1,14 +1,19 @@
 -- What is written of a stream of bytes for people to look at. (Own.)
-use Rattle.std.specs.Prelude.{◌≡◌, ◌<◌, ◌≤◌, ◌++◌, ℕ, List, [], Option, Some, None, Bool, true, false, length, take}
+use Rattle.std.specs.Prelude.{◌≡◌, ◌<◌, ◌≤◌, ◌++◌, ℕ, List, [], Option, Some, None, Bool, true, false, drop, length}
+use Rattle.std.specs.Prelude.{take}
 use Rattle.std.specs.List.{flat_map, list_any}
 use Rattle.spv_words.specs.Header.{IsModule}
 use Rattle.spv_words.specs.declared.words.Order.{Order}
 use Rattle.spv_table.specs.Table.{Table}
 use Rattle.spv_module.specs.Operand.{PlainInst}
+use Rattle.spv_module.specs.Instruction.{IsListing}
+use Rattle.spv_module.specs.Malformed.{IsMalformed}
 use Rattle.spv_module.specs.Module.{plain_insts}
+use Rattle.spv_module.specs.declared.fault.Rule.{Rule}
 use Rattle.spv_module.specs.declared.module.Module.{Module}
 use Rattle.spv_extended.specs.declared.reach.Reach.TheVariants.{Profile}
 use Rattle.spv_lines.specs.Text.{ShownLines}
+use Rattle.spv_inst.specs.Outcome.{IsHeaderOf}
 use Rattle.spv_layout.specs.First.{stage_of}
 use Rattle.spv_layout.specs.Stage.{of_layout}
 use Rattle.spv_verdict.specs.Text.{line_of}
@@ -46,6 +51,27 @@ KeepsLayout Valid = Unit {0}
 KeepsLayout (Refused code) = ⊥
 KeepsLayout (Broken f) = of_layout < stage_of f.rule
 
+-- The bytes are words of which the first spell the instructions of the module, and the next one is malformed. [2.3]
+pub record AreBegun (G : Table) (bytes : List ℕ) (m : Module) : Type 0 where
+  pub words : List ℕ
+  pub order : Order
+  pub is_module : IsModule order bytes words
+  pub header : IsHeaderOf words m.header
+  pub part : List ℕ
+  pub rest : List ℕ
+  pub all : drop 5 words ≡ part ++ rest
+  pub listed : IsListing G (plain_insts m) part
+  pub rule : Rule
+  pub word : ℕ
+  pub malformed : IsMalformed G (plain_insts m) rest rule word
+
+-- is the beginning of a module shown, where its words are no list of instructions: in the text and the page, where no
+-- function is asked for
+abbrev pub shows_beginning : View → Option ℕ → Bool
+shows_beginning (Text color) None = true
+shows_beginning (Page title) None = true
+shows_beginning how function = false
+
 -- The verdict on the bytes, under the table, breaks none of these rules; or it breaks one.
 pub record AreLaidOut (G : Table) (bytes : List ℕ) : Type 0 where
   pub judgment : Judgment
@@ -62,12 +88,14 @@ pub data HasPart (G : Table) (bytes : List ℕ) (is : List PlainInst) : Option �
   whole : HasPart G bytes is None
   part : (id : ℕ) → AreLaidOut G bytes → has_function is id ≡ true → HasPart G bytes is (Some id)
 
--- No text is written of the bytes: they are no words of a list of instructions; or a function is asked for, and where
--- one begins and ends cannot be told.
-pub data HasNoText (G : Table) (bytes : List ℕ) : Option ℕ → Type 0 where
-  unlisted : (function : Option ℕ) → ((m : Module) → ¬ (AreListed G bytes m))
-      → HasNoText G bytes function
-  mislaid : (id : ℕ) → AreMislaid G bytes → HasNoText G bytes (Some id)
+-- No text is written of the bytes: they are no words; they are those of no list of instructions, and the beginning of
+-- one is not shown; or a function is asked for, and where one begins and ends cannot be told.
+pub data HasNoText (how : View) (G : Table) (bytes : List ℕ) : Option ℕ → Type 0 where
+  wordless : (function : Option ℕ) → ((order : Order) (words : List ℕ) → ¬ (IsModule order bytes words))
+      → HasNoText how G bytes function
+  unlisted : (function : Option ℕ) → shows_beginning how function ≡ false
+      → ((m : Module) → ¬ (AreListed G bytes m)) → HasNoText how G bytes function
+  mislaid : (id : ℕ) → AreMislaid G bytes → HasNoText how G bytes (Some id)
 
 -- what the graph marks: the instruction of the fault and the labels of the blocks of its walk
 abbrev pub mark_in : annotate.Finding → graph.Finding → Type 0
@@ -110,11 +138,15 @@ pub record IsTextOf (how : View) (G : Table) (function : Option ℕ) (bytes : Li
   pub of : IsFindingOf explanation finding
   pub written : IsWritten how G m finding function text
 
--- This is what is written of all of these bytes, under the grammar table, and whether it is the text of a module.
+-- This is what is written of all of these bytes, under the grammar table, and whether it is the text of a whole module.
 pub data IsViewing (how : View) (G : Table) (function : Option ℕ) (bytes : List ℕ) : List ℕ → Bool → Type 0 where
   -- there is none: their verdict line
-  judged : (line : List ℕ) → HasNoText G bytes function → IsVerdict G Profile bytes line
+  judged : (line : List ℕ) → HasNoText how G bytes function → IsVerdict G Profile bytes line
       → IsViewing how G function bytes line false
+  -- they are those of no list of instructions: the instructions before the one that is malformed, and what explains it
+  begun : (m : Module) (text : List ℕ) → shows_beginning how function ≡ true → AreBegun G bytes m
+      → IsTextOf how G function bytes m text
+      → IsViewing how G function bytes text false
   -- there is one, and it has the function that is asked for
   viewed : (m : Module) (text : List ℕ) → AreListed G bytes m → HasPart G bytes (plain_insts m) function
       → IsTextOf how G function bytes m text

@@ -1,13 +1,19 @@
 //! Worked examples of what is written for people. Each function does nothing: its contract is what is proved.
-ghost use Rattle.std.specs.Prelude.{◌≡◌, ◌++◌, ◌∷◌, [], ℕ, List, Option, Some, None, true, false, codes};
+ghost use Rattle.std.specs.Prelude.{◌≡◌, ◌++◌, ◌∷◌, [], ℕ, List, Option, Some, None, Bool, true, false, codes, drop};
+ghost use Rattle.spv_words.specs.Header.{IsModule};
+ghost use Rattle.spv_words.specs.declared.words.Order.{Order};
+ghost use Rattle.spv_inst.specs.Outcome.{IsHeaderOf};
+ghost use Rattle.spv_module.specs.Module.{plain_insts};
+ghost use Rattle.spv_module.specs.declared.module.Module.{Module};
 ghost use Rattle.spv_table.specs.Table.{Table};
 ghost use Rattle.spv_module.specs.declared.fault.Fault.{Fault};
 ghost use Rattle.spv_module.specs.declared.fault.Rule.TheVariants.{D1, L2};
 ghost use Rattle.spv_verdict.specs.Verdict.{line_end};
 ghost use Rattle.spv_verdict.specs.declared.verdict_line.Judgment.TheVariants.{Broken, Valid};
 ghost use Rattle.spv_views.specs.Finding.{told_by};
-ghost use Rattle.spv_views.specs.View.{BeginsViewing, KeepsLayout, LacksFunction, Views};
+ghost use Rattle.spv_views.specs.View.{AreBegun, BeginsViewing, KeepsLayout, LacksFunction, Views, shows_beginning};
 ghost use Rattle.spv_views.specs.declared.view.View.{View};
+ghost use Rattle.spv_views.specs.declared.view.View.TheVariants.{Graph, Text};
 
 /// Worked examples of what is written of bytes.
 pub fn view_examples()
@@ -25,6 +31,17 @@ pub fn view_examples()
     spv_words::laws::examples();
     spv_words::laws::one_refusal();
 }
+
+/// Worked examples of the beginning of a module.
+pub fn beginning_examples()
+    // Behind its header a module has the word 0, an instruction of no words: none stands before it.
+    ensures begun { (G : Table) (bytes words : List ℕ) (order : Order) (m : Module) → IsModule order bytes words
+        → IsHeaderOf words m.header → plain_insts m ≡ [] → drop 5 words ≡ 0 ∷ [] → AreBegun G bytes m }
+    // It is shown as a text, and not as a graph, nor of a function.
+    ensures text { (color : Bool) → shows_beginning (Text color) None ≡ true }
+    ensures graph { shows_beginning Graph None ≡ false }
+    ensures part { (color : Bool) → shows_beginning (Text color) (Some 3) ≡ false }
+{}
 
 /// Worked examples of what is told of a fault.
 pub fn finding_examples()

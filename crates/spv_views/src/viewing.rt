@@ -1,11 +1,15 @@
 //! What is written of the bytes of a stream for people to look at.
 ghost use Rattle.std.specs.Prelude.{◌≡◌, ◌≢◌, ◌≤◌, ◌⊎◌, ◌↔◌, ◌++◌, [], ℕ, List, Some};
-ghost use Rattle.std.specs.Prelude.{IfErr, IfOk, IfSome, IsErr, IsErrOf, IsTrue, OnOk, length, string_bytes, take};
+ghost use Rattle.std.specs.Prelude.{IfErr, IfOk, IfSome, IsErr, IsErrOf, IsTrue, None, OnOk, drop, length};
+ghost use Rattle.std.specs.Prelude.{string_bytes, take};
 ghost use Rattle.std.specs.Io.KnownBytes.{Appends};
 ghost use Rattle.spv_words.specs.Header.{IsModule};
 ghost use Rattle.spv_words.specs.declared.words.Order.{Order};
 ghost use Rattle.spv_words.specs.declared.words.WordError.TheVariants.{W1};
+ghost use Rattle.spv_module.specs.Instruction.{IsListing};
 ghost use Rattle.spv_module.specs.Module.{plain_insts};
+ghost use Rattle.spv_module.specs.Operand.{PlainInst};
+ghost use Rattle.spv_module.specs.declared.module.Module.{Module};
 ghost use Rattle.spv_extended.specs.declared.reach.Reach.TheVariants.{Profile};
 ghost use Rattle.spv_lines.specs.Text.{ShownLines};
 ghost use Rattle.spv_layout.specs.Place.{IsShort};
@@ -14,18 +18,22 @@ ghost use Rattle.spv_fault_lines.specs.declared.fact.Detail.TheVariants.{Short};
 ghost use Rattle.spv_explain.specs.Stream.{IsExplanation};
 ghost use Rattle.spv_annotate.specs.Document.{IsSpelled};
 ghost use Rattle.spv_views.specs.View.{BeginsViewing, IsBlockGraph, IsViewing, IsWritten, KeepsLayout, LacksFunction};
+ghost use Rattle.spv_views.specs.View as view;
 ghost use Rattle.spv_views.specs.View.{Views};
+ghost use Rattle.spv_views.specs.inner.Beginning.{IsBegun};
 ghost use Rattle.spv_views.specs.inner.Viewed as viewed;
 ghost use Rattle.spv_views.specs.inner.Viewed.{IsReading, IsWrittenBy, is_text, output_of, viewed_refusal};
 ghost use Rattle.spv_views.specs.declared.view.ViewError.TheVariants as trouble;
 
+use crate::beginning::beginning_of;
 use crate::finding::{found_in, lent};
 use crate::view::{View, ViewError};
 use spv_annotate::{Finding, annotate, has_function, page, walk_labels};
 use spv_explain::{Detail, Explanation, Told, explained};
+use spv_inst::{decode, one_listing};
 use spv_layout::laws::word_counts;
 use spv_lines::shown_reads_back;
-use spv_module::{Module, Rule};
+use spv_module::{Module, Rule, Stop};
 use spv_pictures::{block_graph, call_graph};
 use spv_table::Table;
 use spv_verdict::{Judgment, line_for};
@@ -37,6 +45,8 @@ use std::alloc::{AllocError, Global};
 pub enum Viewed {
     /// The text of a module.
     Text(String),
+    /// That of the instructions before one that is malformed.
+    Beginning(String),
     /// The verdict line of bytes of which no text is written.
     Line(Judgment),
 }
@@ -162,28 +172,92 @@ fn text_of(
     text_with(alloc, table, how, function, module, lent(&found))
 }
 
+/// Whether the beginning of a module is shown, where its words are no list of instructions.
+fn shows_beginning(how: View<'_>, function: Option<u32>) -> bool
+    ensures { result ≡ view.shows_beginning how.entry function }
+{
+    match (how, function) {
+        (View::Text { .. } | View::Page { .. }, None) => true,
+        _ => false,
+    }
+}
+
+/// What is written of the instructions before one that is malformed, with what explains it.
+fn begun(
+    alloc: Global,
+    table: &Table,
+    how: View<'_>,
+    image: &Image,
+    explanation: &Explanation,
+) -> Result<String, ViewError>
+    requires { (is : List PlainInst) → ¬ (IsListing table.now is (drop 5 image.now)) }
+    ensures begun { IfOk result (λ t. (m : Module) × IsBegun table.now image.now m
+        × IsWrittenBy how.entry table.now m explanation.now None (string_bytes t)) }
+    ensures only { IfErr result (λ e. e ≡ trouble.Memory) }
+{
+    one_listing();
+    shown_reads_back();
+    word_counts();
+    let start = match beginning_of(alloc, table, image) {
+        Ok(start) => start,
+        Err(_) => return Err(ViewError::Memory),
+    };
+    let _words = start.len();
+    let module = match decode(alloc, table, &start) {
+        Ok(module) => module,
+        Err(Stop::Fault(_)) => unreachable!(),
+        Err(Stop::Memory) => return Err(ViewError::Memory),
+    };
+    let text = text_of(alloc, table, how, None, &module, explanation)?;
+    Ok(text)
+}
+
+/// What is written of words that are no list of instructions: what stands before the one that is malformed, where that
+/// is shown, or the verdict line.
+fn viewed_unlisted(
+    alloc: Global,
+    table: &Table,
+    how: View<'_>,
+    function: Option<u32>,
+    image: &Image,
+    explanation: &Explanation,
+) -> Result<Viewed, ViewError>
+    requires { (is : List PlainInst) → ¬ (IsListing table.now is (drop 5 image.now)) }
+    ensures viewed { (bytes : List ℕ) (order : Order) → IsModule order bytes image.now
+        → IsExplanation Short table.now Profile bytes explanation.now
+        → IfOk result (λ v. IsViewing how.entry table.now function bytes (output_of v) (is_text v)) }
+    ensures only { IfErr result (λ e. e ≡ trouble.Memory) }
+{
+    spv_words::laws::one_word_list();
+    if !shows_beginning(how, function) {
+        return Ok(Viewed::Line(explanation.judgment));
+    }
+    let text = begun(alloc, table, how, image, explanation)?;
+    Ok(Viewed::Beginning(text))
+}
+
 /// What is written of a module, with what explains its verdict, or the verdict line.
 fn viewed_told(
     alloc: Global,
     table: &Table,
     how: View<'_>,
     function: Option<u32>,
+    image: &Image,
     told: &Told<'_>,
 ) -> Result<Viewed, ViewError>
-    requires { (words : List ℕ) × IsReading table.now words told.now }
-    ensures viewed { (bytes words : List ℕ) (order : Order) → IsModule order bytes words
-        → IsReading table.now words told.now → IsExplanation Short table.now Profile bytes told.now.explanation
+    requires { IsReading table.now image.now told.now }
+    ensures viewed { (bytes : List ℕ) (order : Order) → IsModule order bytes image.now
+        → IsExplanation Short table.now Profile bytes told.now.explanation
         → IfOk result (λ v. IsViewing how.entry table.now function bytes (output_of v) (is_text v)) }
-    ensures stranger { (bytes words : List ℕ) (order : Order) → IsModule order bytes words
-        → IsReading table.now words told.now → IsExplanation Short table.now Profile bytes told.now.explanation
+    ensures stranger { (bytes : List ℕ) (order : Order) → IsModule order bytes image.now
+        → IsExplanation Short table.now Profile bytes told.now.explanation
         → IsErrOf result trouble.NoFunction → LacksFunction table.now bytes function }
     ensures only { IfErr result (λ e. e ≢ trouble.Failed) }
 {
-    spv_words::laws::one_word_list();
     shown_reads_back();
     word_counts();
     let Some(module) = &told.module else {
-        return Ok(Viewed::Line(told.explanation.judgment));
+        return viewed_unlisted(alloc, table, how, function, image, &told.explanation);
     };
     if let Some(id) = function {
         if !keeps_layout(told.explanation.judgment) {
@@ -217,7 +291,7 @@ pub fn view_image(
 {
     let _words = image.len();
     match explained(alloc, table, Detail::Short, image) {
-        Ok(told) => viewed_told(alloc, table, how, function, &told),
+        Ok(told) => viewed_told(alloc, table, how, function, image, &told),
         Err(_) => Err(ViewError::Memory),
     }
 }
@@ -251,7 +325,7 @@ impl Viewed {
     {
         match self {
             Viewed::Text(_) => true,
-            Viewed::Line(_) => false,
+            Viewed::Beginning(_) | Viewed::Line(_) => false,
         }
     }
 
@@ -266,7 +340,7 @@ impl Viewed {
         ensures steady { OnOk result (W.failures w.new ≡ W.failures w.old) }
     {
         match self {
-            Viewed::Text(text) => write_all(text.as_bytes(), w),
+            Viewed::Text(text) | Viewed::Beginning(text) => write_all(text.as_bytes(), w),
             Viewed::Line(verdict) => {
                 let line = line_for(*verdict);
                 write_all(line.as_slice(), w)
@@ -276,7 +350,9 @@ impl Viewed {
 }
 
 /// Writes what people look at of the module that a reader's bytes up to the end of input are, and answers true; or,
-/// where they are no words of a module or no list of instructions, their verdict line, and answers false.
+/// where they are no words of a module or no list of instructions, their verdict line, and answers false. Of words that
+/// are no list of instructions the text and the page have those before the one that is malformed, and what explains
+/// that behind them; the answer is false too.
 ///
 /// With a function's id only that function is written of; of a module that breaks a rule P or L, so that its functions
 /// cannot be told apart, the verdict line is written then, and the answer is false. Where the module is not valid, what

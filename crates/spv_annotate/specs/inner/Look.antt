@@ -13,5 +13,6 @@ scene l = record {
   naming = kept l.namings.now;
   users = λ x. leading x l.uses.now.edges.items;
   fault = l.fault;
+  faulty = l.faulty;
   walked = λ x. is_some (kept l.walk.now x);
 }

@@ -19,7 +19,7 @@ use Rattle.spv_views.specs.declared.view.View.{View}
 use Rattle.spv_views.specs.declared.view.ViewError.{ViewError}
 use Rattle.spv_views.specs.declared.view.ViewError.TheVariants.{Failed, Memory}
 use Rattle.spv_views.specs.declared.viewing.Viewed.{Viewed}
-use Rattle.spv_views.specs.declared.viewing.Viewed.TheVariants.{Text, Line}
+use Rattle.spv_views.specs.declared.viewing.Viewed.TheVariants.{Text, Beginning, Line}
 
 -- The words are those of a module, of 32 bits each, and spell the one that was read, or none.
 pub record IsReading (G : Table) (words : List ℕ) (t : Told) : Type 0 where
@@ -37,11 +37,13 @@ pub record IsWrittenBy (how : View) (G : Table) (m : Module) (e : Explanation) (
 -- the octets that are written
 abbrev pub output_of : Viewed → List ℕ
 output_of (Text t) = string_bytes t
+output_of (Beginning t) = string_bytes t
 output_of (Line j) = line_of j
 
 -- is it the text of a module
 abbrev pub is_text : Viewed → Bool
 is_text (Text t) = true
+is_text (Beginning t) = false
 is_text (Line j) = false
 
 -- a failed read and out of memory are errors, and of all other codes the line is written

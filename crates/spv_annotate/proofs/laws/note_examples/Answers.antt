@@ -8,6 +8,10 @@ pub returns-clause-names : goal.returns-clause-names
 unfolding digits facts_of
 returns-clause-names c = refl
 
+pub returns-clause-other_entry : goal.returns-clause-other_entry
+unfolding digits facts_of
+returns-clause-other_entry c = refl
+
 pub returns-clause-long : goal.returns-clause-long
 unfolding cut_at
 returns-clause-long c = refl

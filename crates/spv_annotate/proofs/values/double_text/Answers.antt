@@ -1,28 +1,21 @@
-use Rattle.std.proofs.Common.{◌≡◌, ◌∙◌, List, ℕ, Some, subst, sym, arith}
-use Rattle.std.specs.Prelude.{codes, string_bytes}
-use Rattle.std.specs.Float.{binary64}
+use Rattle.std.proofs.Common.{◌≡◌, ◌∙◌, List, ℕ, false, subst, sym}
+use Rattle.std.specs.Prelude.{string_bytes}
 use Rattle.std.proofs.lemmas.Bool.{le-ltb}
 use Rattle.std.proofs.lemmas.Float.{T_from_false}
 use Rattle.std.proofs.lemmas.Result.{IfOk-weaker}
 use lib.Ieee.Bits.{nan_bits_above}
+use Rattle.std.specs.Float.{binary64}
 use Rattle.spv_annotate.specs.declared.values.Bits.TheVariants.{Double}
-use Rattle.spv_annotate.specs.Values.{IsValue}
-use Rattle.spv_annotate.proofs.Floats.{float_tame, nan_reads_double}
+use Rattle.spv_annotate.specs.Values.{IsValueOf}
+use Rattle.spv_annotate.proofs.Floats.{float_tame}
 use Rattle.spv_annotate.proofs.values.double_text.Goals as goal
 
-pub returns-then-bits-gt9218868437227405312 : goal.returns-then-bits-gt9218868437227405312
-returns-then-bits-gt9218868437227405312 c =
-    IfOk-weaker c.from_str.result (λ t. string_bytes t ≡ codes "NaN") (λ t. IsValue (Some (Double c.args.bits)) (string_bytes t))
-    (λ t e. subst (λ (z : List ℕ). IsValue (Some (Double c.args.bits)) z) (sym e)
-    (nan_reads_double c.args.bits c.if-bits-gt9218868437227405312.true, (omega arith, (omega arith, (omega arith, tt)))))
-    c.from_str.ensures.ok
-
 pub float_from_bits-bits : goal.float_from_bits-bits
-float_from_bits-bits c = T_from_false _ (nan_bits_above binary64 c.args.bits ∙ le-ltb _ _ c.if-bits-gt9218868437227405312.false)
+float_from_bits-bits c = T_from_false _ (nan_bits_above binary64 c.args.bits ∙ le-ltb _ _ c.requires)
 
 pub returns : goal.returns
 returns c =
-    IfOk-weaker c.from_str-2.result (λ t. string_bytes t ≡ c.format.result.now) (λ t. IsValue (Some (Double c.args.bits)) (string_bytes t))
-    (λ t e. subst (λ (z : List ℕ). IsValue (Some (Double c.args.bits)) z) (sym e)
+    IfOk-weaker c.from_str.result (λ t. string_bytes t ≡ c.format.result.now) (λ t. IsValueOf false (Double c.args.bits) (string_bytes t))
+    (λ t e. subst (λ (z : List ℕ). IsValueOf false (Double c.args.bits) z) (sym e)
     (c.format.ensures.parses, float_tame _ c.format.result.now c.format.ensures.plain c.format.ensures.word))
-    c.from_str-2.ensures.ok
+    c.from_str.ensures.ok

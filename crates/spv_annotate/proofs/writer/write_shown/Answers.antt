@@ -1,8 +1,8 @@
-use Rattle.std.proofs.Common.{ℕ, List, ap, arith, drop, flat_map, length, length-drop, subst}
+use Rattle.std.proofs.Common.{◌++◌, ℕ, List, ap, arith, drop, flat_map, length, length-drop, subst}
 use Rattle.std.specs.Prelude.{OnOk}
 use Rattle.std.proofs.lemmas.Result.{IfOk-weaker}
 use Rattle.spv_lines.specs.Text.{header_lines, lines_of}
-use Rattle.spv_annotate.specs.Document.{document, entries, header_piece}
+use Rattle.spv_annotate.specs.Document.{document, entries, header_piece, verdict_piece}
 use Rattle.spv_annotate.specs.Piece.{IsWritten}
 use Rattle.spv_annotate.specs.inner.Task.{subject_of}
 use Rattle.spv_annotate.proofs.Writings.{written_more}
@@ -23,13 +23,17 @@ returns g c =
     let text = g.P.Pen.text in
     let writes = g.P.Pen.writes in
     let pen = c.args.pen.now in
+    let top = c.write_verdict.new.pen in
     let one = c.write_header.new.pen in
     let last = c.write_entries.new.pen in
     let t = c.args.task.now in
     let h = header_lines t.module.now.header in
     let S = subject_of t (drop 5 (lines_of c.args.text.now)) in
-    let front : IsWritten text writes (flat_map header_piece h) pen one =
-    subst (λ (ls : List (List ℕ)). IsWritten text writes (flat_map header_piece ls) pen one) c.requires.header c.in_ok-rest.ensures.written in
+    let v = verdict_piece t.finding in
+    let below = flat_map header_piece h ++ entries S in
+    let front : IsWritten text writes (flat_map header_piece h) top one =
+    subst (λ (ls : List (List ℕ)). IsWritten text writes (flat_map header_piece ls) top one) c.requires.header c.in_ok-rest.ensures.written in
     IfOk-weaker c.write_entries.result (λ _. IsWritten text writes (entries S) one last) (λ _. IsWritten text writes (document S) pen last)
-    (λ _ k. written_more text writes (flat_map header_piece h) (entries S) pen one last front k)
+    (λ _ k. written_more text writes v below pen top last c.in_ok-write_verdict.ensures
+    (written_more text writes (flat_map header_piece h) (entries S) top one last front k))
     (subst (λ (ls : List (List ℕ)). OnOk c.write_entries.result (IsWritten text writes (entries (subject_of t ls)) one last)) c.in_ok-rest.ensures.rest c.write_entries.ensures)

@@ -1,6 +1,6 @@
 use Rattle.std.proofs.Common.{arith}
 use Rattle.std.proofs.lemmas.Grind.{elements}
-use Rattle.spv_annotate.proofs.look.Look.opcode.Goals as goal
+use Rattle.spv_annotate.proofs.outline.opcode_at.Goals as goal
 
 pub returns-in-Some : goal.returns-in-Some
 returns-in-Some c = grind (arith, elements)
