@@ -1,5 +1,5 @@
 -- The lines that most instructions have, of operands as they mostly stand.
-use Rattle.std.proofs.Common.{◌≡◌, ◌↔◌, inl, ℕ, List, [], ◌∷◌, Option, Some, None, Bool, refl, sym, ap, subst, ◌∙◌, take}
+use Rattle.std.proofs.Common.{◌≡◌, ◌↔◌, inl, ℕ, List, [], ◌∷◌, Some, None, Bool, sym, ap, subst}
 use Rattle.std.specs.Prelude.{IsTrue, IsSomeAnd}
 use Rattle.std.proofs.lemmas.Option.{none-some, same_Some}
 use Rattle.spv_module.specs.Operand.{Plain, OfType, Result, Id, Mask, PlainInst}

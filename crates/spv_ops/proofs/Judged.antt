@@ -7,7 +7,7 @@ use Rattle.spv_module.specs.Operand.{PlainInst}
 use Rattle.spv_layout.specs.Shape.{FitsShape}
 use Rattle.spv_ops.specs.declared.table.Places.{Places}
 use Rattle.spv_ops.specs.declared.table.Places.TheVariants as places
-use Rattle.spv_ops.specs.Table.{places_of, asks_of}
+use Rattle.spv_ops.specs.Table.{places_of}
 use Rattle.spv_ops.proofs.Rows.{free_asks}
 use Rattle.spv_type_forms.specs.Values.{AreValues, types_of}
 use Rattle.spv_ops.specs.Values.{values_of}

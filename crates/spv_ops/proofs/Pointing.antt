@@ -1,5 +1,5 @@
 -- What opcodes ask that take any number of values, as a whole.
-use Rattle.std.proofs.Common.{◌≡◌, ◌∙◌, ◌+◌, ◌-◌, ◌++◌, ℕ, zero, suc, List, [], ◌∷◌, Option, Some, None, Bool, true, false, refl, ap, subst, length, drop, arith}
+use Rattle.std.proofs.Common.{◌≡◌, ◌+◌, ◌-◌, ◌++◌, ℕ, zero, suc, List, [], ◌∷◌, Option, Some, None, Bool, true, false, refl, ap, subst, length, drop, arith}
 use Rattle.std.specs.Prelude.{IsSomeAnd, slice_get}
 use Rattle.std.specs.List.{AllByRecursion}
 use Rattle.spv_module.specs.Operand.{Plain, PlainInst}
@@ -7,7 +7,7 @@ use Rattle.spv_module.specs.Operand as operand
 use Rattle.spv_type_forms.specs.declared.form.Form.{Form}
 use Rattle.spv_type_forms.specs.declared.form.Form.TheVariants as form
 use Rattle.spv_type_forms.specs.Form.{form_of}
-use Rattle.spv_type_forms.specs.Types.{class_in, pointee_in, IsData, IsSomeInt, PointsTo}
+use Rattle.spv_type_forms.specs.Types.{class_in, pointee_in, IsSomeInt, PointsTo}
 use Rattle.spv_conditions.specs.declared.asked.Rest.{Rest}
 use Rattle.spv_conditions.specs.declared.asked.Rest.TheVariants as beside
 use Rattle.spv_conditions.specs.declared.asked.Asked.{Asked}

@@ -1,5 +1,5 @@
 -- What is evidence for Y5 shows that the rule is broken.
-use Rattle.std.proofs.Common.{◌≡◌, ◌∙◌, ◌++◌, ℕ, List, [], ◌∷◌, Some, inl, inr, sym, ap, subst, length, map}
+use Rattle.std.proofs.Common.{◌≡◌, ◌∙◌, ℕ, List, Some, inl, inr, sym, ap, subst, length, map}
 use Rattle.std.specs.Prelude.{slice_get}
 use Rattle.std.specs.List.{AllByRecursion}
 use Rattle.std.proofs.lemmas.List.{length-map}
@@ -8,7 +8,6 @@ use Rattle.spv_module.specs.Operand.{PlainInst}
 use Rattle.spv_module.specs.declared.fault.Rule.{Rule}
 use Rattle.spv_layout.specs.declared.form.Form.{Form}
 use Rattle.spv_layout.proofs.Shapes.{forms_same}
-use Rattle.spv_type_forms.specs.Operands.{result_type_in}
 use Rattle.spv_type_forms.specs.Values.{AreValues, types_of, used_in}
 use Rattle.spv_ops.specs.Table.{conditions_of}
 use Rattle.spv_ops.specs.Typed.{Typed, IsTyped}

@@ -1,9 +1,6 @@
-use Rattle.std.proofs.Common.{◌≡◌, ◌∙◌, ap, length}
-use Rattle.std.specs.List.{AllByRecursion}
+use Rattle.std.proofs.Common.{◌≡◌, ◌∙◌, ap}
 use Rattle.spv_module.specs.Module.{plain_inst, plain_operands}
 use Rattle.spv_type_forms.specs.Operands.{result_type_in}
-use Rattle.spv_conditions.specs.Condition.{FailsFirst}
-use Rattle.spv_conditions.specs.Asks.{HoldsOf, conditions_in}
 use Rattle.spv_evidence.specs.Named.{IsDefinedBy}
 use Rattle.spv_evidence.specs.Values.{types_in}
 use Rattle.spv_operation_evidence.specs.Beside.{operand_in}

@@ -3,7 +3,6 @@ use Rattle.std.specs.Prelude.{IsTrue}
 use Rattle.spv_module.specs.Module.{plain_inst, plain_operands}
 use Rattle.spv_module.specs.Operand.{Plain}
 use Rattle.spv_type_forms.specs.Operands.{after_head, result_type_in}
-use Rattle.spv_ops.specs.declared.table.Places.{Places}
 use Rattle.spv_ops.specs.declared.table.Places.TheVariants as places
 use Rattle.spv_ops.specs.Table.{asks_of, places_of}
 use Rattle.spv_ops.specs.inner.Wide.{IsWide}
