@@ -41,7 +41,7 @@ use Rattle.spv_type_forms.specs.Values.{types_of}
 use Rattle.spv_ops.specs.Values.{values_of}
 use Rattle.spv_ops.specs.Typed.{Typed}
 use Rattle.spv_ops.specs.inner.Typed.{IsTypedIn}
-use Rattle.spv_verdict.proofs.Decided.{Decided, anew, both, three, four, either, opposite, some_and, pinned, number_same, numbers_same, all_or_not, is_true}
+use Rattle.spv_verdict.proofs.Decided.{Decided, anew, both, three, either, opposite, some_and, pinned, number_same, numbers_same, all_or_not, is_true}
 use Rattle.spv_verdict.proofs.Standing.{global_section_or_not, function_or_none, global_or_not, less_or_not}
 
 -- what an id declares
