@@ -94,7 +94,7 @@ def table():
     rows = []
     for groups, _, asked in LINE.findall(part(TYPED, r"\$what! \{\n(.*?)\n {8}\}\n")):
         instructions = ", ".join(group(first, last, known) for first, last in OPCODES_OF.findall(groups))
-        conditions = X
+        conditions = "; ".join(condition(one.split(), told) for one in re.findall(r"\[([^\]]*)\]", asked))
         rows.append(f"| {instructions} | {conditions} |\n")
     return HEAD + "".join(rows)
 
