@@ -223,7 +223,7 @@ VALID = ("Rattle.spv_verdict.specs.Valid", "IsValid")
 BY_VALID = """What a valid module is, `IsValid` alone: {count}.
 """
 
-TABLES_HEAD = """Two tables are not said again in definitions: `rows` of spv_layout/specs/Rows and `row_of` of spv_ops/specs/Row name the tables of the code, which stand there a row a line, in words and letters that the macros above them turn into values. These rows are to be read too, as definitions are; they are not among the lines that are counted here. Nor are the lists of what extended instructions take, which `facts_of` of spv_extended/specs/Facts names: how their numbers are read stands above them, and `tests/extended` compares them with Khronos' files:"""
+TABLES_HEAD = """Two tables are not said again in definitions: `rows` of spv_layout/specs/Rows and `lines` of spv_ops/specs/Table name the tables of the code, which stand there a row a line, in words and letters that the macros above them turn into values. These rows are to be read too, as definitions are; they are not among the lines that are counted here. Nor are the lists of what extended instructions take, which `facts_of` of spv_extended/specs/Facts names: how their numbers are read stands above them, and `tests/extended` compares them with Khronos' files:"""
 
 CONSTANTS_HEAD = """## Constants of the code
 
@@ -316,8 +316,9 @@ RULES = (
         "the types of operands and results",
         [
             ("spv_ops/specs/Typed.antt", "IsTyped"),
-            ("spv_ops/specs/Typed.antt", "RowHolds"),
-            ("spv_ops/specs/Row.antt", "row_of"),
+            ("spv_ops/specs/Typed.antt", "LineHolds"),
+            ("spv_ops/specs/Table.antt", "conditions_of"),
+            ("spv_conditions/specs/Asks.antt", "HoldsOf"),
         ],
         [],
     ),
@@ -338,7 +339,7 @@ RULES = (
 # The tables of the code that definitions name: the crate, the file of its src/, what it is, and where its rows begin.
 TABLES = (
     ("spv_layout", "rows.rt", "the table of shapes (P1, L1, L2, Y1)", r"\$what! \{\n(.*?)\n *\}"),
-    ("spv_ops", "row.rt", "the table of types (Y5)", r"= entries! \{\n(.*?)\n\};"),
+    ("spv_ops", "table.rt", "the table of types (Y5)", r"\$what! \{\n(.*?)\n {8}\}\n"),
 )
 
 # The lists of the code that definitions name: the crate, the file of its src/, and what they are.
@@ -601,7 +602,8 @@ def tables():
         found = re.search(pattern, path.read_text(encoding="utf-8"), re.S)
         if not found:
             raise NotFound(f"{crate}/src/{file} has no table")
-        yield f"- `TABLE` of {crate}/src/{file}, {about}: {len(found[1].splitlines())} rows"
+        rows = re.findall(r"(?m)^ +[A-Z]\w+.*?:", found[1])
+        yield f"- `TABLE` of {crate}/src/{file}, {about}: {len(rows)} rows"
     crate, file, about = LISTS
     text = (CRATES / crate / "src" / file).read_text(encoding="utf-8")
     found = [f"`{name}` ({count})" for name, count in re.findall(r"pub static (\w+): \[u32; (\d+)\]", text)]

@@ -2,8 +2,8 @@
 
 Both crates find the row of an opcode in a list of numbers, `NUMBERS`: of each opcode the number of
 its row, from 0, or 255 where there is none. A row is a line of the table in src/rows.rt of
-spv_layout and src/row.rt of spv_ops, and begins with its opcodes, which are named as in spv_module.
-A proof says that the lists are right; this is what writes them.
+spv_layout and src/table.rt of spv_ops, and begins with its opcodes, which are named as in
+spv_module. A proof says that the lists are right; this is what writes them.
 """
 
 import re
@@ -14,7 +14,7 @@ from .common import TESTS, Check, Unusable
 CRATES = TESTS.parent / "crates"
 OPCODES = CRATES / "spv_module/src/opcode.rt"
 LAYOUT = CRATES / "spv_layout/src/rows.rt"
-TYPED = CRATES / "spv_ops/src/row.rt"
+TYPED = CRATES / "spv_ops/src/table.rt"
 NONE = 255
 WIDTH = 95
 REMEDY = "tests/rows-of-opcodes --write makes it anew"
@@ -42,12 +42,18 @@ def opcodes():
     }
 
 
-def rows(path, begin):
-    """Of each row of a table, which begins after a text, both its opcodes, with its number."""
+ROW = re.compile(r"(?m)^ +([A-Z]\w+(?: to \w+)?(?:, \w+(?: to \w+)?)*)(?: by \w+)?:(?: |$)")
+OPCODES_OF = re.compile(r"(\w+)(?: to (\w+))?")
+
+
+def rows(path):
+    """Of each row of a table the first and the last opcode of each group, with its number."""
     known = opcodes()
-    lines = re.findall(r"(?m)^ +(\w+)(?: to (\w+))?: ", part(path, begin + r" \{\n(.*?)\n *\}"))
+    lines = ROW.findall(part(path, r"\$what! \{\n(.*?)\n {8}\}\n"))
     return [
-        (known[first], known[last or first], number) for number, (first, last) in enumerate(lines)
+        (known[first], known[last or first], number)
+        for number, line in enumerate(lines)
+        for first, last in OPCODES_OF.findall(line)
     ]
 
 
@@ -63,8 +69,8 @@ def list_of(rows):
 def files():
     """Both files, with what they must hold."""
     found = {}
-    for path, begin in ((LAYOUT, r"\$what!"), (TYPED, r"= entries!")):
-        now, told = text(path), list_of(rows(path, begin))
+    for path in (LAYOUT, TYPED):
+        now, told = text(path), list_of(rows(path))
         if not NUMBERS.search(now):
             raise Unusable(f"{path} has no NUMBERS")
         found[path] = NUMBERS.sub(lambda was, told=told: (was[1] or "") + told, now)

@@ -2,6 +2,5 @@ pub mod Named
 pub mod Reads
 pub mod Values
 pub mod Chain
-pub mod Stops
 pub mod Path
 pub mod Example

@@ -1,12 +1,11 @@
 //! Worked examples. Each function does nothing: its contract is what is proved.
 
-ghost use Rattle.std.specs.Prelude.{◌≡◌, [], ◌∷◌, Some, None, IsSome, true, false};
-ghost use Rattle.spv_module.specs.Operand.{Word};
+ghost use Rattle.std.specs.Prelude.{◌≡◌, [], ◌∷◌, Some, None, false};
 ghost use Rattle.spv_type_forms.specs.Example.{small};
 ghost use Rattle.spv_evidence.specs.Named.{named_at};
 ghost use Rattle.spv_evidence.specs.Reads.{reads};
-ghost use Rattle.spv_evidence.specs.Chain.{led_by, led_to, read_chosen, read_led};
-ghost use Rattle.spv_evidence.specs.Path.{path_by, reached_by, stop_at};
+ghost use Rattle.spv_evidence.specs.Chain.{read_chosen, read_led};
+ghost use Rattle.spv_evidence.specs.Path.{path_by};
 ghost use Rattle.spv_evidence.specs.Example.{vector};
 
 /// What stands beside a condition: of %9 = OpTypeVector %1 5 the id that an operand names, and the types that are read
@@ -18,24 +17,16 @@ pub fn beside_examples()
     ensures not_read { ¬ (reads small None (Some 1) ≡ []) }
 {}
 
-/// Where indexes of an access chain lead: %8 is a variable whose type, %7, is a pointer to the struct type %6 of an int
-/// and a float; %5 is an OpConstant, of number 1, and %18 an OpSpecConstant.
+/// The types on the way of indexes of an access chain: %8 is a variable whose type, %7, is a pointer to the struct type
+/// %6 of an int and a float; %5 is an OpConstant, of number 1.
 pub fn chain_examples()
-    ensures led { led_to small false (8 ∷ 5 ∷ []) (7 ∷ 1 ∷ []) ≡ Some 2 }
-    ensures not_led { ¬ (led_to small false (8 ∷ 5 ∷ []) (7 ∷ 1 ∷ []) ≡ Some 1) }
-    ensures chosen { IsSome (led_by small true (8 ∷ 5 ∷ 5 ∷ []) (7 ∷ 1 ∷ 1 ∷ []) 1) }
-    ensures not_chosen { ¬ (IsSome (led_by small false (8 ∷ 18 ∷ []) (7 ∷ 1 ∷ []) 1)) }
     ensures read { read_chosen small false (8 ∷ 5 ∷ 5 ∷ []) (7 ∷ 1 ∷ 1 ∷ []) 1 ≡ 7 ∷ 6 ∷ 2 ∷ [] }
     ensures not_read { ¬ (read_chosen small false (8 ∷ 5 ∷ []) (7 ∷ 1 ∷ []) 0 ≡ 7 ∷ 6 ∷ 2 ∷ []) }
     ensures read_led { read_led small false (8 ∷ 5 ∷ []) (Some 4) (7 ∷ 1 ∷ []) ≡ 4 ∷ 7 ∷ 6 ∷ 2 ∷ 2 ∷ [] }
 {}
 
-/// Where literals lead as indexes, in that module: %6 is a struct of %1 and %2.
+/// The types on the way of literals, in that module: %6 is a struct of %1 and %2.
 pub fn path_examples()
-    ensures reached { reached_by small (1 ∷ []) 6 ≡ 2 }
-    ensures not_reached { ¬ (reached_by small (2 ∷ []) 6 ≡ 2) }
     ensures path { path_by small (1 ∷ 0 ∷ []) 6 ≡ 6 ∷ 2 ∷ [] }
     ensures no_path { ¬ (path_by small (2 ∷ []) 6 ≡ []) }
-    ensures stop { stop_at small 0 (Word 1 ∷ Word 0 ∷ []) 6 ≡ Some 1 }
-    ensures no_stop { ¬ (stop_at small 0 (Word 1 ∷ []) 6 ≡ Some 0) }
 {}

@@ -12,12 +12,13 @@ mod path;
 mod reading;
 mod values;
 
-pub use chain::{Stops, first_index, leads_past, led_by, led_to, read_chosen, read_led, stops_of};
-pub use condition::{Condition, Kind, Relation};
+pub use chain::{read_chosen, read_led};
+pub use condition::Condition;
 pub use evidence::{EntryPart, Evidence, Lister, Side};
 pub use named::{defined_by, id_at, named_at};
-pub use path::{are_within, path_by, reached_by, stop_at};
+pub use path::path_by;
 pub use reading::{inner_of, reads, reads_within, with_type};
+pub use spv_conditions::{Kind, Relation, Seat};
 pub use spv_layout::Role;
 pub use spv_table::Listed;
-pub use values::{Seat, Value, type_at};
+pub use values::Value;

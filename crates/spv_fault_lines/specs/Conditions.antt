@@ -2,10 +2,10 @@
 use Rattle.std.specs.Prelude.{ℕ, List, codes}
 use Rattle.spv_evidence.specs.declared.condition.Condition.{Condition}
 use Rattle.spv_evidence.specs.declared.condition.Condition.TheVariants as condition
-use Rattle.spv_evidence.specs.declared.condition.Kind.{Kind}
-use Rattle.spv_evidence.specs.declared.condition.Kind.TheVariants as kind
-use Rattle.spv_evidence.specs.declared.condition.Relation.{Relation}
-use Rattle.spv_evidence.specs.declared.condition.Relation.TheVariants as relation
+use Rattle.spv_conditions.specs.declared.condition.Kind.{Kind}
+use Rattle.spv_conditions.specs.declared.condition.Kind.TheVariants as kind
+use Rattle.spv_conditions.specs.declared.condition.Relation.{Relation}
+use Rattle.spv_conditions.specs.declared.condition.Relation.TheVariants as relation
 
 -- The words for conditions: 'it' is the operand, and its type the result type, where it is that, and else the one that
 -- its id is declared with.

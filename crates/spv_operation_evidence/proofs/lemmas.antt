@@ -1,10 +1,4 @@
 pub mod Sufficing
 pub mod Knowing
 pub mod Valued
-pub mod Counting
-pub mod Chaining
-pub mod Pointing
-pub mod Composed
-pub mod Constructed
-pub mod Conditioned
 pub mod Listing

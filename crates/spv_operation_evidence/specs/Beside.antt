@@ -8,17 +8,20 @@ use Rattle.spv_type_forms.specs.Parts.{part_of}
 use Rattle.spv_evidence.specs.Reads.{inner_of, reads}
 use Rattle.spv_evidence.specs.declared.condition.Condition.{Condition}
 use Rattle.spv_evidence.specs.declared.condition.Condition.TheVariants as condition
-use Rattle.spv_evidence.specs.declared.values.Seat.{Seat}
-use Rattle.spv_evidence.specs.declared.values.Seat.TheVariants as seat
-use Rattle.spv_operation_evidence.specs.declared.asked.Rest.{Rest}
-use Rattle.spv_operation_evidence.specs.declared.asked.Rest.TheVariants as rest
-use Rattle.spv_operation_evidence.specs.declared.asked.Asked.{Asked}
-use Rattle.spv_operation_evidence.specs.declared.asked.Asked.TheVariants as asked
+use Rattle.spv_conditions.specs.declared.seat.Seat.{Seat}
+use Rattle.spv_conditions.specs.declared.seat.Seat.TheVariants as seat
+use Rattle.spv_conditions.specs.declared.asked.Rest.{Rest}
+use Rattle.spv_conditions.specs.declared.asked.Rest.TheVariants as rest
+use Rattle.spv_conditions.specs.declared.asked.Asked.{Asked}
+use Rattle.spv_conditions.specs.declared.asked.Asked.TheVariants as asked
 use Rattle.spv_evidence.specs.declared.values.Value.{Value}
-use Rattle.spv_evidence.specs.Chain.{first_index, led_by, led_to, read_chosen, read_led}
-use Rattle.spv_evidence.specs.Values.{type_at, types_in}
-use Rattle.spv_evidence.specs.Path.{path_by, reached_by, stop_at}
-use Rattle.spv_operation_evidence.specs.Rest.{both_sizes}
+use Rattle.spv_conditions.specs.Chain.{first_index, led_by, led_to}
+use Rattle.spv_evidence.specs.Chain.{read_chosen, read_led}
+use Rattle.spv_conditions.specs.Values.{type_at}
+use Rattle.spv_evidence.specs.Values.{types_in}
+use Rattle.spv_conditions.specs.Path.{reached_by, stop_at}
+use Rattle.spv_evidence.specs.Path.{path_by}
+use Rattle.spv_conditions.specs.Rest.{both_sizes}
 
 -- the condition of Y5 by its name
 abbrev pub condition_of : Rest → Condition

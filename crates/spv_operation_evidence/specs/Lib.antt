@@ -1,9 +1,4 @@
-pub mod Condition
-pub mod Conditions
-pub mod Variable
-pub mod Rest
 pub mod Beside
 pub mod Evidence
 pub mod Broken
-pub mod Example
 pub mod inner

@@ -3,28 +3,25 @@
 ghost use Rattle.std.specs.Prelude.{◌≡◌, ◌++◌, IfOk, option_to_list, slice_get};
 ghost use Rattle.spv_module.specs.Module.{plain_inst};
 ghost use Rattle.spv_operation_evidence.specs.Beside as spec;
-ghost use Rattle.spv_evidence.specs.Values.{types_in};
 
-use crate::asked::{Asked, Rest};
-use crate::constituents::part_of;
 use crate::rest::{condition_of, found_of, operand_of, wanted_of};
+use spv_conditions::{Asked, Rest, Seat, part_of, type_at};
 use spv_evidence::{
-    Condition, Seat, Value, inner_of, path_by, read_chosen, read_led, reads, reads_within, type_at,
-    with_type,
+    Condition, Value, inner_of, path_by, read_chosen, read_led, reads, reads_within, with_type,
 };
 use spv_module::Inst;
 use spv_type_forms::Definitions;
 use std::alloc::{AllocError, Global};
 
 /// The result type, if there is one, and the types of all values.
-fn all_types(alloc: Global, r: Option<u32>, values: &[Value]) -> Result<Vec<u32>, AllocError>
-    ensures { IfOk result (λ v. v.items ≡ option_to_list r ++ types_in values.now) }
+fn all_types(alloc: Global, r: Option<u32>, types: &[u32]) -> Result<Vec<u32>, AllocError>
+    ensures { IfOk result (λ v. v.items ≡ option_to_list r ++ types.now) }
 {
-    let mut types = with_type(Vec::new(alloc), r)?;
-    for value in values {
-        types.push(value.of)?;
+    let mut read = with_type(Vec::new(alloc), r)?;
+    for t in types {
+        read.push(*t)?;
     }
-    Ok(types)
+    Ok(read)
 }
 
 /// A condition of Y5 by its name.
@@ -73,15 +70,15 @@ pub fn found_in(
     definitions: &Definitions,
     inst: &Inst,
     r: Option<u32>,
-    values: &[Value],
+    types: &[u32],
     asked: Asked,
 ) -> Option<u32>
-    ensures { result ≡ spec.found_in definitions.now (plain_inst inst.now) r (types_in values.now) asked }
+    ensures { result ≡ spec.found_in definitions.now (plain_inst inst.now) r types.now asked }
 {
     match asked {
-        Asked::Kind { of, .. } | Asked::Relation { of, .. } => type_at(r, values, of),
+        Asked::Kind { of, .. } | Asked::Relation { of, .. } => type_at(r, types, of),
         Asked::Operands { .. } => None,
-        Asked::Rest(rest) => found_of(definitions, inst, r, values, rest),
+        Asked::Rest(rest) => found_of(definitions, inst, r, types, rest),
     }
 }
 
@@ -90,15 +87,15 @@ pub fn wanted_in(
     definitions: &Definitions,
     inst: &Inst,
     r: Option<u32>,
-    values: &[Value],
+    types: &[u32],
     asked: Asked,
 ) -> Option<u32>
-    ensures { result ≡ spec.wanted_in definitions.now (plain_inst inst.now) r (types_in values.now) asked }
+    ensures { result ≡ spec.wanted_in definitions.now (plain_inst inst.now) r types.now asked }
 {
     match asked {
-        Asked::Relation { to, .. } => type_at(r, values, to),
+        Asked::Relation { to, .. } => type_at(r, types, to),
         Asked::Kind { .. } | Asked::Operands { .. } => None,
-        Asked::Rest(rest) => wanted_of(definitions, inst, r, values, rest),
+        Asked::Rest(rest) => wanted_of(definitions, inst, r, types, rest),
     }
 }
 
@@ -107,13 +104,13 @@ fn path_from(
     alloc: Global,
     definitions: &Definitions,
     inst: &Inst,
-    values: &[Value],
+    types: &[u32],
     from: u32,
 ) -> Result<Vec<u32>, AllocError>
     ensures { IfOk result (λ v. v.items
-        ≡ spec.path_from definitions.now (plain_inst inst.now) (types_in values.now) from) }
+        ≡ spec.path_from definitions.now (plain_inst inst.now) types.now from) }
 {
-    match type_at(None, values, Seat::Value(from)) {
+    match type_at(None, types, Seat::Value(from)) {
         Some(t) => path_by(alloc, definitions, t, inst.operands.as_slice()),
         None => Ok(Vec::new(alloc)),
     }
@@ -123,16 +120,16 @@ fn path_from(
 fn with_part(
     alloc: Global,
     r: Option<u32>,
-    values: &[Value],
+    types: &[u32],
     k: u32,
     part: Option<u32>,
 ) -> Result<Vec<u32>, AllocError>
     ensures { IfOk result (λ v. v.items
-        ≡ option_to_list r ++ option_to_list (slice_get (types_in values.now) k) ++ option_to_list part) }
+        ≡ option_to_list r ++ option_to_list (slice_get types.now k) ++ option_to_list part) }
 {
-    let types = with_type(Vec::new(alloc), r)?;
-    let types = with_type(types, type_at(r, values, Seat::Value(k)))?;
-    with_type(types, part)
+    let read = with_type(Vec::new(alloc), r)?;
+    let read = with_type(read, type_at(r, types, Seat::Value(k)))?;
+    with_type(read, part)
 }
 
 /// The types that something else reads.
@@ -141,11 +138,11 @@ fn read_of(
     definitions: &Definitions,
     inst: &Inst,
     r: Option<u32>,
-    values: &[Value],
+    types: &[u32],
     rest: Rest,
 ) -> Result<Vec<u32>, AllocError>
     ensures { IfOk result (λ v. v.items
-        ≡ spec.read_of definitions.now (plain_inst inst.now) r (types_in values.now) rest) }
+        ≡ spec.read_of definitions.now (plain_inst inst.now) r types.now rest) }
 {
     match rest {
         Rest::InitializerType => reads_within(
@@ -153,23 +150,23 @@ fn read_of(
             definitions,
             r,
             inner_of(definitions, r),
-            type_at(r, values, Seat::Value(0)),
+            type_at(r, types, Seat::Value(0)),
         ),
         Rest::Chosen { element, index } => {
-            read_chosen(alloc, definitions, inst, values, element, index as usize)
+            read_chosen(alloc, definitions, inst, types, element, index as usize)
         }
-        Rest::Leads { element } => read_led(alloc, definitions, inst, r, values, element),
-        Rest::Component | Rest::Filled => all_types(alloc, r, values),
-        Rest::Share(k) => with_part(alloc, r, values, k, inner_of(definitions, r)),
-        Rest::Part(k) => with_part(alloc, r, values, k, part_of(definitions, r, k)),
-        Rest::Within { from } => path_from(alloc, definitions, inst, values, from),
+        Rest::Leads { element } => read_led(alloc, definitions, inst, r, types, element),
+        Rest::Component | Rest::Filled => all_types(alloc, r, types),
+        Rest::Share(k) => with_part(alloc, r, types, k, inner_of(definitions, r)),
+        Rest::Part(k) => with_part(alloc, r, types, k, part_of(definitions, r, k)),
+        Rest::Within { from } => path_from(alloc, definitions, inst, types, from),
         Rest::Reached { of, from } => {
-            let types = path_from(alloc, definitions, inst, values, from)?;
-            with_type(types, type_at(r, values, of))
+            let read = path_from(alloc, definitions, inst, types, from)?;
+            with_type(read, type_at(r, types, of))
         }
         _ => {
-            let wanted = wanted_of(definitions, inst, r, values, rest);
-            let found = found_of(definitions, inst, r, values, rest);
+            let wanted = wanted_of(definitions, inst, r, types, rest);
+            let found = found_of(definitions, inst, r, types, rest);
             reads(alloc, definitions, wanted, found)
         }
     }
@@ -183,17 +180,17 @@ pub fn read_in(
     definitions: &Definitions,
     inst: &Inst,
     r: Option<u32>,
-    values: &[Value],
+    types: &[u32],
     asked: Asked,
 ) -> Result<Vec<u32>, AllocError>
     ensures { IfOk result (λ v. v.items
-        ≡ spec.read_in definitions.now (plain_inst inst.now) r (types_in values.now) asked) }
+        ≡ spec.read_in definitions.now (plain_inst inst.now) r types.now asked) }
 {
     match asked {
-        Asked::Rest(rest) => read_of(alloc, definitions, inst, r, values, rest),
+        Asked::Rest(rest) => read_of(alloc, definitions, inst, r, types, rest),
         _ => {
-            let wanted = wanted_in(definitions, inst, r, values, asked);
-            let found = found_in(definitions, inst, r, values, asked);
+            let wanted = wanted_in(definitions, inst, r, types, asked);
+            let found = found_in(definitions, inst, r, types, asked);
             reads(alloc, definitions, wanted, found)
         }
     }

@@ -5,6 +5,7 @@ ghost use Rattle.spv_table.specs.Table.{Table};
 ghost use Rattle.spv_module.specs.declared.fault.Rule.TheVariants.{Y5};
 ghost use Rattle.spv_module.specs.Module.{plain_inst, plain_insts};
 ghost use Rattle.spv_layout.specs.Shape.{FitsShape};
+ghost use Rattle.spv_evidence.specs.Values.{types_in};
 ghost use Rattle.spv_ids.specs.Outcome.{IsDefinitionOf, definition_in};
 ghost use Rattle.spv_ops.specs.Typed.{IsTyped};
 ghost use Rattle.spv_operation_evidence.specs.Broken.{IsBroken};
@@ -13,13 +14,12 @@ ghost use Rattle.spv_operation_evidence.specs.inner.Values as values;
 ghost use Rattle.spv_operation_evidence.specs.inner.Values.{IsValueAt, IsTypeable};
 
 use crate::beside::{condition_in, found_in, operand_in, read_in, wanted_in};
-use crate::conditions::conditions_of;
-use crate::holds::first_failing;
+use spv_conditions::first_failing;
 use spv_evidence::{Evidence, Listed, Role, Value, defined_by, id_at};
 use spv_ids::Ids;
 use spv_layout::{Plan, role};
 use spv_module::{Inst, Module};
-use spv_ops::row_of;
+use spv_ops::asks_of;
 use spv_type_forms::{Definitions, result_type};
 use std::alloc::{AllocError, Global};
 
@@ -73,7 +73,20 @@ fn typed_values(
     Ok(values)
 }
 
-/// What shows that Y5 is broken at the instruction of a number: the first condition of its row that fails.
+/// The types of value operands.
+///
+/// The error comes when out of memory.
+fn types_of(alloc: Global, values: &[Value]) -> Result<Vec<u32>, AllocError>
+    ensures { IfOk result (λ v. v.items ≡ types_in values.now) }
+{
+    let mut types = Vec::new(alloc);
+    for value in values {
+        types.push(value.of)?;
+    }
+    Ok(types)
+}
+
+/// What shows that Y5 is broken at the instruction of a number: the first condition that fails.
 ///
 /// The error comes when out of memory.
 fn evidence_at(
@@ -95,20 +108,21 @@ fn evidence_at(
     let typed = typed_values(alloc, definitions, inst)?;
     let values = typed.as_slice();
     let r = result_type(inst.operands.as_slice());
-    let conditions = conditions_of(alloc, row_of(inst.opcode), values.len() as u32)?;
-    let Some(asked) = first_failing(definitions, number, inst, r, values, conditions.as_slice())
-    else {
+    let declared = types_of(alloc, values)?;
+    let types = declared.as_slice();
+    let line = asks_of(inst.opcode);
+    let Some(asked) = first_failing(definitions, number, inst, r, types, line) else {
         unreachable!();
     };
     let operand = operand_in(definitions, inst, values, asked);
-    let types = read_in(alloc, definitions, inst, r, values, asked)?;
+    let read = read_in(alloc, definitions, inst, r, types, asked)?;
     Ok(Evidence::Condition {
         condition: condition_in(asked),
         operand,
         defined: defined_by(ids, inst, operand),
-        wanted: wanted_in(definitions, inst, r, values, asked),
-        found: found_in(definitions, inst, r, values, asked),
-        types: Listed::from_vec(types),
+        wanted: wanted_in(definitions, inst, r, types, asked),
+        found: found_in(definitions, inst, r, types, asked),
+        types: Listed::from_vec(read),
     })
 }
 

@@ -5,38 +5,35 @@ use Rattle.std.proofs.lemmas.Option.{none-some}
 use Rattle.spv_table.specs.Table.{Table}
 use Rattle.spv_module.specs.Operand.{PlainInst}
 use Rattle.spv_layout.specs.Shape.{FitsShape}
-use Rattle.spv_ops.specs.declared.row.Row.{Row}
-use Rattle.spv_ops.specs.declared.row.Row.TheVariants as row
-use Rattle.spv_ops.specs.Row.{row_of}
+use Rattle.spv_ops.specs.declared.table.Places.{Places}
+use Rattle.spv_ops.specs.declared.table.Places.TheVariants as places
+use Rattle.spv_ops.specs.Table.{places_of}
+use Rattle.spv_ops.proofs.Rows.{free_asks}
 use Rattle.spv_type_forms.specs.Values.{AreValues, types_of}
 use Rattle.spv_ops.specs.Values.{values_of}
 use Rattle.spv_ops.specs.Typed.{Typed, IsTyped, IsTypedAt}
 use Rattle.spv_ops.specs.inner.Typed.{IsTypedIn}
 use Rattle.spv_ops.proofs.ValuePlaces.{values_agree}
 
-free_or : (r : Row) → (r ≡ row.Free) ⊎ (r ≢ row.Free)
-free_or row.Free = inl refl
-free_or row.Undef = inr (λ e. cc)
-free_or row.Variable = inr (λ e. cc)
-free_or row.Phi = inr (λ e. cc)
-free_or row.BranchConditional = inr (λ e. cc)
-free_or row.Switch = inr (λ e. cc)
-free_or (row.Calculation c) = inr (λ e. cc)
-free_or (row.Access c) = inr (λ e. cc)
-free_or (row.Composite c) = inr (λ e. cc)
-free_or row.Construct = inr (λ e. cc)
-free_or row.Chain = inr (λ e. cc)
-free_or row.ElementChain = inr (λ e. cc)
+pub free_or : (p : Places) → (p ≡ places.Free) ⊎ (p ≢ places.Free)
+free_or places.Free = inl refl
+free_or places.Nothing = inr (λ e. cc)
+free_or places.Ids = inr (λ e. cc)
+free_or places.Many = inr (λ e. cc)
+free_or places.One = inr (λ e. cc)
+free_or places.Pairs = inr (λ e. cc)
+free_or places.Initializers = inr (λ e. cc)
 
 pub some_and : (P : List ℕ → Type 0) (o : Option (List ℕ)) → IsSomeAnd o P ↔ ((ts : List ℕ) × (o ≡ Some ts) × P ts)
 some_and P None = (λ n. absurd n, λ a. none-some a.0 a.1)
 some_and P (Some us) = (λ p. (us, refl, p), λ a. let same : a.0 ≡ us = cc (a.1) in subst P same a.2)
 
-free_holds : (is : List PlainInst) (n : ℕ) (i : PlainInst) → row_of i.opcode ≡ row.Free → IsTypedIn is n i
-free_holds is n i e = rw e tt
+-- nothing is asked of an instruction of which no line speaks
+pub free_holds : (is : List PlainInst) (n : ℕ) (i : PlainInst) → places_of i.opcode ≡ places.Free → IsTypedIn is n i
+free_holds is n i e = rw (e, free_asks i.opcode e) tt
 
 rightward : (G : Table) (is : List PlainInst) (n : ℕ) (i : PlainInst) → slice_get is n ≡ Some i → FitsShape G i → IsTypedIn is n i → IsTypedAt G is n
-rightward G is n i at fits h = elim (free_or (row_of i.opcode)) [
+rightward G is n i at fits h = elim (free_or (places_of i.opcode)) [
   | inl e ↦ record { inst = i; there = at; typed = inl e }
   | inr ne ↦
       let some = (some_and (Typed is n i) (types_of is (values_of i))).0 h in
@@ -47,7 +44,7 @@ rightward G is n i at fits h = elim (free_or (row_of i.opcode)) [
       }
 ]
 
-typed_by : (G : Table) (is : List PlainInst) (n : ℕ) (i : PlainInst) → row_of i.opcode ≢ row.Free → IsTyped G is n i → IsTypedIn is n i
+typed_by : (G : Table) (is : List PlainInst) (n : ℕ) (i : PlainInst) → places_of i.opcode ≢ places.Free → IsTyped G is n i → IsTypedIn is n i
 typed_by G is n i ne (inl e) = absurd (ne e)
 typed_by G is n i ne (inr t) =
     let values : AreValues G i t.0 = t.2 in
@@ -55,7 +52,7 @@ typed_by G is n i ne (inr t) =
     (some_and (Typed is n i) (types_of is (values_of i))).1 (t.1, rw same t.3, t.4)
 
 leftward : (G : Table) (is : List PlainInst) (n : ℕ) (i : PlainInst) → slice_get is n ≡ Some i → IsTypedAt G is n → IsTypedIn is n i
-leftward G is n i at t = elim (free_or (row_of i.opcode)) [
+leftward G is n i at t = elim (free_or (places_of i.opcode)) [
   | inl e ↦ free_holds is n i e
   | inr ne ↦
       let same : t.inst ≡ i = let e : Some t.inst ≡ Some i = sym t.there ∙ at in cc in

@@ -1,10 +1,11 @@
 mod TagTests
-mod Short
-mod Lookups
 mod TwoTypes
 pub mod Rows
+pub mod Chaining
+pub mod Pointing
+pub mod Constructed
+pub mod Parts
 pub mod ValuePlaces
 pub mod Judged
 mod Worked
 mod CommonRows
-mod Counts

@@ -7,8 +7,8 @@ use Rattle.std.proofs.lemmas.Option.{none-some, option_and_then_some}
 use Rattle.spv_module.specs.Operand.{PlainInst}
 use Rattle.spv_module.specs.Width.{type_of}
 use Rattle.spv_type_forms.specs.Types.{IsSomeInt}
-use Rattle.spv_ops.specs.Chain.{Chains, ChainsByElement, LeadsByPointer}
-use Rattle.spv_ops.specs.Composite.{shares_of}
+use Rattle.spv_ops.specs.inner.Chain.{Chains, ChainsByElement, LeadsByPointer}
+use Rattle.spv_conditions.specs.Rest.{shares_of}
 use Rattle.spv_ops.specs.inner.Composite.{share_of}
 use Rattle.spv_type_forms.specs.inner.Tests.{has_int}
 use Rattle.spv_ops.specs.inner.Tests.{left_of_all}

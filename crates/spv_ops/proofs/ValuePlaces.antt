@@ -10,13 +10,14 @@ use Rattle.spv_layout.specs.declared.form.Named.TheVariants as kind
 use Rattle.spv_layout.specs.Row.{PlainRow, RowEnding, closed, maybe, file_and_text, repeated, others, maybe_others, row_in}
 use Rattle.spv_layout.specs.Rows.{rows}
 use Rattle.spv_layout.specs.Shape.{is_of, AreOf, Ends, HasForms}
-use Rattle.spv_ops.specs.declared.row.Row.{Row}
-use Rattle.spv_ops.specs.declared.row.Row.TheVariants as row
-use Rattle.spv_ops.specs.Row.{row_of}
+use Rattle.spv_ops.specs.declared.table.Places.{Places}
+use Rattle.spv_ops.specs.declared.table.Places.TheVariants as places
+use Rattle.spv_ops.specs.Table.{lines, places_of}
 use Rattle.spv_type_forms.specs.Operands.{ids_in, after_head}
 use Rattle.spv_type_forms.proofs.Opcodes.{both, and_yes, all_pass, one_passes}
 use Rattle.spv_type_forms.specs.Values.{value_in, used_in, paired_ids_in}
-use Rattle.spv_ops.specs.Values.{initializers_in, value_ids, values_of}
+use Rattle.spv_conditions.specs.Variable.{initializers_in}
+use Rattle.spv_ops.specs.Values.{value_ids, values_of}
 
 -- Tests of forms.
 abbrev is_value : Form → Bool
@@ -450,36 +451,26 @@ one_used G (f ∷ fs) gs e (o ∷ os) h n (AreOf.more _ _ _ _ i a) =
     rw (same, x.1) (ap (λ xs. x.0 ∷ xs) (none_used G (fs ++ gs) os (no_value_append fs gs more.0 (free_ending e gs more.1 n))))
 
 -- Whether a row of types looks for its values where forms and an ending, without the type and the result, have them.
-abbrev agrees : Row → List Form → RowEnding → Bool
-agrees row.Free fs e = false
-agrees row.Undef fs e = have_no_value fs && is_free_ending e
-agrees row.Variable fs e = is_variable fs e
-agrees row.Phi fs e = is_phi fs e
-agrees row.BranchConditional fs e = is_one fs e
-agrees row.Switch fs e = is_one fs e
-agrees (row.Calculation c) fs e = is_plain fs e
-agrees (row.Access c) fs e = is_plain fs e
-agrees (row.Composite c) fs e = is_plain fs e
-agrees row.Construct fs e = is_plain fs e
-agrees row.Chain fs e = is_plain fs e
-agrees row.ElementChain fs e = is_plain fs e
+abbrev agrees : Places → List Form → RowEnding → Bool
+agrees places.Free fs e = false
+agrees places.Nothing fs e = have_no_value fs && is_free_ending e
+agrees places.Initializers fs e = is_variable fs e
+agrees places.Pairs fs e = is_phi fs e
+agrees places.One fs e = is_one fs e
+agrees places.Ids fs e = is_plain fs e
+agrees places.Many fs e = is_plain fs e
 
-agreed : (G : Table) (r : Row) (fs gs : List Form) (e : RowEnding) (os : List Plain) → agrees r fs e ≡ true → Ends e gs → AreOf G (fs ++ gs) os
+agreed : (G : Table) (r : Places) (fs gs : List Form) (e : RowEnding) (os : List Plain) → agrees r fs e ≡ true → Ends e gs → AreOf G (fs ++ gs) os
     → used_in (fs ++ gs) os ≡ value_ids r os
-agreed G row.Free fs gs e os h n a = cc
-agreed G row.Undef fs gs e os h n a =
+agreed G places.Free fs gs e os h n a = cc
+agreed G places.Nothing fs gs e os h n a =
     let two = both (have_no_value fs) (is_free_ending e) h in
     none_used G (fs ++ gs) os (no_value_append fs gs two.0 (free_ending e gs two.1 n))
-agreed G row.Variable fs gs e os h n a = variable_used G fs gs e os h n a
-agreed G row.Phi fs gs e os h n a = phi_used G fs gs e os h n a
-agreed G row.BranchConditional fs gs e os h n a = one_used G fs gs e os h n a
-agreed G row.Switch fs gs e os h n a = one_used G fs gs e os h n a
-agreed G (row.Calculation c) fs gs e os h n a = plain_used G fs gs e os h n a
-agreed G (row.Access c) fs gs e os h n a = plain_used G fs gs e os h n a
-agreed G (row.Composite c) fs gs e os h n a = plain_used G fs gs e os h n a
-agreed G row.Construct fs gs e os h n a = plain_used G fs gs e os h n a
-agreed G row.Chain fs gs e os h n a = plain_used G fs gs e os h n a
-agreed G row.ElementChain fs gs e os h n a = plain_used G fs gs e os h n a
+agreed G places.Initializers fs gs e os h n a = variable_used G fs gs e os h n a
+agreed G places.Pairs fs gs e os h n a = phi_used G fs gs e os h n a
+agreed G places.One fs gs e os h n a = one_used G fs gs e os h n a
+agreed G places.Ids fs gs e os h n a = plain_used G fs gs e os h n a
+agreed G places.Many fs gs e os h n a = plain_used G fs gs e os h n a
 
 -- The forms without the type and the result: where a row has these first, or has a value first.
 abbrev is_type : Form → Bool
@@ -527,16 +518,16 @@ its_result (form.Kind k) h = cc
 its_result form.Other h = cc
 
 -- a test of a row of types against forms and an ending
-abbrev is_free : Row → Bool
-is_free row.Free = true
+abbrev is_free : Places → Bool
+is_free places.Free = true
 is_free _ = false
 
-abbrev agrees_whole : Row → List Form → RowEnding → Bool
+abbrev agrees_whole : Places → List Form → RowEnding → Bool
 agrees_whole r [] e = false
 agrees_whole r (f ∷ []) e = is_value f && agrees r (f ∷ []) e
 agrees_whole r (f ∷ g ∷ fs) e = (is_type f && (is_result g && agrees r fs e)) || (is_value f && agrees r (f ∷ g ∷ fs) e)
 
-value_first : (G : Table) (r : Row) (f : Form) (fs gs : List Form) (e : RowEnding) (os : List Plain) → is_value f && agrees r (f ∷ fs) e ≡ true → Ends e gs → AreOf G (f ∷ (fs ++ gs)) os
+value_first : (G : Table) (r : Places) (f : Form) (fs gs : List Form) (e : RowEnding) (os : List Plain) → is_value f && agrees r (f ∷ fs) e ≡ true → Ends e gs → AreOf G (f ∷ (fs ++ gs)) os
     → used_in (f ∷ (fs ++ gs)) os ≡ value_ids r (after_head os)
 value_first G r f fs gs e [] h n a = elim a [ ]
 value_first G r f fs gs e (o ∷ os) h n (AreOf.more _ _ _ _ i a) =
@@ -546,7 +537,7 @@ value_first G r f fs gs e (o ∷ os) h n (AreOf.more _ _ _ _ i a) =
     let front : after_head (o ∷ os) ≡ o ∷ os = rw x.1 refl in
     agreed G r (f ∷ fs) gs e (o ∷ os) two.1 n (AreOf.more f o (fs ++ gs) os i a) ∙ ap (value_ids r) (sym front)
 
-head_first : (G : Table) (r : Row) (f g : Form) (fs gs : List Form) (e : RowEnding) (os : List Plain) → is_type f && (is_result g && agrees r fs e) ≡ true → Ends e gs → AreOf G (f ∷ g ∷ (fs ++ gs)) os
+head_first : (G : Table) (r : Places) (f g : Form) (fs gs : List Form) (e : RowEnding) (os : List Plain) → is_type f && (is_result g && agrees r fs e) ≡ true → Ends e gs → AreOf G (f ∷ g ∷ (fs ++ gs)) os
     → used_in (f ∷ g ∷ (fs ++ gs)) os ≡ value_ids r (after_head os)
 head_first G r f g fs gs e [] h n a = elim a [ ]
 head_first G r f g fs gs e (o ∷ []) h n (AreOf.more _ _ _ _ i a) = elim a [ ]
@@ -559,12 +550,12 @@ head_first G r f g fs gs e (o ∷ p ∷ os) h n (AreOf.more _ _ _ _ i (AreOf.mor
     let x = a_result G p (rw (← second) j) in
     rw (first, second, t.1, x.1) (agreed G r fs gs e os more.1 n a)
 
-whole_two : (G : Table) (r : Row) (f g : Form) (fs gs : List Form) (e : RowEnding) (os : List Plain) (b : Bool) → is_type f && (is_result g && agrees r fs e) ≡ b
+whole_two : (G : Table) (r : Places) (f g : Form) (fs gs : List Form) (e : RowEnding) (os : List Plain) (b : Bool) → is_type f && (is_result g && agrees r fs e) ≡ b
     → b || (is_value f && agrees r (f ∷ g ∷ fs) e) ≡ true → Ends e gs → AreOf G (f ∷ g ∷ (fs ++ gs)) os → used_in (f ∷ g ∷ (fs ++ gs)) os ≡ value_ids r (after_head os)
 whole_two G r f g fs gs e os true y h n a = head_first G r f g fs gs e os y n a
 whole_two G r f g fs gs e os false y h n a = value_first G r f (g ∷ fs) gs e os h n a
 
-whole : (G : Table) (r : Row) (fs gs : List Form) (e : RowEnding) (os : List Plain) → agrees_whole r fs e ≡ true → Ends e gs → AreOf G (fs ++ gs) os
+whole : (G : Table) (r : Places) (fs gs : List Form) (e : RowEnding) (os : List Plain) → agrees_whole r fs e ≡ true → Ends e gs → AreOf G (fs ++ gs) os
     → used_in (fs ++ gs) os ≡ value_ids r (after_head os)
 whole G r [] gs e os h n a = cc
 whole G r (f ∷ []) gs e os h n a = value_first G r f [] gs e os h n a
@@ -572,30 +563,25 @@ whole G r (f ∷ g ∷ fs) gs e os h n a = whole_two G r f g fs gs e os (is_type
 
 -- The test of all rows of the table of shapes, opcode by opcode.
 abbrev agrees_with : ℕ → PlainRow → Bool
-agrees_with n r = is_free (row_of n) || agrees_whole (row_of n) r.fixed r.ending
+agrees_with n r = is_free (places_of n) || agrees_whole (places_of n) r.fixed r.ending
 
 all_fit : all_pass agrees_with rows ≡ true
-unfolding rows
+unfolding rows lines
 all_fit = refl
 
-freed : (r : Row) (b : Bool) → is_free r || b ≡ true → r ≢ row.Free → b ≡ true
-freed row.Free b h n = absurd (n refl)
-freed row.Undef b h n = h
-freed row.Variable b h n = h
-freed row.Phi b h n = h
-freed row.BranchConditional b h n = h
-freed row.Switch b h n = h
-freed (row.Calculation c) b h n = h
-freed (row.Access c) b h n = h
-freed (row.Composite c) b h n = h
-freed row.Construct b h n = h
-freed row.Chain b h n = h
-freed row.ElementChain b h n = h
+freed : (r : Places) (b : Bool) → is_free r || b ≡ true → r ≢ places.Free → b ≡ true
+freed places.Free b h n = absurd (n refl)
+freed places.Nothing b h n = h
+freed places.Initializers b h n = h
+freed places.Pairs b h n = h
+freed places.One b h n = h
+freed places.Ids b h n = h
+freed places.Many b h n = h
 
 -- The code's places of value operands are those of the instruction's forms.
-pub values_agree : (G : Table) (i : PlainInst) (fs : List Form) → HasForms G i fs → row_of i.opcode ≢ row.Free → used_in fs i.operands ≡ values_of i
+pub values_agree : (G : Table) (i : PlainInst) (fs : List Form) → HasForms G i fs → places_of i.opcode ≢ places.Free → used_in fs i.operands ≡ values_of i
 values_agree G i fs has n =
     let known : row_in rows i.opcode ≡ Some has.row = has.known in
-    let h = freed (row_of i.opcode) (agrees_whole (row_of i.opcode) has.row.fixed has.row.ending) (one_passes agrees_with rows i.opcode has.row all_fit known) n in
+    let h = freed (places_of i.opcode) (agrees_whole (places_of i.opcode) has.row.fixed has.row.ending) (one_passes agrees_with rows i.opcode has.row all_fit known) n in
     let e : fs ≡ has.row.fixed ++ has.rest = has.forms in
-    rw e (whole G (row_of i.opcode) has.row.fixed has.rest has.row.ending i.operands h has.ending (rw (← e) has.each))
+    rw e (whole G (places_of i.opcode) has.row.fixed has.rest has.row.ending i.operands h has.ending (rw (← e) has.each))

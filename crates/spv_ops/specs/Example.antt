@@ -16,9 +16,13 @@ add = inst opcode.I_ADD (OfType 1 ∷ Result 10 ∷ Id 5 ∷ Id 5 ∷ [])
 abbrev pub add_floats : PlainInst
 add_floats = inst opcode.F_ADD (OfType 1 ∷ Result 11 ∷ Id 5 ∷ Id 5 ∷ [])
 
--- OpBranchConditional %5 %30 %31 with one literal
-abbrev pub one_weight : PlainInst
-one_weight = inst opcode.BRANCH_CONDITIONAL (Id 5 ∷ Id 30 ∷ Id 31 ∷ Word 1 ∷ [])
+-- %9 = OpPtrAccessChain %4 %8 %5 %5: the same from an element
+abbrev pub by_element : PlainInst
+by_element = inst opcode.PTR_ACCESS_CHAIN (OfType 4 ∷ Result 9 ∷ Id 8 ∷ Id 5 ∷ Id 5 ∷ [])
+
+-- %8 = OpVariable %7 CrossWorkgroup
+abbrev pub variable : PlainInst
+variable = inst opcode.VARIABLE (OfType 7 ∷ Result 8 ∷ Value 0 5 ∷ [])
 
 -- %20 = OpLabel
 abbrev pub label : PlainInst

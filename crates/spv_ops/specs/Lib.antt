@@ -1,10 +1,5 @@
-pub mod Row
+pub mod Table
 pub mod Values
-pub mod Calculation
-pub mod Access
-pub mod Composite
-pub mod Chain
-pub mod Variable
 pub mod Typed
 pub mod Example
 pub mod inner

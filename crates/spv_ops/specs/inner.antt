@@ -2,7 +2,8 @@
 pub mod Common
 pub mod Tests
 pub mod Typed
-pub mod Number
-pub mod Access
+pub mod Table
 pub mod Composite
-pub mod Variable
+pub mod Chain
+pub mod Declares
+pub mod Wide

@@ -4,7 +4,7 @@ ghost use Rattle.spv_type_forms.specs.Types.{IsSomeInt};
 ghost use Rattle.spv_module.specs.Module.{plain_operands};
 ghost use Rattle.spv_type_forms.specs.Operands.{ids_in};
 ghost use Rattle.spv_type_forms.specs.inner.Tests.{has_int};
-ghost use Rattle.spv_ops.specs.Chain.{Chains, ChainsByElement, LeadsByPointer};
+ghost use Rattle.spv_ops.specs.inner.Chain.{Chains, ChainsByElement, LeadsByPointer};
 ghost use Rattle.spv_type_forms.specs.Values.{types_of};
 
 use spv_module::Operand;
@@ -34,7 +34,7 @@ fn ints_lead(definitions: &Definitions, r: u32, o: u32, indexes: &[Operand]) -> 
     }
 }
 
-/// Whether the row of OpAccessChain holds of a base and indexes.
+/// Whether what OpAccessChain asks holds of a base and indexes.
 fn chain_from(definitions: &Definitions, r: u32, x: u32, indexes: &[Operand]) -> bool
     ensures { IsTrue result ↔ IsSomeAnd (types_of definitions.now (x ∷ ids_in (plain_operands indexes.now)))
         (λ types. Chains definitions.now r types (x ∷ ids_in (plain_operands indexes.now))) }
@@ -45,7 +45,7 @@ fn chain_from(definitions: &Definitions, r: u32, x: u32, indexes: &[Operand]) ->
     }
 }
 
-/// Whether the row of OpAccessChain holds of the result type and the declared types of the ids at the front of the
+/// Whether what OpAccessChain asks holds of the result type and the declared types of the ids at the front of the
 /// operands.
 pub fn access_chain(definitions: &Definitions, r: u32, operands: &[Operand]) -> bool
     ensures { IsTrue result ↔ IsSomeAnd (types_of definitions.now (ids_in (plain_operands operands.now)))
@@ -67,7 +67,7 @@ fn element_leads(definitions: &Definitions, r: u32, o: u32, p: u32, indexes: &[O
     is_int(definitions, p) && ints_lead(definitions, r, o, indexes)
 }
 
-/// Whether the row of OpPtrAccessChain holds of a base, an element and indexes.
+/// Whether what OpPtrAccessChain asks holds of a base, an element and indexes.
 fn chain_at(definitions: &Definitions, r: u32, x: u32, y: u32, indexes: &[Operand]) -> bool
     ensures { IsTrue result ↔ IsSomeAnd (types_of definitions.now (x ∷ y ∷ ids_in (plain_operands indexes.now)))
         (λ types. ChainsByElement definitions.now r types (x ∷ y ∷ ids_in (plain_operands indexes.now))) }
@@ -78,7 +78,7 @@ fn chain_at(definitions: &Definitions, r: u32, x: u32, y: u32, indexes: &[Operan
     }
 }
 
-/// Whether the row of OpPtrAccessChain holds of a base and what follows it.
+/// Whether what OpPtrAccessChain asks holds of a base and what follows it.
 fn chain_after(definitions: &Definitions, r: u32, x: u32, operands: &[Operand]) -> bool
     ensures { IsTrue result ↔ IsSomeAnd (types_of definitions.now (x ∷ ids_in (plain_operands operands.now)))
         (λ types. ChainsByElement definitions.now r types (x ∷ ids_in (plain_operands operands.now))) }
@@ -89,7 +89,7 @@ fn chain_after(definitions: &Definitions, r: u32, x: u32, operands: &[Operand]) 
     }
 }
 
-/// Whether the row of OpPtrAccessChain holds of the result type and the declared types of the ids at the front of the
+/// Whether what OpPtrAccessChain asks holds of the result type and the declared types of the ids at the front of the
 /// operands.
 pub fn element_chain(definitions: &Definitions, r: u32, operands: &[Operand]) -> bool
     ensures { IsTrue result ↔ IsSomeAnd (types_of definitions.now (ids_in (plain_operands operands.now)))

@@ -1,47 +1,14 @@
-//! The rows of types that most instructions have.
+//! The lines of the table that most instructions have.
 
-ghost use Rattle.std.specs.Prelude.{◌≡◌, ◌↔◌, ◌∷◌, [], IsTrue, IsSomeAnd, Some, None};
+ghost use Rattle.std.specs.Prelude.{◌≡◌, ◌↔◌, ◌∷◌, [], IsTrue, IsSomeAnd};
 ghost use Rattle.spv_module.specs.Module.{plain_operands};
-ghost use Rattle.spv_ops.specs.Access.{Accesses};
 ghost use Rattle.spv_ops.specs.inner.Common as spec;
-ghost use Rattle.spv_ops.specs.inner.Common.{IsCommon, IsCondition};
-ghost use Rattle.spv_ops.specs.Row as spec_row;
+ghost use Rattle.spv_ops.specs.inner.Common.{Combines, IsCondition, Loads, Stores};
 ghost use Rattle.spv_type_forms.specs.Types.{PointsTo};
 ghost use Rattle.spv_type_forms.specs.Values.{types_of};
-ghost use Rattle.spv_ops.specs.declared.row.Access.TheVariants.{Load, Store};
 
-use crate::row::{Access, Calculation, Row, row_of};
 use spv_module::Operand;
-use spv_type_forms::{Definitions, Form, Scalar, Sort, is_data};
-
-/// A row that is looked at before the others.
-#[derive(Clone, Copy)]
-pub enum Common {
-    /// Arithmetic of two ints or floats, bits of two ints, logic of two bools.
-    Binary(Sort),
-    Load,
-    Store,
-    BranchConditional,
-    /// No row: an instruction of which the table says nothing.
-    Free,
-    /// Another row.
-    Other,
-}
-
-/// The row of an opcode, if it is one of those.
-#[inline(always)]
-pub fn common_row(opcode: u16) -> Common
-    ensures { IsCommon result (spec_row.row_of opcode) }
-{
-    match row_of(opcode) {
-        Row::Calculation(Calculation::Binary(sort)) => Common::Binary(sort),
-        Row::Access(Access::Load) => Common::Load,
-        Row::Access(Access::Store) => Common::Store,
-        Row::BranchConditional => Common::BranchConditional,
-        Row::Free => Common::Free,
-        _ => Common::Other,
-    }
-}
+use spv_type_forms::{Definitions, Form, Scalar, Sort, has_sort, is_data, is_typed};
 
 /// Ids that a binary operation names.
 #[derive(Clone, Copy)]
@@ -131,6 +98,14 @@ pub fn condition_in(operands: &[Operand]) -> Option<u32>
     }
 }
 
+/// Whether what a binary operation asks holds of the result type and the declared types of two ids.
+#[inline(always)]
+pub fn binary_holds(definitions: &Definitions, sort: Sort, r: u32, a: u32, b: u32) -> bool
+    ensures { IsTrue result ↔ IsSomeAnd (types_of definitions.now (a ∷ b ∷ [])) (Combines definitions.now sort r) }
+{
+    is_typed(definitions, r, a) && is_typed(definitions, r, b) && has_sort(definitions, sort, r)
+}
+
 /// Whether a type is a pointer to another.
 #[inline(always)]
 fn points_to(definitions: &Definitions, t: u32, to: u32) -> bool
@@ -142,11 +117,11 @@ fn points_to(definitions: &Definitions, t: u32, to: u32) -> bool
     }
 }
 
-/// Whether the row of OpLoad holds of the result type and the declared type of the pointer.
+/// Whether what OpLoad asks holds of the result type and the declared type of the pointer.
 #[inline(always)]
 pub fn load_holds(definitions: &Definitions, r: u32, p: u32) -> bool
     ensures { IsTrue result ↔ IsSomeAnd (types_of definitions.now (p ∷ []))
-        (λ types. Accesses definitions.now Load (Some r) types) }
+        (Loads definitions.now r) }
 {
     match definitions.type_of(p) {
         Some(t) => points_to(definitions, t, r) && is_data(definitions, r),
@@ -154,11 +129,11 @@ pub fn load_holds(definitions: &Definitions, r: u32, p: u32) -> bool
     }
 }
 
-/// Whether the row of OpStore holds of the declared types of the pointer and the object.
+/// Whether what OpStore asks holds of the declared types of the pointer and the object.
 #[inline(always)]
 pub fn store_holds(definitions: &Definitions, p: u32, x: u32) -> bool
     ensures { IsTrue result ↔ IsSomeAnd (types_of definitions.now (p ∷ x ∷ []))
-        (λ types. Accesses definitions.now Store None types) }
+        (Stores definitions.now) }
 {
     match (definitions.type_of(p), definitions.type_of(x)) {
         (Some(t), Some(u)) => points_to(definitions, t, u),

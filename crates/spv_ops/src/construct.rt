@@ -3,8 +3,8 @@ ghost use Rattle.spv_module.specs.Module.{plain_operands};
 ghost use Rattle.spv_type_forms.specs.Operands.{ids_in};
 ghost use Rattle.spv_type_forms.specs.Form.{form_of};
 ghost use Rattle.spv_ops.specs.inner.Tests.{left_of_all, left_of};
-ghost use Rattle.spv_ops.specs.Composite.{Constructs, shares_of};
-ghost use Rattle.spv_ops.specs.inner.Composite.{share_of};
+ghost use Rattle.spv_conditions.specs.Rest.{shares_of};
+ghost use Rattle.spv_ops.specs.inner.Composite.{Constructs, share_of};
 ghost use Rattle.spv_type_forms.specs.Values.{types_of};
 ghost use Rattle.spv_module.specs.Width.{type_of};
 
@@ -71,7 +71,7 @@ fn adds_up(definitions: &Definitions, c: u32, n: u32, operands: &[Operand]) -> b
     uses_up(definitions, c, n, operands)
 }
 
-/// Whether the row of OpCompositeConstruct holds of the result type and the declared types of the ids at the front of
+/// Whether what OpCompositeConstruct asks holds of the result type and the declared types of the ids at the front of
 /// the operands.
 pub fn constructs(definitions: &Definitions, r: u32, operands: &[Operand]) -> bool
     ensures { IsTrue result ↔ IsSomeAnd (types_of definitions.now (ids_in (plain_operands operands.now)))

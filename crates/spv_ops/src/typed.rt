@@ -1,32 +1,71 @@
-ghost use Rattle.std.specs.Prelude.{◌≡◌, ◌↔◌, ◌<◌, length, Some, None, IsTrue, IsSomeAnd};
+ghost use Rattle.std.specs.Prelude.{◌≡◌, ◌↔◌, ◌<◌, length, true, IsTrue, IsSomeAnd};
 ghost use Rattle.std.specs.List.{AllByRecursion};
 ghost use Rattle.spv_module.specs.Module.{plain_inst, plain_operands};
-ghost use Rattle.spv_type_forms.specs.Operands as spec;
+ghost use Rattle.spv_module.specs.declared.opcode.TheConstants as the_opcode;
 ghost use Rattle.spv_type_forms.specs.Types.{IsData};
-ghost use Rattle.spv_ops.specs.Typed.{RowHolds};
-ghost use Rattle.spv_ops.specs.inner.Typed.{IsTypedIn};
-ghost use Rattle.spv_ops.specs.Row as spec_row;
-ghost use Rattle.spv_ops.specs.declared.row.Row.TheVariants.{Undef, Calculation, Access, Phi, BranchConditional};
-ghost use Rattle.spv_ops.specs.declared.row.Row.TheVariants.{Switch};
-ghost use Rattle.spv_ops.specs.declared.row.Calculation.TheVariants.{Binary};
-ghost use Rattle.spv_ops.specs.declared.row.Access.TheVariants.{Load, Store};
 ghost use Rattle.spv_type_forms.specs.Values.{types_of, paired_ids_in};
-ghost use Rattle.spv_ops.specs.Values.{value_ids};
+ghost use Rattle.spv_ops.specs.inner.Table.{first_of};
+ghost use Rattle.spv_ops.specs.inner.Typed.{IsTypedBy, IsTypedIn};
+ghost use Rattle.spv_ops.specs.inner.Wide.{AreSame, IsWide, binary_of, is_counted};
+ghost use Rattle.spv_ops.specs.declared.table.Places.TheVariants.{Ids, One};
+ghost use Rattle.spv_ops.specs.Table.{asks_of, places_of};
 
 use crate::chain::{access_chain, element_chain};
 use crate::common::{
-    Common, binary_in, common_row, condition_in, load_holds, load_in, stands_for_bool, store_holds,
+    binary_holds, binary_in, condition_in, load_holds, load_in, stands_for_bool, store_holds,
     store_in,
 };
 use crate::construct::constructs;
-use crate::fixed::{access_holds, binary_holds, calculation_holds, composite_holds};
-use crate::row::{Row, row_of};
+use crate::table::{Found, Places, line_holds, look_up};
 use crate::variable::variable_holds;
-use spv_module::{Inst, Operand};
+use spv_module::{Inst, Operand, opcode};
 use spv_type_forms::{
-    Definitions, Form, Scalar, Sort, after_head, all_pairs_of_type, is_data, is_int, result_type,
-    word_count,
+    Definitions, MOST, Sort, after_head, all_pairs_of_type, gather, is_data, result_type,
 };
+
+/// Whether what an opcode asks that has a number of values of its own holds of the declared types of the ids at the
+/// front of the operands.
+fn gathered_holds(
+    definitions: &Definitions,
+    number: u32,
+    inst: &Inst,
+    opcode: u16,
+    r: Option<u32>,
+    operands: &[Operand],
+) -> bool
+    requires number { number < length definitions.now }
+    requires counted { is_counted (asks_of opcode) ≡ true }
+    ensures { IsTrue result ↔ IsTypedBy definitions.now number (plain_inst inst.now) Ids (asks_of opcode) r
+        (plain_operands operands.now) }
+{
+    let mut types = [0; MOST];
+    match gather(definitions, operands, &mut types) {
+        Some(count) => line_holds(definitions, number, inst, opcode, r, &types[..count]),
+        None => false,
+    }
+}
+
+/// The same of the first of the ids.
+fn one_holds(
+    definitions: &Definitions,
+    number: u32,
+    inst: &Inst,
+    opcode: u16,
+    r: Option<u32>,
+    operands: &[Operand],
+) -> bool
+    requires number { number < length definitions.now }
+    ensures { IsTrue result ↔ IsTypedBy definitions.now number (plain_inst inst.now) One (asks_of opcode) r
+        (plain_operands operands.now) }
+{
+    match operands {
+        [Operand::Id(x), ..] => match definitions.type_of(*x) {
+            Some(t) => line_holds(definitions, number, inst, opcode, r, &[t]),
+            None => false,
+        },
+        _ => line_holds(definitions, number, inst, opcode, r, &[]),
+    }
+}
 
 /// Whether r is a data type, and the declared types of the values are r.
 fn are_of_data_type(definitions: &Definitions, r: u32, operands: &[Operand]) -> bool
@@ -37,184 +76,138 @@ fn are_of_data_type(definitions: &Definitions, r: u32, operands: &[Operand]) -> 
     is_data(definitions, r) && all_pairs_of_type(definitions, r, operands)
 }
 
-/// Whether the row of OpPhi holds of the result type and the declared types of the values.
+/// Whether what OpPhi asks holds of the result type and the declared types of the values.
 fn phi_holds(definitions: &Definitions, r: u32, operands: &[Operand]) -> bool
     ensures { IsTrue result ↔ IsSomeAnd (types_of definitions.now (paired_ids_in (plain_operands operands.now)))
-        (λ types. IsData definitions.now r × AllByRecursion (λ t. t ≡ r) types) }
+        (AreSame definitions.now r) }
 {
     are_of_data_type(definitions, r, operands)
 }
 
-/// Whether the row of OpBranchConditional holds of the declared type of the condition, and of the literals.
-fn branch_holds(definitions: &Definitions, operands: &[Operand], inst: &Inst) -> bool
-    ensures { IsTrue result ↔ IsSomeAnd (types_of definitions.now
-        (value_ids BranchConditional (plain_operands operands.now)))
-        (λ types. RowHolds definitions.now 0 (plain_inst inst.now) BranchConditional None types) }
-{
-    match operands {
-        [Operand::Id(x), ..] => match definitions.type_of(*x) {
-            Some(t) => match definitions.form(t) {
-                Some(Form::Scalar(Scalar::Bool)) => {
-                    let count = word_count(inst.operands.as_slice());
-                    count == 0 || count == 2
-                }
-                _ => false,
-            },
-            None => false,
-        },
-        _ => false,
-    }
-}
-
-/// Whether the row of OpSwitch holds of the declared type of the selector.
-fn switch_holds(definitions: &Definitions, operands: &[Operand], inst: &Inst) -> bool
-    ensures { IsTrue result ↔ IsSomeAnd (types_of definitions.now (value_ids Switch (plain_operands operands.now)))
-        (λ types. RowHolds definitions.now 0 (plain_inst inst.now) Switch None types) }
-{
-    match operands {
-        [Operand::Id(x), ..] => match definitions.type_of(*x) {
-            Some(t) => is_int(definitions, t),
-            None => false,
-        },
-        _ => false,
-    }
-}
-
-/// Whether the row of an instruction with a result type holds, by what follows its head.
-fn result_row_holds(
+/// Whether what an opcode asks that takes any number of values holds, by the first opcode of its line.
+fn wide_holds(
     definitions: &Definitions,
     number: u32,
-    inst: &Inst,
-    row: Row,
+    first: u16,
     r: u32,
     operands: &[Operand],
 ) -> bool
-    requires rest { plain_operands operands.now ≡ spec.after_head (plain_inst inst.now).operands }
-    requires number { number < length definitions.now }
-    ensures { IsTrue result ↔ IsSomeAnd (types_of definitions.now (value_ids row (plain_operands operands.now)))
-        (λ types. RowHolds definitions.now number (plain_inst inst.now) row (Some r) types) }
-{
-    match row {
-        Row::Free => true,
-        Row::Undef => is_data(definitions, r),
-        Row::Variable => variable_holds(definitions, number, r, operands),
-        Row::Calculation(row) => calculation_holds(definitions, row, r, operands),
-        Row::Access(row) => access_holds(definitions, row, Some(r), operands),
-        Row::Composite(row) => composite_holds(
-            definitions,
-            row,
-            r,
-            operands,
-            inst.operands.as_slice(),
-        ),
-        Row::Construct => constructs(definitions, r, operands),
-        Row::Chain => access_chain(definitions, r, operands),
-        Row::ElementChain => element_chain(definitions, r, operands),
-        Row::Phi => phi_holds(definitions, r, operands),
-        Row::BranchConditional | Row::Switch => false,
-    }
-}
-
-/// Whether the row of an instruction without a result type holds, by what follows its head.
-fn other_row_holds(
-    definitions: &Definitions,
-    number: u32,
-    inst: &Inst,
-    row: Row,
-    operands: &[Operand],
-) -> bool
-    ensures { IsTrue result ↔ IsSomeAnd (types_of definitions.now (value_ids row (plain_operands operands.now)))
-        (λ types. RowHolds definitions.now number (plain_inst inst.now) row None types) }
-{
-    match row {
-        Row::Free => true,
-        Row::Access(row) => access_holds(definitions, row, None, operands),
-        Row::BranchConditional => branch_holds(definitions, operands, inst),
-        Row::Switch => switch_holds(definitions, operands, inst),
-        _ => false,
-    }
-}
-
-/// Whether the row of an instruction's opcode, if there is one, holds of its result type, the types that its value
-/// operands are declared with, and its literals: whatever the row is.
-#[inline(never)]
-fn row_holds(definitions: &Definitions, number: u32, inst: &Inst) -> bool
     requires { number < length definitions.now }
+    ensures { IsTrue result ↔ IsWide first definitions.now number r (plain_operands operands.now) }
+{
+    match first {
+        opcode::PHI => phi_holds(definitions, r, operands),
+        opcode::VARIABLE => variable_holds(definitions, number, r, operands),
+        opcode::ACCESS_CHAIN => access_chain(definitions, r, operands),
+        opcode::PTR_ACCESS_CHAIN => element_chain(definitions, r, operands),
+        _ => constructs(definitions, r, operands),
+    }
+}
+
+/// Whether what an instruction's opcode asks, if anything, holds of its result type, the types that its value operands
+/// are declared with, and its literals: whatever the opcode is.
+#[inline(never)]
+fn row_holds(definitions: &Definitions, number: u32, inst: &Inst, found: Found) -> bool
+    requires number { number < length definitions.now }
+    requires first { found.first ≡ first_of (plain_inst inst.now).opcode }
+    requires places { found.places ≡ places_of (plain_inst inst.now).opcode }
     ensures { IsTrue result ↔ IsTypedIn definitions.now number (plain_inst inst.now) }
 {
     let operands = inst.operands.as_slice();
     let rest = after_head(operands);
-    let row = row_of(inst.opcode);
-    match result_type(operands) {
-        Some(r) => result_row_holds(definitions, number, inst, row, r, rest),
-        None => other_row_holds(definitions, number, inst, row, rest),
+    let r = result_type(operands);
+    match found.places {
+        Places::Free => true,
+        Places::Nothing => line_holds(definitions, number, inst, found.first, r, &[]),
+        Places::Ids => gathered_holds(definitions, number, inst, found.first, r, rest),
+        Places::One => one_holds(definitions, number, inst, found.first, r, rest),
+        Places::Many | Places::Pairs | Places::Initializers => match r {
+            Some(r) => wide_holds(definitions, number, found.first, r, rest),
+            None => false,
+        },
     }
 }
 
-/// The same, where the row is that of a binary operation.
+/// The same, where the opcode is that of a binary operation.
 #[inline(always)]
-fn binary_row_holds(definitions: &Definitions, number: u32, inst: &Inst, sort: Sort) -> bool
+fn binary_row_holds(
+    definitions: &Definitions,
+    number: u32,
+    inst: &Inst,
+    found: Found,
+    sort: Sort,
+) -> bool
     requires number { number < length definitions.now }
-    requires row { spec_row.row_of (plain_inst inst.now).opcode ≡ Calculation (Binary sort) }
+    requires first { found.first ≡ first_of (plain_inst inst.now).opcode }
+    requires places { found.places ≡ places_of (plain_inst inst.now).opcode }
+    requires sort { found.first ≡ binary_of sort }
     ensures { IsTrue result ↔ IsTypedIn definitions.now number (plain_inst inst.now) }
 {
     match binary_in(inst.operands.as_slice()) {
         Some(ids) => binary_holds(definitions, sort, ids.result_type, ids.first, ids.second),
-        None => row_holds(definitions, number, inst),
+        None => row_holds(definitions, number, inst, found),
     }
 }
 
-/// The same, where the row is that of OpLoad.
+/// The same, where the opcode is that of OpLoad.
 #[inline(always)]
-fn load_row_holds(definitions: &Definitions, number: u32, inst: &Inst) -> bool
+fn load_row_holds(definitions: &Definitions, number: u32, inst: &Inst, found: Found) -> bool
     requires number { number < length definitions.now }
-    requires row { spec_row.row_of (plain_inst inst.now).opcode ≡ Access Load }
+    requires first { found.first ≡ first_of (plain_inst inst.now).opcode }
+    requires places { found.places ≡ places_of (plain_inst inst.now).opcode }
+    requires load { found.first ≡ the_opcode.LOAD }
     ensures { IsTrue result ↔ IsTypedIn definitions.now number (plain_inst inst.now) }
 {
     match load_in(inst.operands.as_slice()) {
         Some(ids) => load_holds(definitions, ids.first, ids.second),
-        None => row_holds(definitions, number, inst),
+        None => row_holds(definitions, number, inst, found),
     }
 }
 
-/// The same, where the row is that of OpStore.
+/// The same, where the opcode is that of OpStore.
 #[inline(always)]
-fn store_row_holds(definitions: &Definitions, number: u32, inst: &Inst) -> bool
+fn store_row_holds(definitions: &Definitions, number: u32, inst: &Inst, found: Found) -> bool
     requires number { number < length definitions.now }
-    requires row { spec_row.row_of (plain_inst inst.now).opcode ≡ Access Store }
+    requires first { found.first ≡ first_of (plain_inst inst.now).opcode }
+    requires places { found.places ≡ places_of (plain_inst inst.now).opcode }
+    requires store { found.first ≡ the_opcode.STORE }
     ensures { IsTrue result ↔ IsTypedIn definitions.now number (plain_inst inst.now) }
 {
     match store_in(inst.operands.as_slice()) {
         Some(ids) => store_holds(definitions, ids.first, ids.second),
-        None => row_holds(definitions, number, inst),
+        None => row_holds(definitions, number, inst, found),
     }
 }
 
-/// The same, where the row is that of OpBranchConditional.
+/// The same, where the opcode is that of OpBranchConditional.
 #[inline(always)]
-fn branch_row_holds(definitions: &Definitions, number: u32, inst: &Inst) -> bool
+fn branch_row_holds(definitions: &Definitions, number: u32, inst: &Inst, found: Found) -> bool
     requires number { number < length definitions.now }
-    requires row { spec_row.row_of (plain_inst inst.now).opcode ≡ BranchConditional }
+    requires first { found.first ≡ first_of (plain_inst inst.now).opcode }
+    requires places { found.places ≡ places_of (plain_inst inst.now).opcode }
+    requires branch { found.first ≡ the_opcode.BRANCH_CONDITIONAL }
     ensures { IsTrue result ↔ IsTypedIn definitions.now number (plain_inst inst.now) }
 {
     match condition_in(inst.operands.as_slice()) {
         Some(x) => stands_for_bool(definitions, x),
-        None => row_holds(definitions, number, inst),
+        None => row_holds(definitions, number, inst, found),
     }
 }
 
-/// Whether the row of an instruction's opcode, if there is one, holds of its result type, the types that its value
-/// operands are declared with, and its literals. The rows that most instructions have are looked at first.
+/// Whether what an instruction's opcode asks, if anything, holds of its result type, the types that its value operands
+/// are declared with, and its literals. The lines that most instructions have are looked at first.
 pub fn inst_holds(definitions: &Definitions, number: u32, inst: &Inst) -> bool
     requires { number < length definitions.now }
     ensures { IsTrue result ↔ IsTypedIn definitions.now number (plain_inst inst.now) }
 {
-    match common_row(inst.opcode) {
-        Common::Binary(sort) => binary_row_holds(definitions, number, inst, sort),
-        Common::Load => load_row_holds(definitions, number, inst),
-        Common::Store => store_row_holds(definitions, number, inst),
-        Common::BranchConditional => branch_row_holds(definitions, number, inst),
-        Common::Free => true,
-        Common::Other => row_holds(definitions, number, inst),
+    let found = look_up(inst.opcode);
+    match found.first {
+        opcode::I_ADD => binary_row_holds(definitions, number, inst, found, Sort::Int),
+        opcode::F_ADD => binary_row_holds(definitions, number, inst, found, Sort::Float),
+        opcode::LOGICAL_EQUAL => binary_row_holds(definitions, number, inst, found, Sort::Bool),
+        opcode::LOAD => load_row_holds(definitions, number, inst, found),
+        opcode::STORE => store_row_holds(definitions, number, inst, found),
+        opcode::BRANCH_CONDITIONAL => branch_row_holds(definitions, number, inst, found),
+        _ => row_holds(definitions, number, inst, found),
     }
 }

@@ -1,10 +1,10 @@
 -- What a type id declares, and the rows of types: decided.
-use Rattle.std.proofs.Common.{◌≡◌, ◌≢◌, ◌∙◌, ◌+◌, ℕ, List, [], ◌∷◌, Option, Some, None, refl, sym, ap, subst, inl, inr, length}
-use Rattle.std.specs.Prelude.{IsTrue}
+use Rattle.std.proofs.Common.{◌≡◌, ◌≢◌, ◌∙◌, ◌+◌, ℕ, List, [], ◌∷◌, Option, Some, None, Bool, true, false, refl, sym, ap, subst, inl, inr, length, ◌<◌}
+use Rattle.std.specs.Prelude.{IsTrue, IsSome, IsSomeAnd, slice_get}
 use Rattle.std.specs.List.{AllByRecursion}
 use Rattle.std.proofs.lemmas.Bool.{cases_eq}
 use Rattle.std.proofs.lemmas.Option.{same_Some}
-use Rattle.spv_module.specs.Operand.{Plain, Value, PlainInst}
+use Rattle.spv_module.specs.Operand.{Plain, PlainInst}
 use Rattle.spv_module.specs.Width.{definition_of}
 use Rattle.spv_type_forms.specs.declared.form.Scalar.{Scalar}
 use Rattle.spv_type_forms.specs.declared.form.Scalar.TheVariants as scalar
@@ -13,39 +13,35 @@ use Rattle.spv_type_forms.specs.declared.form.Form.TheVariants as form
 use Rattle.spv_type_forms.specs.declared.form.Sort.{Sort}
 use Rattle.spv_type_forms.specs.declared.form.Sort.TheVariants as sort
 use Rattle.spv_type_forms.specs.declared.form.Components.{Components}
-use Rattle.spv_ops.specs.declared.row.Row.{Row}
-use Rattle.spv_ops.specs.declared.row.Row.TheVariants.{Free, Undef, Variable, Calculation, Access, Composite, Construct, Chain, ElementChain, Phi, BranchConditional, Switch}
-use Rattle.spv_ops.specs.declared.row.Calculation as calculations
-use Rattle.spv_ops.specs.declared.row.Calculation.TheVariants as calculation
-use Rattle.spv_ops.specs.declared.row.Access as accesses_of
-use Rattle.spv_ops.specs.declared.row.Access.TheVariants as access
-use Rattle.spv_ops.specs.declared.row.Composite as composites
-use Rattle.spv_ops.specs.declared.row.Composite.TheVariants as composite
+use Rattle.spv_conditions.specs.declared.condition.Kind.{Kind}
+use Rattle.spv_conditions.specs.declared.condition.Kind.TheVariants as kind
+use Rattle.spv_conditions.specs.declared.condition.Relation.{Relation}
+use Rattle.spv_conditions.specs.declared.condition.Relation.TheVariants as relation
+use Rattle.spv_conditions.specs.declared.asked.Rest.{Rest}
+use Rattle.spv_conditions.specs.declared.asked.Rest.TheVariants as rest
+use Rattle.spv_conditions.specs.declared.asked.Asked.{Asked}
+use Rattle.spv_conditions.specs.declared.asked.Asked.TheVariants as asked
+use Rattle.spv_conditions.specs.Asks.{HoldsOf}
+use Rattle.spv_conditions.specs.Chain.{led_by, led_to}
+use Rattle.spv_conditions.specs.Condition.{Agrees, HasResult, IsComposite, IsNamedClass, IsOf, bits_of}
+use Rattle.spv_conditions.specs.Path.{reached_by, stop_at}
+use Rattle.spv_conditions.specs.Rest.{RestHolds, IsComponent, IsShare, AreSeveral, IsShareAt, AreFilling, AreCounted, IsPartAt, OfParts, OfVector, both_sizes, shares_of}
+use Rattle.spv_conditions.specs.Values.{type_at}
+use Rattle.spv_conditions.specs.Variable.{MayHave, MayInitialize, class_of, initializers_in}
+use Rattle.spv_conditions.proofs.lemmas.Paths.{all_within, never_stops}
 use Rattle.spv_type_forms.specs.Form.{form_of}
 use Rattle.spv_type_forms.specs.Types.{components_of, IsDataForm, IsData, IsSomeInt, IsNumber, IsVector, IsPointer, PointsTo, HasSort, sort_of, pointee_in, class_in}
-use Rattle.spv_type_forms.specs.inner.Types.{IsB, IsOf}
+use Rattle.spv_type_forms.specs.inner.Types.{IsB}
 use Rattle.spv_type_forms.specs.Operands.{words_in, ids_in, after_head, result_type_in}
 use Rattle.spv_type_forms.specs.Parts.{part_of, count_of, AreParts, ArePartsFrom}
-use Rattle.spv_ops.specs.Calculation.{Calculates, IsNamedClass, bits_of}
-use Rattle.spv_ops.specs.Access.{Accesses}
-use Rattle.spv_ops.specs.inner.Access.{IsScope}
-use Rattle.spv_ops.specs.Composite.{Composes, Constructs, shares_of}
-use Rattle.spv_ops.specs.Composite.{IsComponent}
-use Rattle.spv_type_forms.specs.Reach.{AreWithin, ReachesType}
-use Rattle.spv_type_forms.specs.inner.Reach.{LeadsToType}
-use Rattle.spv_type_forms.specs.inner.Walk.{walk, choices}
-use Rattle.spv_ops.specs.Chain.{LeadsByPointer, Chains, ChainsByElement}
+use Rattle.spv_type_forms.specs.Reach.{AreWithin}
 use Rattle.spv_type_forms.specs.inner.Definitions.{is_constant_opcode}
-use Rattle.spv_ops.specs.Variable.{DeclaresVariable}
-use Rattle.spv_ops.specs.inner.Variable.{IsClassAt, IsInitializer}
-use Rattle.spv_ops.specs.Row.{row_of}
+use Rattle.spv_ops.specs.Table.{conditions_of}
 use Rattle.spv_type_forms.specs.Values.{types_of}
 use Rattle.spv_ops.specs.Values.{values_of}
-use Rattle.spv_ops.specs.Typed.{RowHolds, Typed}
+use Rattle.spv_ops.specs.Typed.{Typed}
 use Rattle.spv_ops.specs.inner.Typed.{IsTypedIn}
-use Rattle.spv_type_forms.proofs.Walks.{walk_decides}
-use Rattle.spv_type_forms.proofs.Choices.{choices_decide}
-use Rattle.spv_verdict.proofs.Decided.{Decided, anew, both, three, four, either, opposite, some_and, pinned, number_same, numbers_same, all_or_not, is_true}
+use Rattle.spv_verdict.proofs.Decided.{Decided, anew, both, three, either, opposite, some_and, pinned, number_same, numbers_same, all_or_not, is_true}
 use Rattle.spv_verdict.proofs.Standing.{global_section_or_not, function_or_none, global_or_not, less_or_not}
 
 -- what an id declares
@@ -84,20 +80,6 @@ int_of_width f w = elim (int_or_not f) [
   | inl i ↦ anew (λ e. (let k = i.1 in cc)) (λ h. (let k = i.1 in cc)) (cases_eq i.0 w)
 ]
 
-pub vector_of : (f : Option Form) (c n : ℕ) → Decided (f ≡ Some (form.Vector c n))
-vector_of f c n = elim (vector_or_not f) [
-  | inr none ↦ inr (λ h. none (c, n, h))
-  | inl i ↦ anew (λ e. (let k = i.2 in let a = e.0 in let b = e.1 in cc)) (λ h. (let k = i.2 in (cc, cc)))
-      (both (cases_eq i.0 c) (cases_eq i.1 n))
-]
-
-pub pointer_of : (f : Option Form) (c p : ℕ) → Decided (f ≡ Some (form.Pointer c p))
-pointer_of f c p = elim (pointer_or_not f) [
-  | inr none ↦ inr (λ h. none (c, p, h))
-  | inl i ↦ anew (λ e. (let k = i.2 in let a = e.0 in let b = e.1 in cc)) (λ h. (let k = i.2 in (cc, cc)))
-      (both (cases_eq i.0 c) (cases_eq i.1 p))
-]
-
 -- a pointer of a class to something
 pub pointer_of_class : (f : Option Form) (c : ℕ) → Decided ((p : ℕ) × (f ≡ Some (form.Pointer c p)))
 pointer_of_class f c = elim (pointer_or_not f) [
@@ -131,21 +113,10 @@ some_int is t = int_or_not (form_of is t)
 number_or_not : (is : List PlainInst) (t : ℕ) → Decided (IsNumber is t)
 number_or_not is t = either (some_int is t) (float_or_not (form_of is t))
 
-scope_or_not : (is : List PlainInst) (t : ℕ) → Decided (IsScope is t)
-scope_or_not is t = int_of_width (form_of is t) 32
-
 -- components
 
 abbrev parts : Scalar → ℕ → Components
 parts s n = record { scalar = s; count = n }
-
-int_in : (s : Scalar) → Decided ((w : ℕ) × (s ≡ scalar.Int w))
-int_in (scalar.Int w) = inl (w, refl)
-int_in _ = inr (λ h. let e = h.1 in cc)
-
-float_in : (s : Scalar) → Decided ((w : ℕ) × (s ≡ scalar.Float w))
-float_in (scalar.Float w) = inl (w, refl)
-float_in _ = inr (λ h. let e = h.1 in cc)
 
 bool_in : (s : Scalar) → Decided (s ≡ scalar.Bool)
 bool_in scalar.Bool = inl refl
@@ -153,21 +124,6 @@ bool_in _ = inr (λ e. cc)
 
 count_same : (o : Option Components) (s q : Scalar) (n m : ℕ) → o ≡ Some (parts s n) → o ≡ Some (parts q m) → n ≡ m
 count_same o s q n m a b = ap (λ (c : Components). c.count) (same_Some (parts s n) (parts q m) (sym a ∙ b))
-
-scalar_same : (o : Option Components) (s q : Scalar) (n m : ℕ) → o ≡ Some (parts s n) → o ≡ Some (parts q m) → s ≡ q
-scalar_same o s q n m a b = ap (λ (c : Components). c.scalar) (same_Some (parts s n) (parts q m) (sym a ∙ b))
-
-made : (make : ℕ → Scalar) → ((s : Scalar) → Decided ((w : ℕ) × (s ≡ make w))) → (o : Option Components)
-    → Decided ((n w : ℕ) × (o ≡ Some (parts (make w) n)))
-made make d None = inr (λ h. let e = h.2 in cc)
-made make d (Some c) = anew (λ h. (c.count, h.0, ap (λ (s : Scalar). Some (parts s c.count)) h.1))
-    (λ h. (h.1, ap (λ (k : Components). k.scalar) (same_Some c (parts (make h.1) h.0) h.2))) (d c.scalar)
-
-ints : (o : Option Components) → Decided ((n w : ℕ) × (o ≡ Some (parts (scalar.Int w) n)))
-ints o = made (λ w. scalar.Int w) int_in o
-
-floats : (o : Option Components) → Decided ((n w : ℕ) × (o ≡ Some (parts (scalar.Float w) n)))
-floats o = made (λ w. scalar.Float w) float_in o
 
 bools : (o : Option Components) → Decided ((n : ℕ) × (o ≡ Some (parts scalar.Bool n)))
 bools None = inr (λ h. let e = h.1 in cc)
@@ -181,56 +137,6 @@ bools_of o n = elim (bools o) [
       (λ h. count_same o scalar.Bool scalar.Bool b.0 n b.1 h) (cases_eq b.0 n)
 ]
 
-int_width : (v w : ℕ) → scalar.Int v ≡ scalar.Int w → v ≡ w
-int_width v w e = cc
-
-float_width : (v w : ℕ) → scalar.Float v ≡ scalar.Float w → v ≡ w
-float_width v w e = cc
-
--- two types of as many components, and what holds of the widths
-module _ (one two : ℕ → Scalar) (o r : Option Components)
-    (ones : (v w : ℕ) → one v ≡ one w → v ≡ w) (twos : (v w : ℕ) → two v ≡ two w → v ≡ w)
-    (C : ℕ → ℕ → Type 0) (c : (v w : ℕ) → Decided (C v w)) where
-  joined : Decided ((n w : ℕ) × (o ≡ Some (parts (one w) n))) → Decided ((n w : ℕ) × (r ≡ Some (parts (two w) n)))
-      → Decided ((n v w : ℕ) × (o ≡ Some (parts (one v) n)) × (r ≡ Some (parts (two w) n)) × C v w)
-  joined (inr none) e = inr (λ h. none (h.0, h.1, h.3))
-  joined (inl f) (inr none) = inr (λ h. none (h.0, h.2, h.4))
-  joined (inl f) (inl g) = anew
-      (λ k. (f.0, f.1, g.1, f.2, subst (λ (n : ℕ). r ≡ Some (parts (two g.1) n)) (sym k.0) g.2, k.1))
-      (λ h. (
-      let p = count_same o (one f.1) (one h.1) f.0 h.0 f.2 h.3 in
-      let q = count_same r (two g.1) (two h.2) g.0 h.0 g.2 h.4 in
-      let a = ones f.1 h.1 (scalar_same o (one f.1) (one h.1) f.0 h.0 f.2 h.3) in
-      let b = twos g.1 h.2 (scalar_same r (two g.1) (two h.2) g.0 h.0 g.2 h.4) in
-      (p ∙ sym q, subst (λ (w : ℕ). C f.1 w) (sym b) (subst (λ (v : ℕ). C v h.2) (sym a) h.5))))
-      (both (cases_eq f.0 g.0) (c f.1 g.1))
-
-two_ints : (is : List PlainInst) (o r : ℕ) (C : ℕ → ℕ → Type 0) (c : (v w : ℕ) → Decided (C v w))
-    → Decided ((n v w : ℕ) × (components_of is o ≡ Some (parts (scalar.Int v) n)) ×
-    (components_of is r ≡ Some (parts (scalar.Int w) n)) × C v w)
-two_ints is o r C c = joined (λ w. scalar.Int w) (λ w. scalar.Int w) (components_of is o)
-    (components_of is r) int_width int_width C c (ints (components_of is o)) (ints (components_of is r))
-
-two_floats : (is : List PlainInst) (o r : ℕ) (C : ℕ → ℕ → Type 0) (c : (v w : ℕ) → Decided (C v w))
-    → Decided ((n v w : ℕ) × (components_of is o ≡ Some (parts (scalar.Float v) n)) ×
-    (components_of is r ≡ Some (parts (scalar.Float w) n)) × C v w)
-two_floats is o r C c = joined (λ w. scalar.Float w) (λ w. scalar.Float w) (components_of is o)
-    (components_of is r) float_width float_width C c (floats (components_of is o)) (floats (components_of is r))
-
-float_and_int : (is : List PlainInst) (o r : ℕ)
-    → Decided ((n v w : ℕ) × (components_of is o ≡ Some (parts (scalar.Float v) n)) ×
-    (components_of is r ≡ Some (parts (scalar.Int w) n)) × Unit {0})
-float_and_int is o r =
-    joined (λ w. scalar.Float w) (λ w. scalar.Int w) (components_of is o) (components_of is r) float_width int_width
-    (λ v w. Unit {0}) (λ v w. inl tt) (floats (components_of is o)) (ints (components_of is r))
-
-int_and_float : (is : List PlainInst) (o r : ℕ)
-    → Decided ((n v w : ℕ) × (components_of is o ≡ Some (parts (scalar.Int v) n)) ×
-    (components_of is r ≡ Some (parts (scalar.Float w) n)) × Unit {0})
-int_and_float is o r =
-    joined (λ w. scalar.Int w) (λ w. scalar.Float w) (components_of is o) (components_of is r) int_width float_width
-    (λ v w. Unit {0}) (λ v w. inl tt) (ints (components_of is o)) (floats (components_of is r))
-
 sort_same : (a b : Sort) → Decided (a ≡ b)
 sort_same sort.Int sort.Int = inl refl
 sort_same sort.Float sort.Float = inl refl
@@ -240,42 +146,8 @@ sort_same _ _ = inr (λ e. cc)
 has_sort : (is : List PlainInst) (s : Sort) (t : ℕ) → Decided (HasSort s is t)
 has_sort is s t = some_and (components_of is t) (λ c. sort_of c.scalar ≡ s) (λ c. sort_same (sort_of c.scalar) s)
 
-is_of : (is : List PlainInst) (s : Sort) (t n : ℕ) → Decided (IsOf s is t n)
-is_of is s t n = some_and (components_of is t) (λ c. (sort_of c.scalar ≡ s) × (c.count ≡ n))
-    (λ c. both (sort_same (sort_of c.scalar) s) (cases_eq c.count n))
-
 named_class : (c : ℕ) → Decided (IsNamedClass c)
 named_class c = either (cases_eq c 4) (either (cases_eq c 5) (cases_eq c 7))
-
--- calculations
-
-to_generic : (is : List PlainInst) (r o : ℕ)
-    → Decided ((class p : ℕ) × IsPointer is o class p × IsNamedClass class × IsPointer is r 8 p)
-to_generic is r o = elim (pointer_or_not (form_of is o)) [
-  | inr none ↦ inr (λ h. none (h.0, h.1, h.2))
-  | inl f ↦ anew (λ k. (f.0, f.1, f.2, k.0, k.1))
-      (λ h. (
-      let a = f.2 in
-      let b = h.2 in
-      let c : h.0 ≡ f.0 = cc in
-      let d : h.1 ≡ f.1 = cc in
-      (subst IsNamedClass c h.3, subst (λ (p : ℕ). IsPointer is r 8 p) d h.4)))
-      (both (named_class f.0) (pointer_of (form_of is r) 8 f.1))
-]
-
-from_generic : (is : List PlainInst) (r o : ℕ)
-    → Decided ((class p : ℕ) × IsPointer is o 8 p × IsPointer is r class p × IsNamedClass class)
-from_generic is r o = elim (pointer_or_not (form_of is r)) [
-  | inr none ↦ inr (λ h. none (h.0, h.1, h.3))
-  | inl f ↦ anew (λ k. (f.0, f.1, k.0, f.2, k.1))
-      (λ h. (
-      let a = f.2 in
-      let b = h.3 in
-      let c : h.0 ≡ f.0 = cc in
-      let d : h.1 ≡ f.1 = cc in
-      (subst (λ (p : ℕ). IsPointer is o 8 p) d h.2, subst IsNamedClass c h.4)))
-      (both (pointer_of (form_of is o) 8 f.1) (named_class f.0))
-]
 
 two_pointers : (is : List PlainInst) (r o : ℕ)
     → Decided ((class p q : ℕ) × IsPointer is o class p × IsPointer is r class q)
@@ -302,77 +174,6 @@ bool_vectors is r o = elim (vector_or_not (form_of is r)) [
       (bools_of (components_of is o) f.1)
 ]
 
-compared : (is : List PlainInst) (s : Sort) (r o p : ℕ) → Decided ((n : ℕ) × (p ≡ o) × IsOf s is o n × IsB is r n)
-compared is s r o p = elim (bools (components_of is r)) [
-  | inr none ↦ inr (λ h. none (h.0, h.3))
-  | inl f ↦ anew (λ k. (f.0, k.0, k.1, f.1))
-      (λ h. (
-        h.1,
-        subst (λ (n : ℕ). IsOf s is o n)
-            (count_same (components_of is r) scalar.Bool scalar.Bool h.0 f.0 h.3 f.1) h.2,
-      ))
-      (both (cases_eq p o) (is_of is s o f.0))
-]
-
-calculates : (is : List PlainInst) (c : calculations.Calculation) (r : ℕ) (types : List ℕ)
-    → Decided (Calculates is c r types)
-calculates is calculation.FloatToInt r (o ∷ []) = anew (λ h. (h.0, h.1, h.2, h.3, h.4))
-    (λ h. (h.0, h.1, h.2, h.3, h.4, tt)) (float_and_int is o r)
-calculates is calculation.IntToFloat r (o ∷ []) = anew (λ h. (h.0, h.1, h.2, h.3, h.4))
-    (λ h. (h.0, h.1, h.2, h.3, h.4, tt)) (int_and_float is o r)
-calculates is calculation.ResizeInt r (o ∷ []) = two_ints is o r (λ v w. v ≢ w) (λ v w. opposite (cases_eq v w))
-calculates is calculation.ResizeFloat r (o ∷ []) = two_floats is o r (λ v w. v ≢ w) (λ v w. opposite (cases_eq v w))
-calculates is calculation.PointerToInt r (o ∷ []) = anew (λ h. (h.1.0, h.0.0, h.0.1, h.1.1))
-    (λ h. ((h.1, h.2), (h.0, h.3))) (both (points_at_all is o) (some_int is r))
-calculates is calculation.IntToPointer r (o ∷ []) = anew (λ h. (h.0.0, h.1.0, h.0.1, h.1.1))
-    (λ h. ((h.0, h.2), (h.1, h.3))) (both (some_int is o) (points_at_all is r))
-calculates is calculation.ToGeneric r (o ∷ []) = to_generic is r o
-calculates is calculation.FromGeneric r (o ∷ []) = from_generic is r o
-calculates is calculation.Bitcast r (o ∷ []) = either
-    (pinned (bits_of is o) (λ b. bits_of is r ≡ Some b) (λ b. number_same (bits_of is r) (Some b)))
-    (two_pointers is r o)
-calculates is (calculation.Unary s) r (o ∷ []) = both (cases_eq o r) (has_sort is s r)
-calculates is (calculation.Binary s) r (o ∷ p ∷ []) = three (cases_eq o r) (cases_eq p r) (has_sort is s r)
-calculates is calculation.Select r (o ∷ p ∷ q ∷ []) = four (cases_eq p r) (cases_eq q r) (data_or_not is r)
-    (either (bool_or_not (form_of is o)) (bool_vectors is r o))
-calculates is (calculation.Compare s) r (o ∷ p ∷ []) = compared is s r o p
-calculates is calculation.Shift r (o ∷ p ∷ []) = anew (λ h. (h.1.0, h.1.1, h.1.2, h.0, h.1.3, h.1.4))
-    (λ h. (h.3, (h.0, h.1, h.2, h.4, h.5, tt)))
-    (both (cases_eq o r) (two_ints is r p (λ v w. Unit {0}) (λ v w. inl tt)))
-calculates is _ r _ = inr (λ h. h)
-
--- memory
-
-accesses : (is : List PlainInst) (a : accesses_of.Access) (r : Option ℕ) (types : List ℕ)
-    → Decided (Accesses is a r types)
-accesses is access.Load (Some r) (o ∷ []) = both (points_or_not is o r) (data_or_not is r)
-accesses is access.Store None (o ∷ p ∷ []) = points_or_not is o p
-accesses is access.CopyMemory None (o ∷ p ∷ []) = points_somewhere is o (λ t. PointsTo is p t)
-    (λ t. points_or_not is p t)
-accesses is access.CopyMemorySized None (o ∷ p ∷ q ∷ []) = anew (λ h. (h.0.0, h.1.0, h.0.1, h.1.1, h.2))
-    (λ h. ((h.0, h.2), (h.1, h.3), h.4)) (three (points_at_all is o) (points_at_all is p) (some_int is q))
-accesses is access.Lifetime None (o ∷ []) = pointer_of_class (form_of is o) 7
-accesses is access.ControlBarrier None (c ∷ d ∷ m ∷ []) = three (scope_or_not is c) (scope_or_not is d)
-    (scope_or_not is m)
-accesses is access.MemoryBarrier None (c ∷ m ∷ []) = both (scope_or_not is c) (scope_or_not is m)
-accesses is access.AtomicLoad (Some r) (o ∷ c ∷ m ∷ []) = four (points_or_not is o r) (scope_or_not is c)
-    (scope_or_not is m) (number_or_not is r)
-accesses is access.AtomicStore None (o ∷ c ∷ m ∷ p ∷ []) = four (points_or_not is o p) (scope_or_not is c)
-    (scope_or_not is m) (number_or_not is p)
-accesses is access.AtomicExchange (Some r) (o ∷ c ∷ m ∷ p ∷ []) = anew (λ h. (h.0, h.1, h.2, h.3.0, h.3.1))
-    (λ h. (h.0, h.1, h.2, (h.3, h.4)))
-    (four (points_or_not is o r) (scope_or_not is c) (scope_or_not is m) (both (cases_eq p r) (number_or_not is r)))
-accesses is access.AtomicCompareExchange (Some r) (o ∷ c ∷ m ∷ n ∷ p ∷ q ∷ []) = anew
-    (λ h. (h.0, h.1, h.2, h.3.0, h.3.1, h.3.2, h.3.3)) (λ h. (h.0, h.1, h.2, (h.3, h.4, h.5, h.6)))
-    (four (points_or_not is o r) (scope_or_not is c) (scope_or_not is m)
-    (four (scope_or_not is n) (cases_eq p r) (cases_eq q r) (some_int is r)))
-accesses is access.AtomicStep (Some r) (o ∷ c ∷ m ∷ []) = four (points_or_not is o r) (scope_or_not is c)
-    (scope_or_not is m) (some_int is r)
-accesses is access.AtomicUpdate (Some r) (o ∷ c ∷ m ∷ p ∷ []) = anew (λ h. (h.0, h.1, h.2, h.3.0, h.3.1))
-    (λ h. (h.0, h.1, h.2, (h.3, h.4)))
-    (four (points_or_not is o r) (scope_or_not is c) (scope_or_not is m) (both (cases_eq p r) (some_int is r)))
-accesses is _ r types = inr (λ h. h)
-
 -- composites
 
 parts_from : (is : List PlainInst) (t k : ℕ) (us : List ℕ) → Decided (ArePartsFrom is t k us)
@@ -382,49 +183,8 @@ parts_from is t k (u ∷ us) = both (number_same (part_of is t k) (Some u)) (par
 pub parts_or_not : (is : List PlainInst) (t : ℕ) (us : List ℕ) → Decided (AreParts is t us)
 parts_or_not is t us = both (number_same (count_of is t) (Some (length us))) (parts_from is t 0 us)
 
-constructs : (is : List PlainInst) (r : ℕ) (types : List ℕ) (f : Option Form) → Decided (Constructs is r types f)
-constructs is r types (Some (form.Vector c n)) = both (less_or_not 1 (length types))
-    (number_same (shares_of is c types) (Some n))
-constructs is r types (Some form.Struct) = parts_or_not is r types
-constructs is r types (Some (form.Array e l)) = parts_or_not is r types
-constructs is r types _ = inr (λ h. h)
-
 component_or_not : (n k : ℕ) → Decided (IsComponent n k)
 component_or_not n k = either (less_or_not k n) (cases_eq k 4294967295)
-
-shuffled : (is : List PlainInst) (r o p : ℕ) (ks : List ℕ)
-    → Decided ((c m n : ℕ) × IsVector is r c (length ks) × IsVector is o c m × IsVector is p c n × AllByRecursion
-    (IsComponent (m + n)) ks)
-shuffled is r o p ks = elim (vector_or_not (form_of is o)) [
-  | inr none ↦ inr (λ h. none (h.0, h.1, h.4))
-  | inl f ↦ elim (vector_or_not (form_of is p)) [
-    | inr none ↦ inr (λ h. none (h.0, h.2, h.5))
-    | inl g ↦ anew
-        (λ k. (f.0, f.1, g.1, k.1, f.2, (let e = k.0 in let a = g.2 in cc), k.2))
-        (λ h. (
-        let a = f.2 in
-        let b = g.2 in
-        let c = h.4 in
-        let d = h.5 in
-        let ec : h.0 ≡ f.0 = cc in
-        let em : h.1 ≡ f.1 = cc in
-        let gc : h.0 ≡ g.0 = cc in
-        let en : h.2 ≡ g.1 = cc in
-        let all : AllByRecursion (IsComponent (f.1 + h.2)) ks = subst
-        (λ (m : ℕ). AllByRecursion (IsComponent (m + h.2)) ks) em h.6 in (
-          sym gc ∙ ec,
-          subst (λ (k : ℕ). IsVector is r k (length ks)) ec h.3,
-          subst
-              (λ (n : ℕ). AllByRecursion (IsComponent (f.1 + n)) ks) en all,
-        )))
-        (three (cases_eq g.0 f.0) (vector_of (form_of is r) f.0 (length ks))
-        (all_or_not (IsComponent (f.1 + g.1)) (component_or_not (f.1 + g.1)) ks))
-  ]
-]
-
-extracted : (is : List PlainInst) (o r : ℕ) (ks : List ℕ) → Decided (AreWithin is o ks × ReachesType is o ks r)
-extracted is o r ks = anew (λ e. (walk_decides is ks o r).0 e) (λ h. (walk_decides is ks o r).1 h)
-    (number_same (walk is ks o) (Some r))
 
 vector_with : (is : List PlainInst) (o c : ℕ) → Decided ((n : ℕ) × IsVector is o c n)
 vector_with is o c = elim (vector_or_not (form_of is o)) [
@@ -432,99 +192,159 @@ vector_with is o c = elim (vector_or_not (form_of is o)) [
   | inl f ↦ anew (λ e. (f.1, (let a = f.2 in cc))) (λ h. (let a = f.2 in let b = h.1 in cc)) (cases_eq f.0 c)
 ]
 
-composes : (is : List PlainInst) (c : composites.Composite) (r : ℕ) (types ks : List ℕ)
-    → Decided (Composes is c r types ks)
-composes is composite.ExtractDynamic r (o ∷ p ∷ []) ks = anew (λ h. (h.0.0, h.0.1, h.1)) (λ h. ((h.0, h.1), h.2))
-    (both (vector_with is o r) (some_int is p))
-composes is composite.InsertDynamic r (o ∷ p ∷ q ∷ []) ks = anew (λ h. (h.1.0, h.0, h.1.1, h.2))
-    (λ h. (h.1, (h.0, h.2), h.3)) (three (cases_eq o r) (vector_with is r p) (some_int is q))
-composes is composite.Shuffle r (o ∷ p ∷ []) ks = shuffled is r o p ks
-composes is composite.Extract r (o ∷ []) ks = anew (λ h. (h.0, h.1.0, h.1.1)) (λ h. (h.0, (h.1, h.2)))
-    (both (opposite (numbers_same ks [])) (extracted is o r ks))
-composes is composite.Insert r (o ∷ p ∷ []) ks = anew (λ h. (h.0, h.1, h.2.0, h.2.1)) (λ h. (h.0, h.1, (h.2, h.3)))
-    (three (opposite (numbers_same ks [])) (cases_eq p r) (extracted is p o ks))
-composes is composite.CopyObject r (o ∷ []) ks = both (cases_eq o r) (data_or_not is r)
-composes is _ r types ks = inr (λ h. h)
-
--- access chains
-
-leads_or_not : (is : List PlainInst) (r o : ℕ) (xs : List ℕ) → Decided (LeadsByPointer is r o xs)
-leads_or_not is r o xs = elim (pointer_or_not (form_of is o)) [
-  | inr none ↦ inr (λ l. none (l.class, l.from, l.base))
-  | inl f ↦ elim (pointer_or_not (form_of is r)) [
-    | inr none ↦ inr (λ l. none (l.class, l.to, l.result))
-    | inl g ↦ anew
-        (λ k. record {
-          class = f.0;
-          from = f.1;
-          to = g.1;
-          base = f.2;
-          leads = (choices_decide is xs f.1 g.1).0 k.1;
-          result = (let e = k.0 in let a = g.2 in cc);
-        })
-        (λ l. (
-        let a = f.2 in
-        let b = g.2 in
-        let c = l.base in
-        let d = l.result in
-        let ec : l.class ≡ f.0 = cc in
-        let ef : l.from ≡ f.1 = cc in
-        let gc : l.class ≡ g.0 = cc in
-        let et : l.to ≡ g.1 = cc in
-        let leads : LeadsToType is f.1 xs l.to = subst (λ (t : ℕ). LeadsToType is t xs l.to) ef l.leads in
-        (sym gc ∙ ec, (choices_decide is xs f.1 g.1).1 (subst (λ (u : ℕ). LeadsToType is f.1 xs u) et leads))))
-        (both (cases_eq g.0 f.0) (number_same (choices is xs f.1) (Some g.1)))
-  ]
-]
-
-chains : (is : List PlainInst) (r : ℕ) (types xs : List ℕ) → Decided (Chains is r types xs)
-chains is r (o ∷ types) (x ∷ xs) = both (all_or_not (IsSomeInt is) (some_int is) types) (leads_or_not is r o xs)
-chains is r _ _ = inr (λ h. h)
-
-chains_by_element : (is : List PlainInst) (r : ℕ) (types xs : List ℕ) → Decided (ChainsByElement is r types xs)
-chains_by_element is r (o ∷ p ∷ types) (x ∷ y ∷ xs) = three (some_int is p)
-    (all_or_not (IsSomeInt is) (some_int is) types) (leads_or_not is r o xs)
-chains_by_element is r _ _ = inr (λ h. h)
-
 -- variables
 
-class_at : (is : List PlainInst) (n class : ℕ) → Decided (IsClassAt is n class)
+class_at : (is : List PlainInst) (n class : ℕ) → Decided (MayHave is n class)
 class_at is n class = either (three (global_section_or_not is n) (opposite (cases_eq class 7))
     (opposite (cases_eq class 8))) (elim (function_or_none is n) [
       | inr none ↦ inr (λ h. none (h.0, h.1))
       | inl f ↦ anew (λ e. (f.0, f.1, e)) (λ h. h.2) (cases_eq class 7)
     ])
 
-initializer_or_not : (is : List PlainInst) (x : ℕ) → Decided (IsInitializer is x)
+initializer_or_not : (is : List PlainInst) (x : ℕ) → Decided (MayInitialize is x)
 initializer_or_not is x = either
     (some_and (definition_of is x) (λ d. IsTrue (is_constant_opcode d.opcode))
     (λ d. is_true (is_constant_opcode d.opcode))) (global_or_not is x)
 
-declares : (is : List PlainInst) (n r : ℕ) (os : List Plain) (types : List ℕ) → Decided (DeclaresVariable is n r os types)
-declares is n r (Value k class ∷ os) types = four (number_same (class_in (form_of is r)) (Some class))
-    (class_at is n class) (all_or_not (IsInitializer is) (initializer_or_not is) (ids_in os))
-    (all_or_not (PointsTo is r) (points_or_not is r) types)
-declares is n r _ types = inr (λ h. h)
+-- kinds
 
--- all rows
+named_pointer : (is : List PlainInst) (t : ℕ) → Decided ((class p : ℕ) × IsPointer is t class p × IsNamedClass class)
+named_pointer is t = elim (pointer_or_not (form_of is t)) [
+  | inr none ↦ inr (λ h. none (h.0, h.1, h.2))
+  | inl f ↦ anew (λ k. (f.0, f.1, f.2, k))
+      (λ h. (
+      let a = f.2 in
+      let b = h.2 in
+      let c : h.0 ≡ f.0 = cc in
+      subst IsNamedClass c h.3))
+      (named_class f.0)
+]
 
-holds_or_not : (is : List PlainInst) (n : ℕ) (i : PlainInst) (w : Row) (r : Option ℕ) (types : List ℕ)
-    → Decided (RowHolds is n i w r types)
-holds_or_not is n i Free r types = inl tt
-holds_or_not is n i Undef (Some r) types = data_or_not is r
-holds_or_not is n i Variable (Some r) types = declares is n r (after_head i.operands) types
-holds_or_not is n i (Calculation c) (Some r) types = calculates is c r types
-holds_or_not is n i (Access a) r types = accesses is a r types
-holds_or_not is n i (Composite c) (Some r) types = composes is c r types (words_in i.operands)
-holds_or_not is n i Construct (Some r) types = constructs is r types (form_of is r)
-holds_or_not is n i Chain (Some r) types = chains is r types (ids_in (after_head i.operands))
-holds_or_not is n i ElementChain (Some r) types = chains_by_element is r types (ids_in (after_head i.operands))
-holds_or_not is n i Phi (Some r) types = both (data_or_not is r) (all_or_not (λ t. t ≡ r) (λ t. cases_eq t r) types)
-holds_or_not is n i BranchConditional None (o ∷ []) = both (bool_or_not (form_of is o))
-    (either (numbers_same (words_in i.operands) []) (cases_eq (length (words_in i.operands)) 2))
-holds_or_not is n i Switch None (o ∷ []) = some_int is o
-holds_or_not is n i _ r types = inr (λ h. h)
+composite_form : (f : Form) → Decided (IsComposite f)
+composite_form (form.Vector c n) = inl tt
+composite_form form.Struct = inl tt
+composite_form (form.Array e l) = inl tt
+composite_form _ = inr (λ h. h)
+
+kind_or_not : (is : List PlainInst) (k : Kind) (t : ℕ) → Decided (IsOf is k t)
+kind_or_not is kind.Int t = some_int is t
+kind_or_not is kind.Int32 t = int_of_width (form_of is t) 32
+kind_or_not is kind.Number t = number_or_not is t
+kind_or_not is kind.Bool t = bool_or_not (form_of is t)
+kind_or_not is kind.Data t = data_or_not is t
+kind_or_not is kind.Ints t = has_sort is sort.Int t
+kind_or_not is kind.Floats t = has_sort is sort.Float t
+kind_or_not is kind.Bools t = has_sort is sort.Bool t
+kind_or_not is kind.Pointer t = points_at_all is t
+kind_or_not is kind.FunctionPointer t = pointer_of_class (form_of is t) 7
+kind_or_not is kind.GenericPointer t = pointer_of_class (form_of is t) 8
+kind_or_not is kind.NamedPointer t = named_pointer is t
+kind_or_not is kind.Vector t = vector_or_not (form_of is t)
+kind_or_not is kind.Composite t = some_and (form_of is t) IsComposite composite_form
+
+-- relations
+
+scalar_or_not : (s q : Scalar) → Decided (s ≡ q)
+scalar_or_not (scalar.Int v) (scalar.Int w) = anew (λ e. ap scalar.Int e) (λ e. cc) (cases_eq v w)
+scalar_or_not (scalar.Float v) (scalar.Float w) = anew (λ e. ap scalar.Float e) (λ e. cc) (cases_eq v w)
+scalar_or_not scalar.Bool scalar.Bool = inl refl
+scalar_or_not _ _ = inr (λ e. cc)
+
+same_component : (is : List PlainInst) (t u : ℕ) → Decided ((c m n : ℕ) × IsVector is t c m × IsVector is u c n)
+same_component is t u = elim (vector_or_not (form_of is t)) [
+  | inr none ↦ inr (λ h. none (h.0, h.1, h.3))
+  | inl f ↦ anew (λ k. (f.0, f.1, k.0, f.2, k.1))
+      (λ h. (
+      let a = f.2 in
+      let b = h.3 in
+      let c : h.0 ≡ f.0 = cc in
+      (h.2, subst (λ (d : ℕ). IsVector is u d h.2) c h.4)))
+      (vector_with is u f.0)
+]
+
+relation_or_not : (is : List PlainInst) (q : Relation) (t u : ℕ) → Decided (Agrees is q t u)
+relation_or_not is relation.Same t u = cases_eq t u
+relation_or_not is relation.SameCount t u = some_and (components_of is t) (λ c. IsSomeAnd (components_of is u) (λ d. c.count ≡ d.count))
+    (λ c. some_and (components_of is u) (λ d. c.count ≡ d.count) (λ d. cases_eq c.count d.count))
+relation_or_not is relation.OtherWidth t u = some_and (components_of is t) (λ c. IsSomeAnd (components_of is u) (λ d. c.scalar ≢ d.scalar))
+    (λ c. some_and (components_of is u) (λ d. c.scalar ≢ d.scalar) (λ d. opposite (scalar_or_not c.scalar d.scalar)))
+relation_or_not is relation.SameBits t u = either
+    (pinned (bits_of is t) (λ b. bits_of is u ≡ Some b) (λ b. number_same (bits_of is u) (Some b)))
+    (two_pointers is u t)
+relation_or_not is relation.Chooses t u = either (bool_or_not (form_of is t)) (bool_vectors is u t)
+relation_or_not is relation.PointsTo t u = points_or_not is t u
+relation_or_not is relation.SamePointee t u = points_somewhere is t (λ p. PointsTo is u p) (λ p. points_or_not is u p)
+relation_or_not is relation.SameClass t u = two_pointers is u t
+relation_or_not is relation.VectorOf t u = vector_with is t u
+relation_or_not is relation.ComponentOf t u = vector_with is u t
+relation_or_not is relation.SameComponent t u = same_component is t u
+
+-- other conditions
+
+there_or_not : (o : Option ℕ) → Decided (IsSome o)
+there_or_not None = inr (λ h. let e = h in cc)
+there_or_not (Some x) = inl refl
+
+of_vector : (o : Option Form) (P : ℕ → ℕ → Type 0) → ((c n : ℕ) → Decided (P c n)) → Decided (OfVector o P)
+of_vector (Some (form.Vector c n)) P d = d c n
+of_vector _ P d = inl tt
+
+of_parts : (o : Option Form) (P : Type 0) → Decided P → Decided (OfParts o P)
+of_parts (Some form.Struct) P d = d
+of_parts (Some (form.Array e l)) P d = d
+of_parts _ P d = inl tt
+
+share_or_not : (is : List PlainInst) (c u : ℕ) → Decided (IsShare is c u)
+share_or_not is c u = either (cases_eq u c) (vector_with is u c)
+
+within_or_not : (is : List PlainInst) (os : List Plain) (t : ℕ) → Decided (AreWithin is t (words_in os))
+within_or_not is os t = anew (λ e. all_within is os 0 t e) (λ w. never_stops is os 0 t w) (number_same (stop_at is 0 os t) None)
+
+vector_of_count : (is : List PlainInst) (t m : ℕ) → Decided ((c : ℕ) × IsVector is t c m)
+vector_of_count is t m = elim (vector_or_not (form_of is t)) [
+  | inr none ↦ inr (λ h. none (h.0, m, h.1))
+  | inl f ↦ anew (λ e. (f.0, (let a = f.2 in cc))) (λ h. (let a = f.2 in let b = h.1 in cc)) (cases_eq f.1 m)
+]
+
+rest_or_not : (is : List PlainInst) (n : ℕ) (i : PlainInst) (r : Option ℕ) (types : List ℕ) (q : Rest) → Decided (RestHolds is n i r types q)
+rest_or_not is n i r types rest.Weights = either (numbers_same (words_in i.operands) []) (cases_eq (length (words_in i.operands)) 2)
+rest_or_not is n i r types rest.StorageClass = some_and r (λ t. IsSomeAnd (class_of (after_head i.operands)) (λ c. class_in (form_of is t) ≡ Some c))
+    (λ t. some_and (class_of (after_head i.operands)) (λ c. class_in (form_of is t) ≡ Some c) (λ c. number_same (class_in (form_of is t)) (Some c)))
+rest_or_not is n i r types rest.ClassHere = some_and (class_of (after_head i.operands)) (MayHave is n) (class_at is n)
+rest_or_not is n i r types rest.Initializer = all_or_not (MayInitialize is) (initializer_or_not is) (initializers_in (after_head i.operands))
+rest_or_not is n i r types rest.InitializerType = some_and r (λ t. AllByRecursion (PointsTo is t) types) (λ t. all_or_not (PointsTo is t) (points_or_not is t) types)
+rest_or_not is n i r types (rest.Chosen element k) = there_or_not (led_by is element (ids_in (after_head i.operands)) types (k + 1))
+rest_or_not is n i r types (rest.Leads element) = some_and r (λ t. IsSomeAnd (led_to is element (ids_in (after_head i.operands)) types) (PointsTo is t))
+    (λ t. some_and (led_to is element (ids_in (after_head i.operands)) types) (PointsTo is t) (points_or_not is t))
+rest_or_not is n i r types rest.Indexes = opposite (numbers_same (words_in i.operands) [])
+rest_or_not is n i r types (rest.Within k) = some_and (slice_get types k) (λ t. AreWithin is t (words_in i.operands)) (within_or_not is i.operands)
+rest_or_not is n i r types (rest.Reached s k) = some_and (slice_get types k) (λ t. IsSomeAnd (type_at r types s) (λ u. reached_by is (words_in i.operands) t ≡ u))
+    (λ t. some_and (type_at r types s) (λ u. reached_by is (words_in i.operands) t ≡ u) (λ u. cases_eq (reached_by is (words_in i.operands) t) u))
+rest_or_not is n i r types rest.ComponentCount = some_and r (λ t. (c : ℕ) × IsVector is t c (length (words_in i.operands))) (λ t. vector_of_count is t (length (words_in i.operands)))
+rest_or_not is n i r types rest.Component = all_or_not (IsComponent (both_sizes is types)) (component_or_not (both_sizes is types)) (words_in i.operands)
+rest_or_not is n i r types rest.Several = some_and r (λ t. AreSeveral types (form_of is t)) (λ t. of_vector (form_of is t) (λ c m. 1 < length types) (λ c m. less_or_not 1 (length types)))
+rest_or_not is n i r types (rest.Share k) = some_and r (λ t. IsShareAt is types k (form_of is t))
+    (λ t. of_vector (form_of is t) (λ c m. IsSomeAnd (slice_get types k) (IsShare is c)) (λ c m. some_and (slice_get types k) (IsShare is c) (share_or_not is c)))
+rest_or_not is n i r types rest.Filled = some_and r (λ t. AreFilling is types (form_of is t)) (λ t. of_vector (form_of is t) (λ c m. shares_of is c types ≡ Some m) (λ c m. number_same (shares_of is c types) (Some m)))
+rest_or_not is n i r types rest.Count = some_and r (λ t. AreCounted is t types (form_of is t)) (λ t. of_parts (form_of is t) (count_of is t ≡ Some (length types)) (number_same (count_of is t) (Some (length types))))
+rest_or_not is n i r types (rest.Part k) = some_and r (λ t. IsPartAt is t types k (form_of is t))
+    (λ t. of_parts (form_of is t) (IsSomeAnd (slice_get types k) (λ u. part_of is t k ≡ Some u)) (some_and (slice_get types k) (λ u. part_of is t k ≡ Some u) (λ u. number_same (part_of is t k) (Some u))))
+
+-- all conditions
+
+result_or_not : (b : Bool) (r : Option ℕ) → Decided (HasResult b r)
+result_or_not true (Some r) = inl tt
+result_or_not true None = inr (λ h. h)
+result_or_not false (Some r) = inr (λ h. h)
+result_or_not false None = inl tt
+
+asked_or_not : (is : List PlainInst) (n : ℕ) (i : PlainInst) (r : Option ℕ) (types : List ℕ) (a : Asked) → Decided (HoldsOf is n i r types a)
+asked_or_not is n i r types (asked.Operands b k) = both (result_or_not b r) (cases_eq (length types) k)
+asked_or_not is n i r types (asked.Kind k s) = some_and (type_at r types s) (IsOf is k) (kind_or_not is k)
+asked_or_not is n i r types (asked.Relation q s t) = some_and (type_at r types s) (λ u. IsSomeAnd (type_at r types t) (Agrees is q u))
+    (λ u. some_and (type_at r types t) (Agrees is q u) (relation_or_not is q u))
+asked_or_not is n i r types (asked.Rest q) = rest_or_not is n i r types q
 
 pub typed_or_not : (is : List PlainInst) (n : ℕ) (i : PlainInst) → Decided (IsTypedIn is n i)
 typed_or_not is n i = some_and (types_of is (values_of i)) (λ types. Typed is n i types)
-    (λ types. holds_or_not is n i (row_of i.opcode) (result_type_in i.operands) types)
+    (λ types. let r = result_type_in i.operands in all_or_not (HoldsOf is n i r types) (asked_or_not is n i r types) (conditions_of i.opcode (length types)))

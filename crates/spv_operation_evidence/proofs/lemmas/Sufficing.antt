@@ -1,5 +1,5 @@
 -- What is evidence for Y5 shows that the rule is broken.
-use Rattle.std.proofs.Common.{◌≡◌, ◌∙◌, ◌++◌, ℕ, List, [], ◌∷◌, Some, inl, inr, sym, ap, subst, length, map}
+use Rattle.std.proofs.Common.{◌≡◌, ◌∙◌, ℕ, List, Some, inl, inr, sym, ap, subst, length, map}
 use Rattle.std.specs.Prelude.{slice_get}
 use Rattle.std.specs.List.{AllByRecursion}
 use Rattle.std.proofs.lemmas.List.{length-map}
@@ -8,19 +8,17 @@ use Rattle.spv_module.specs.Operand.{PlainInst}
 use Rattle.spv_module.specs.declared.fault.Rule.{Rule}
 use Rattle.spv_layout.specs.declared.form.Form.{Form}
 use Rattle.spv_layout.proofs.Shapes.{forms_same}
-use Rattle.spv_type_forms.specs.Operands.{result_type_in}
 use Rattle.spv_type_forms.specs.Values.{AreValues, types_of, used_in}
-use Rattle.spv_ops.specs.Row.{row_of}
+use Rattle.spv_ops.specs.Table.{conditions_of}
 use Rattle.spv_ops.specs.Typed.{Typed, IsTyped}
 use Rattle.spv_type_rules.specs.Keeps.{Keeps}
 use Rattle.spv_evidence.specs.declared.evidence.Evidence.{Evidence}
-use Rattle.spv_operation_evidence.specs.declared.asked.Asked.{Asked}
+use Rattle.spv_conditions.specs.declared.asked.Asked.{Asked}
 use Rattle.spv_evidence.specs.declared.values.Value.{Value}
 use Rattle.spv_evidence.specs.Values.{types_in}
-use Rattle.spv_operation_evidence.specs.Condition.{FailsFirst}
-use Rattle.spv_operation_evidence.specs.Conditions.{conditions_of}
+use Rattle.spv_conditions.specs.Condition.{FailsFirst}
+use Rattle.spv_conditions.proofs.lemmas.Listing.{not_all}
 use Rattle.spv_operation_evidence.specs.Evidence.{Shows, IsEvidence, HoldsAt}
-use Rattle.spv_operation_evidence.proofs.lemmas.Conditioned.{row_conditions}
 
 values_same : (G : Table) (i : PlainInst) (xs ys : List ℕ) → AreValues G i xs → AreValues G i ys → xs ≡ ys
 values_same G i xs ys a b =
@@ -35,18 +33,10 @@ types_broken G is n i xs us a t never h =
     let same : h.1 ≡ us = cc in
     never (subst (λ ts. Typed is n i ts) same h.4)
 
--- a condition that fails
-among : (P : Asked → Type 0) (before after : List Asked) (a : Asked) → AllByRecursion P (before ++ a ∷ after) → P a
-among P [] after a h = h.0
-among P (b ∷ before) after a h = among P before after a h.1
-
-first_breaks : (is : List PlainInst) (n : ℕ) (i : PlainInst) (vs : List Value) (a : Asked) → FailsFirst (HoldsAt is n i vs) (conditions_of (row_of i.opcode) (length vs)) a → ¬ (Typed is n i (types_in vs))
+first_breaks : (is : List PlainInst) (n : ℕ) (i : PlainInst) (vs : List Value) (a : Asked) → FailsFirst (HoldsAt is n i vs) (conditions_of i.opcode (length vs)) a → ¬ (Typed is n i (types_in vs))
 first_breaks is n i vs a f h =
-    let all = row_conditions is n i (row_of i.opcode) (result_type_in i.operands) (types_in vs) h in
-    let here : AllByRecursion (HoldsAt is n i vs) (conditions_of (row_of i.opcode) (length vs)) =
-    subst (λ m. AllByRecursion (HoldsAt is n i vs) (conditions_of (row_of i.opcode) m)) (length-map vs (λ (v : Value). v.of)) all
-    in
-    f.fails (among (HoldsAt is n i vs) f.before f.after a (subst (AllByRecursion (HoldsAt is n i vs)) f.all here))
+    not_all (HoldsAt is n i vs) (conditions_of i.opcode (length vs)) a f
+    (subst (λ m. AllByRecursion (HoldsAt is n i vs) (conditions_of i.opcode m)) (length-map vs (λ (v : Value). v.of)) h)
 
 shows_broken : (G : Table) (is : List PlainInst) (n : ℕ) (i : PlainInst) (r : Rule) (e : Evidence) → Shows G is n i r e → Keeps (IsTyped G is) is r n i → ⊥
 shows_broken G is n i _ _ (Shows.operation vs a m bound t f by) (inl free) = bound free

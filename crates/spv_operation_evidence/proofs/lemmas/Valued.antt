@@ -20,17 +20,16 @@ use Rattle.spv_type_forms.specs.Operands.{result_type_in}
 use Rattle.spv_ops.specs.Typed.{IsTyped}
 use Rattle.spv_type_forms.specs.Values.{types_of, value_in, used_in}
 use Rattle.spv_evidence.specs.declared.evidence.Evidence.TheVariants as evidence
-use Rattle.spv_ops.specs.Row.{row_of}
-use Rattle.spv_operation_evidence.specs.declared.asked.Asked.{Asked}
+use Rattle.spv_ops.specs.Table.{asks_of, conditions_of}
+use Rattle.spv_conditions.specs.declared.asked.Asked.{Asked}
+use Rattle.spv_conditions.specs.declared.asked.Asks.{Asks}
 use Rattle.spv_evidence.specs.declared.values.Value.{Value}
 use Rattle.spv_evidence.specs.Named.{IsDefinedBy}
 use Rattle.spv_evidence.specs.Values.{types_in}
 use Rattle.spv_operation_evidence.specs.Beside.{condition_in, operand_in, wanted_in, found_in, read_in}
-use Rattle.spv_operation_evidence.specs.Condition.{FailsFirst}
-use Rattle.spv_operation_evidence.specs.Conditions.{conditions_of}
-use Rattle.spv_operation_evidence.specs.inner.Failing.{HoldsOf}
-use Rattle.spv_operation_evidence.proofs.lemmas.Conditioned.{conditions_row}
-use Rattle.spv_operation_evidence.specs.Evidence.{AreTyped, Shows}
+use Rattle.spv_conditions.specs.Condition.{FailsFirst}
+use Rattle.spv_conditions.specs.Asks.{HoldsOf, conditions_in}
+use Rattle.spv_operation_evidence.specs.Evidence.{AreTyped, HoldsAt, Shows}
 use Rattle.spv_operation_evidence.specs.inner.Values.{is_value, IsValueAt, IsTypeable, AreSoFar}
 
 -- The form of an operand.
@@ -205,18 +204,15 @@ value_typed G is i k x t l told none =
 
 -- The conditions of the values.
 
-pub all_break : (G : Table) (is : List PlainInst) (n : ℕ) (i : PlainInst) (r : Option ℕ) (vs : List Value) (qs : List Asked) → r ≡ result_type_in i.operands → qs ≡ conditions_of (row_of i.opcode) (length vs) → AreTyped G is i vs
-    → AllByRecursion (HoldsOf is n i r vs) qs → IsTyped G is n i
-all_break G is n i r vs qs e f a h =
-    let s = result_type_in i.operands in
-    let all : AllByRecursion (HoldsOf is n i s vs) (conditions_of (row_of i.opcode) (length vs)) = rw (← e, ← f) h in
-    let count = length-map vs (λ (v : Value). v.of) in
-    let there = subst (λ m. AllByRecursion (HoldsOf is n i s vs) (conditions_of (row_of i.opcode) m)) (sym count) all in
-    inr (map (λ (w : Value). w.id) vs, types_in vs, a.values, a.types, conditions_row is n i (row_of i.opcode) s (types_in vs) there)
+pub all_break : (G : Table) (is : List PlainInst) (n : ℕ) (i : PlainInst) (r : Option ℕ) (vs : List Value) (ts : List ℕ) (line : List Asks) → r ≡ result_type_in i.operands → ts ≡ types_in vs → line ≡ asks_of i.opcode → AreTyped G is i vs
+    → AllByRecursion (HoldsOf is n i r ts) (conditions_in line (length ts)) → IsTyped G is n i
+all_break G is n i r vs ts line e f g a h = inr (map (λ (w : Value). w.id) vs, types_in vs, a.values, a.types, rw (e, f, g) at h)
 
-pub operation_shows : (G : Table) (is : List PlainInst) (n : ℕ) (i : PlainInst) (r : Option ℕ) (vs : List Value) (qs : List Asked) (a : Asked) (m : Option ℕ) → r ≡ result_type_in i.operands → qs ≡ conditions_of (row_of i.opcode) (length vs)
-    → AreTyped G is i vs → FailsFirst (HoldsOf is n i r vs) qs a → IsDefinedBy is i (operand_in is i vs a) m → ¬ (IsTyped G is n i)
-    → Shows G is n i Y5 (evidence.Condition (condition_in a) (operand_in is i vs a) m (wanted_in is i r (types_in vs) a) (found_in is i r (types_in vs) a) (read_in is i r (types_in vs) a))
-operation_shows G is n i r vs qs a m e f t first by never =
-    let at : FailsFirst (HoldsOf is n i (result_type_in i.operands) vs) (conditions_of (row_of i.opcode) (length vs)) a = rw (← e, ← f) first in
-    rw e (Shows.operation vs a m (λ free. never (inl free)) t at by)
+pub operation_shows : (G : Table) (is : List PlainInst) (n : ℕ) (i : PlainInst) (r : Option ℕ) (vs : List Value) (ts : List ℕ) (line : List Asks) (a : Asked) (m : Option ℕ)
+    → r ≡ result_type_in i.operands → ts ≡ types_in vs → line ≡ asks_of i.opcode → AreTyped G is i vs → FailsFirst (HoldsOf is n i r ts) (conditions_in line (length ts)) a
+    → IsDefinedBy is i (operand_in is i vs a) m → ¬ (IsTyped G is n i)
+    → Shows G is n i Y5 (evidence.Condition (condition_in a) (operand_in is i vs a) m (wanted_in is i r ts a) (found_in is i r ts a) (read_in is i r ts a))
+operation_shows G is n i r vs ts line a m e f g t first by never =
+    let there : FailsFirst (HoldsAt is n i vs) (conditions_of i.opcode (length (types_in vs))) a = rw (e, f, g) at first in
+    let at = subst (λ k. FailsFirst (HoldsAt is n i vs) (conditions_of i.opcode k) a) (length-map vs (λ (v : Value). v.of)) there in
+    rw (e, f) (Shows.operation vs a m (λ free. never (inl free)) t at by)

@@ -1,24 +1,24 @@
--- The rows that most instructions have. (For the code alone.)
+-- The lines of the table that most instructions have. (For the code alone.)
 use Rattle.std.specs.Prelude.{◌≡◌, ℕ, List, [], ◌∷◌, Option, Some, None}
 use Rattle.spv_module.specs.Operand.{Plain, OfType, Result, Id, Mask, PlainInst}
-use Rattle.spv_type_forms.specs.Types.{IsBool}
+use Rattle.spv_type_forms.specs.declared.form.Sort.{Sort}
+use Rattle.spv_type_forms.specs.Types.{HasSort, IsBool, IsData, PointsTo}
 use Rattle.spv_ops.specs.declared.common.Binary.{Binary as Ids}
 use Rattle.spv_ops.specs.declared.common.Two.{Two}
-use Rattle.spv_ops.specs.declared.common.Common.{Common}
-use Rattle.spv_ops.specs.declared.common.Common.TheVariants.{Binary, Load, Store, BranchConditional, Free, Other}
-use Rattle.spv_ops.specs.declared.row.Row.{Row}
-use Rattle.spv_ops.specs.declared.row.Row.TheVariants as row
-use Rattle.spv_ops.specs.declared.row.Calculation.TheVariants as calculation
-use Rattle.spv_ops.specs.declared.row.Access.TheVariants as access
 
--- the row is this one; of another nothing is said
-abbrev pub IsCommon : Common → Row → Type 0
-IsCommon (Binary s) r = r ≡ row.Calculation (calculation.Binary s)
-IsCommon Load r = r ≡ row.Access access.Load
-IsCommon Store r = r ≡ row.Access access.Store
-IsCommon BranchConditional r = r ≡ row.BranchConditional
-IsCommon Free r = r ≡ row.Free
-IsCommon Other r = Unit {0}
+-- two types are r, which is ints, floats or bools; a pointer to r, which is a data type; a pointer and what it points
+-- to
+abbrev pub Combines : List PlainInst → Sort → ℕ → List ℕ → Type 0
+Combines is s r (o ∷ p ∷ []) = (o ≡ r) × (p ≡ r) × HasSort s is r
+Combines is s r types = ⊥
+
+abbrev pub Loads : List PlainInst → ℕ → List ℕ → Type 0
+Loads is r (o ∷ []) = PointsTo is o r × IsData is r
+Loads is r types = ⊥
+
+abbrev pub Stores : List PlainInst → List ℕ → Type 0
+Stores is (o ∷ p ∷ []) = PointsTo is o p
+Stores is types = ⊥
 
 -- the types are that of a condition alone
 abbrev pub IsCondition : List PlainInst → List ℕ → Type 0

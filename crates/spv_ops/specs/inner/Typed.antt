@@ -1,10 +1,19 @@
 -- *Typed* by the places where the code looks for value operands. (For the code alone.)
-use Rattle.std.specs.Prelude.{ℕ, List, IsSomeAnd}
-use Rattle.spv_module.specs.Operand.{PlainInst}
+use Rattle.std.specs.Prelude.{ℕ, List, Option, IsSomeAnd, length}
+use Rattle.std.specs.List.{AllByRecursion}
+use Rattle.spv_module.specs.Operand.{Plain, PlainInst}
 use Rattle.spv_type_forms.specs.Values.{types_of}
-use Rattle.spv_ops.specs.Values.{values_of}
+use Rattle.spv_conditions.specs.declared.asked.Asks.{Asks}
+use Rattle.spv_conditions.specs.Asks.{HoldsOf, conditions_in}
+use Rattle.spv_ops.specs.declared.table.Places.{Places}
+use Rattle.spv_ops.specs.Values.{value_ids, values_of}
 use Rattle.spv_ops.specs.Typed.{Typed}
 
 -- *Typed* of the declared types of the ids that stand where the code looks for them.
 abbrev pub IsTypedIn : List PlainInst → ℕ → PlainInst → Type 0
 IsTypedIn is n i = IsSomeAnd (types_of is (values_of i)) (λ types. Typed is n i types)
+
+-- The same, by a line, a result type, and what follows the result.
+abbrev pub IsTypedBy : List PlainInst → ℕ → PlainInst → Places → List Asks → Option ℕ → List Plain → Type 0
+IsTypedBy is n i places line r os = IsSomeAnd (types_of is (value_ids places os))
+    (λ types. AllByRecursion (HoldsOf is n i r types) (conditions_in line (length types)))

@@ -9,7 +9,7 @@ use Rattle.spv_type_forms.specs.Parts.{part_of, count_of}
 use Rattle.spv_type_forms.specs.Types.{IsBool, IsNumber, IsData}
 use Rattle.spv_type_rules.specs.declared.constant.Constant.{Constant}
 use Rattle.spv_type_rules.specs.declared.constant.Constant.TheVariants as kind
-use Rattle.spv_evidence.specs.declared.condition.Kind.TheVariants as sort
+use Rattle.spv_conditions.specs.declared.condition.Kind.TheVariants as sort
 use Rattle.spv_evidence.specs.declared.condition.Condition.{Condition}
 use Rattle.spv_evidence.specs.declared.condition.Condition.TheVariants as condition
 use Rattle.spv_evidence.specs.Named.{named_at}

@@ -8,7 +8,7 @@ use Rattle.spv_type_forms.specs.declared.form.Scalar.{Scalar}
 use Rattle.spv_type_rules.specs.declared.declaration.Declaration.{Declaration}
 use Rattle.spv_type_rules.specs.declared.declaration.Declaration.TheVariants as kind
 use Rattle.spv_type_rules.specs.Declaration.{IsLength, IsPointerAfter, declaration_of}
-use Rattle.spv_evidence.specs.declared.condition.Kind.TheVariants.{Data}
+use Rattle.spv_conditions.specs.declared.condition.Kind.TheVariants.{Data}
 use Rattle.spv_evidence.specs.declared.condition.Condition.{Condition}
 use Rattle.spv_evidence.specs.declared.condition.Condition.TheVariants as condition
 use Rattle.spv_type_rules.specs.Asked.{IsIntWidth, IsFloatWidth, IsVectorCount, IsPointee, IsReturned}

@@ -45,6 +45,7 @@ use Rattle.spv_capabilities.specs.inner.Entry.{IsSoundLinkage}
 use Rattle.spv_capabilities.specs.Example.{enumerant}
 use Rattle.spv_capabilities.specs.Keeps as capability_rules
 use Rattle.spv_capabilities.specs.Memory.{IsModel}
+use Rattle.spv_ops.specs.Table.{lines}
 use Rattle.spv_ops.specs.Typed.{IsTyped}
 use Rattle.spv_type_rules.specs.inner.Constant.{IsSoundConstant}
 use Rattle.spv_type_rules.specs.inner.Declaration.{IsSoundDeclaration}
@@ -507,6 +508,7 @@ sound_return : IsSoundReturn kernel 8
 sound_return = (6, in_function 8 (omega arith) (omega arith), refl)
 
 pub types_kept : (r : Rule) (n : ℕ) (i : PlainInst) → slice_get kernel n ≡ Some i → type_rules.Keeps (IsTyped grammar kernel) kernel r n i
+unfolding lines
 types_kept rule.Y2 n i e = each (λ m (j : PlainInst). IsSoundDeclaration kernel m j) kernel (tt, (tt, (tt, (tt, (tt, ((inr refl, tt), (tt, (tt, (tt, (tt, tt)))))))))) n i e
 types_kept rule.Y3 n i e = not_repeated n i e
 types_kept rule.Y4 n i e = each (λ m (j : PlainInst). IsSoundConstant kernel j) kernel nowhere n i e

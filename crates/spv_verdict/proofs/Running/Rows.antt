@@ -1,5 +1,5 @@
 -- What the rows of types say of phis, calls and returns.
-use Rattle.std.proofs.Common.{◌≡◌, ◌∙◌, inl, inr, ℕ, suc, List, [], ◌∷◌, map, true, nat_eq, if◌then◌else◌, Option, Some, None, refl, sym, ap, slice_get}
+use Rattle.std.proofs.Common.{◌≡◌, ◌∙◌, inl, inr, ℕ, suc, List, [], ◌∷◌, map, true, nat_eq, if◌then◌else◌, Option, Some, None, refl, sym, ap, subst, slice_get, length}
 use Rattle.std.specs.Prelude.{IsSomeAnd}
 use Rattle.std.specs.List.{AllByRecursion}
 use Rattle.std.proofs.lemmas.Bool.{cases_Bool, eqb-true}
@@ -9,7 +9,13 @@ use Rattle.spv_module.specs.Operand.{Plain, PlainInst, Id, result_in, type_in}
 use Rattle.spv_module.specs.Width.{has_result, or_else, definition_of}
 use Rattle.spv_layout.specs.Shape.{FitsShape}
 use Rattle.spv_type_forms.specs.Types.{IsData}
+use Rattle.spv_type_forms.specs.Operands.{result_type_in}
+use Rattle.spv_conditions.specs.declared.asked.Asks.{Asks}
+use Rattle.spv_conditions.specs.Asks.{HoldsOf, conditions_in}
+use Rattle.spv_ops.specs.Table.{lines, asks_of}
 use Rattle.spv_ops.specs.Typed.{Typed}
+use Rattle.spv_ops.proofs.Parts.{phi_told}
+use Rattle.spv_ops.proofs.Pointing.{phi_line}
 use Rattle.spv_type_rules.specs.Function.{signature_of, CallsTyped, ReturnsNothing, ReturnsTyped}
 use Rattle.spv_verdict.specs.run.Act.{Act, Function, Phi, Pair, act_of}
 use Rattle.spv_verdict.specs.run.At.{type_at}
@@ -33,19 +39,25 @@ pub record PhiTyped (is : List PlainInst) (i : PlainInst) (tags : List ℕ) : Ty
   pub each : AllByRecursion (λ t. t ≡ of_type) tags
 
 phi_view : (G : Table) (is : List PlainInst) (n : ℕ) (i : PlainInst) (a : Act) (ps : List Pair) (tags : List ℕ) → View G i a → a ≡ Phi ps → Typed is n i tags → PhiTyped is i tags
+unfolding lines
 phi_view G is n i _ ps tags (View.phi t b os gs e same en each) q h =
-    let h' = rw (e, same) at h in
-    record { of_type = t; result = ap type_in same; data_type = h'.0; each = h'.1 }
+    let there : AllByRecursion (HoldsOf is n i (Some t) tags) (conditions_in phi_line (length tags)) = subst (λ r. AllByRecursion (HoldsOf is n i r tags) (conditions_in phi_line (length tags))) (ap result_type_in same)
+    (subst (λ (line : List Asks). AllByRecursion (HoldsOf is n i (result_type_in i.operands) tags) (conditions_in line (length tags))) (ap asks_of e) h) in
+    let told = (phi_told is n i t tags).1 there in
+    record { of_type = t; result = ap type_in same; data_type = told.0; each = told.1 }
 phi_view G is n i _ ps tags _ q h = cc
 
 pub phi_typed : (G : Table) (is : List PlainInst) (n : ℕ) (i : PlainInst) (ps : List Pair) (tags : List ℕ) → FitsShape G i → act_of i ≡ Phi ps → Typed is n i tags → PhiTyped is i tags
 phi_typed G is n i ps tags fits k h = phi_view G is n i (act_of i) ps tags (view G i fits) k h
 
 typed_view : (G : Table) (is : List PlainInst) (n : ℕ) (i : PlainInst) (a : Act) (ps : List Pair) (tags : List ℕ) → View G i a → a ≡ Phi ps → PhiTyped is i tags → Typed is n i tags
+unfolding lines
 typed_view G is n i _ ps tags (View.phi t b os gs e same en each) q h =
     let one : Some t ≡ Some h.of_type = sym (ap type_in same) ∙ h.result in
-    let typed : t ≡ h.of_type = cc in
-    rw (e, same, typed) (h.data_type, h.each)
+    let typed : h.of_type ≡ t = cc in
+    let there = (phi_told is n i t tags).0 (subst (λ r. IsData is r × AllByRecursion (λ u. u ≡ r) tags) typed (h.data_type, h.each)) in
+    subst (λ (line : List Asks). AllByRecursion (HoldsOf is n i (result_type_in i.operands) tags) (conditions_in line (length tags))) (sym (ap asks_of e))
+    (subst (λ r. AllByRecursion (HoldsOf is n i r tags) (conditions_in phi_line (length tags))) (sym (ap result_type_in same)) there)
 typed_view G is n i _ ps tags _ q h = cc
 
 pub typed_phi : (G : Table) (is : List PlainInst) (n : ℕ) (i : PlainInst) (ps : List Pair) (tags : List ℕ) → FitsShape G i → act_of i ≡ Phi ps → PhiTyped is i tags → Typed is n i tags

@@ -13,6 +13,7 @@ use Rattle.spv_layout.specs.Place.{IsDefinition}
 use Rattle.spv_type_forms.specs.Operands.{ids_in}
 use Rattle.spv_type_forms.specs.Values.{types_of, paired_ids_in}
 use Rattle.spv_ops.specs.Values as rows
+use Rattle.spv_ops.specs.Table.{lines}
 use Rattle.spv_ops.specs.Typed as operations
 use Rattle.spv_ops.specs.Typed.{Typed}
 use Rattle.spv_ops.specs.inner.Typed.{IsTypedIn}
@@ -99,6 +100,7 @@ value_typed G is fits laid f n i x o same h =
     }
 
 typed_view : (G : Table) (is : List PlainInst) → AllFit G is → IsLaidOut is → AreTyped G is → (f n : ℕ) (i : PlainInst) (a : Act) → IsOf is f n → slice_get is n ≡ Some i → View G i a → TypedHere is f n i a
+unfolding lines
 typed_view G is fits laid typed f n i _ o at (View.function a b k' m s e os) = record { tags = []; types = tt; row = tt }
 typed_view G is fits laid typed f n i _ o at (View.parameter a b e os) = record { tags = []; types = tt; row = tt }
 typed_view G is fits laid typed f n i _ o at (View.function_end e os) = record { tags = []; types = tt; row = tt }

@@ -16,10 +16,10 @@ use Rattle.spv_layout.specs.inner.Row.{v, l, f, T, R, N}
 use Rattle.spv_layout.specs.Rows.{row_of}
 use Rattle.spv_layout.specs.Shape.{is_of, AreOf, Ends, FitsShape, role_of, id_of, IsUse}
 use Rattle.spv_ids.specs.Definition.{IsUsedAt}
-use Rattle.spv_ops.specs.declared.row.Row.{Row}
-use Rattle.spv_ops.specs.declared.row.Row.TheVariants as types_row
-use Rattle.spv_ops.specs.Row.{row_of as types_row_of}
+use Rattle.spv_ops.specs.declared.table.Places.TheVariants as places
+use Rattle.spv_ops.specs.Table.{places_of}
 use Rattle.spv_ops.specs.Values.{values_of as rows_values_of}
+use Rattle.spv_ops.proofs.Judged.{free_or}
 use Rattle.spv_ops.proofs.ValuePlaces.{values_agree}
 use Rattle.spv_verdict.specs.run.Row.{values_of}
 use Rattle.spv_type_forms.specs.Operands.{ids_in}
@@ -343,25 +343,11 @@ no_any G i ps k x e u =
 
 -- Values.
 
-free_or : (r : Row) → (r ≡ types_row.Free) ⊎ (r ≢ types_row.Free)
-free_or types_row.Free = inl refl
-free_or types_row.Undef = inr (λ e. cc)
-free_or types_row.Variable = inr (λ e. cc)
-free_or types_row.Phi = inr (λ e. cc)
-free_or types_row.BranchConditional = inr (λ e. cc)
-free_or types_row.Switch = inr (λ e. cc)
-free_or (types_row.Calculation c) = inr (λ e. cc)
-free_or (types_row.Access c) = inr (λ e. cc)
-free_or (types_row.Composite c) = inr (λ e. cc)
-free_or types_row.Construct = inr (λ e. cc)
-free_or types_row.Chain = inr (λ e. cc)
-free_or types_row.ElementChain = inr (λ e. cc)
-
-free_values : (i : PlainInst) → types_row_of i.opcode ≡ types_row.Free → rows_values_of i ≡ []
+free_values : (i : PlainInst) → places_of i.opcode ≡ places.Free → rows_values_of i ≡ []
 free_values i e = rw e refl
 
 other_use : (G : Table) (i : PlainInst) (x : ℕ) → (h : FitsShape G i) → Contains (rows_values_of i) x → HasUse role.Value x h.forms i.operands
-other_use G i x h c = elim (free_or (types_row_of i.opcode)) [
+other_use G i x h c = elim (free_or (places_of i.opcode)) [
   | inl e ↦ (let c' : Contains [] x = subst (λ xs. Contains xs x) (free_values i e) c in absurd (none_among x [] c'))
   | inr ne ↦ used_use h.forms i.operands x (subst (λ xs. Contains xs x) (sym (values_agree G i h.forms h.has ne)) c)
 ]

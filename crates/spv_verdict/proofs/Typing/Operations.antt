@@ -10,9 +10,9 @@ use Rattle.spv_module.specs.declared.fault.Rule.TheVariants as rule
 use Rattle.spv_layout.specs.First.{rank_of}
 use Rattle.spv_layout.specs.Shape.{FitsShape}
 use Rattle.spv_type_forms.proofs.Opcodes.{both, all_from, one_from}
-use Rattle.spv_ops.specs.declared.row.Row.{Row}
-use Rattle.spv_ops.specs.declared.row.Row.TheVariants as row
-use Rattle.spv_ops.specs.Row.{row_of}
+use Rattle.spv_ops.specs.declared.table.Places.{Places}
+use Rattle.spv_ops.specs.declared.table.Places.TheVariants as places
+use Rattle.spv_ops.specs.Table.{lines, places_of}
 use Rattle.spv_ops.specs.Typed.{IsTyped, IsTypedAt}
 use Rattle.spv_ops.specs.inner.Typed.{IsTypedIn}
 use Rattle.spv_ops.proofs.Judged.{told}
@@ -31,35 +31,35 @@ use Rattle.spv_type_rules.proofs.Firsts.{all_kept}
 use Rattle.spv_type_rules.proofs.Repeating.{not_once}
 use Rattle.spv_verdict.specs.inner.Pass.{IsFirstTypeHere}
 
--- An opcode that is not that of an operation has no row.
+-- No line of the table of types speaks of an opcode that is not that of an operation.
 
-abbrev is_free : Row → Bool
-is_free row.Free = true
+abbrev is_free : Places → Bool
+is_free places.Free = true
 is_free _ = false
 
-free : (r : Row) → is_free r ≡ true → r ≡ row.Free
-free row.Free h = refl
+free : (r : Places) → is_free r ≡ true → r ≡ places.Free
+free places.Free h = refl
 free r h = cc
 
 abbrev is_known : ℕ → Bool
-is_known n = is_operation n || is_free (row_of n)
+is_known n = is_operation n || is_free (places_of n)
 
 all_known : all_from is_known 0 count ≡ true
-unfolding count
+unfolding count lines
 all_known = refl
 
 left_of : (a b : Bool) → a || b ≡ true → a ≡ false → b ≡ true
 left_of true b h e = cc
 left_of false b h e = h
 
-no_row : (n : ℕ) → is_operation n ≡ false → row_of n ≡ row.Free
-no_row n e = elim (cases_lt n count) [
-  | inl h ↦ free (row_of n) (left_of (is_operation n) (is_free (row_of n)) (one_from is_known count 0 n all_known (omega arith) (omega arith)) e)
+no_line : (n : ℕ) → is_operation n ≡ false → places_of n ≡ places.Free
+no_line n e = elim (cases_lt n count) [
+  | inl h ↦ free (places_of n) (left_of (is_operation n) (is_free (places_of n)) (one_from is_known count 0 n all_known (omega arith) (omega arith)) e)
   | inr h ↦ late_row n h
 ]
 
 untyped_kept : (G : Table) (is : List PlainInst) (n : ℕ) (i : PlainInst) → is_operation i.opcode ≡ false → IsTyped G is n i
-untyped_kept G is n i e = inl (no_row i.opcode e)
+untyped_kept G is n i e = inl (no_line i.opcode e)
 
 -- What the code looks at is Y5.
 

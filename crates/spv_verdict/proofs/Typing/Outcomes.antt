@@ -19,6 +19,7 @@ use Rattle.spv_type_rules.proofs.lemmas.roles.Worked.{played}
 use Rattle.spv_capabilities.specs.Capable.{Has}
 use Rattle.spv_capabilities.specs.Keeps as capabilities
 use Rattle.spv_capabilities.proofs.Firsts as capable
+use Rattle.spv_ops.specs.Table.{lines}
 use Rattle.spv_ops.specs.Typed.{IsTyped}
 use Rattle.spv_type_rules.specs.Keeps as rules
 use Rattle.spv_type_rules.specs.Repeat.{Repeats}
@@ -82,6 +83,7 @@ first_alone : ¬ (Repeats numbers 0 int)
 first_alone r = let l = r.earlier in absurd (omega (arith, l))
 
 int_typed : (r : Rule) → rules.Keeps (IsTyped table numbers) numbers r 0 int
+unfolding lines
 int_typed r =
     all_typed table numbers 0 int (inr (inr (inl refl)), refl) first_alone tt (inl refl)
     (record { function = λ e. absurd (omega (arith, e)); parameter = λ e. absurd (omega (arith, e)) })
@@ -93,6 +95,7 @@ no_type : (n : ℕ) → ¬ (Repeats numbers n seven)
 no_type n r = let no : false ≡ true = r.once in cc
 
 seven_typed : (r : Rule) (n : ℕ) → rules.Keeps (IsTyped table numbers) numbers r n seven
+unfolding lines
 seven_typed r n =
     all_typed table numbers n seven tt (no_type n) (32, inl refl, λ l. absurd (omega (arith, l))) (inl refl)
     (record { function = λ e. absurd (omega (arith, e)); parameter = λ e. absurd (omega (arith, e)) })

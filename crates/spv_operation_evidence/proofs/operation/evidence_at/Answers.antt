@@ -1,14 +1,10 @@
-use Rattle.std.proofs.Common.{◌≡◌, ◌∙◌, ap, length}
-use Rattle.std.specs.List.{AllByRecursion}
+use Rattle.std.proofs.Common.{◌≡◌, ◌∙◌, ap}
 use Rattle.spv_module.specs.Module.{plain_inst, plain_operands}
 use Rattle.spv_type_forms.specs.Operands.{result_type_in}
-use Rattle.spv_ops.specs.Row.{row_of}
-use Rattle.spv_operation_evidence.specs.Condition.{FailsFirst}
-use Rattle.spv_operation_evidence.specs.Conditions.{conditions_of}
 use Rattle.spv_evidence.specs.Named.{IsDefinedBy}
+use Rattle.spv_evidence.specs.Values.{types_in}
 use Rattle.spv_operation_evidence.specs.Beside.{operand_in}
 use Rattle.spv_operation_evidence.specs.Evidence.{AreTyped}
-use Rattle.spv_operation_evidence.specs.inner.Failing.{HoldsOf}
 use Rattle.spv_operation_evidence.proofs.lemmas.Valued.{all_break, operation_shows}
 use Rattle.spv_operation_evidence.proofs.operation.evidence_at.Goals as goal
 
@@ -19,10 +15,9 @@ unreachable-requires c =
     let b = c.requires.broken in
     let vs = c.as_slice-values.result.now in
     let r : c.result_type-r.result ≡ result_type_in i.operands = c.result_type-r.ensures ∙ ap (λ os. result_type_in (plain_operands os)) c.as_slice.ensures.value in
-    let q : c.in_ok-conditions.conditions.items ≡ conditions_of (row_of i.opcode) (length vs) = c.in_ok-conditions.ensures ∙ ap (λ o. conditions_of o (length vs)) c.row_of.ensures in
     let t : AreTyped b.0 is i vs = rw c.as_slice-values.ensures.value (c.in_ok-typed.ensures.typed b.0 b.1) in
-    let all : AllByRecursion (HoldsOf is c.args.number i c.result_type-r.result vs) c.in_ok-conditions.conditions.items = rw c.as_slice-2.ensures.value at c.in_default.ensures in
-    b.2 (all_break b.0 is c.args.number i c.result_type-r.result vs c.in_ok-conditions.conditions.items r q t all)
+    let ts : c.as_slice-types.result.now ≡ types_in vs = c.as_slice-types.ensures.value ∙ c.in_ok-declared.ensures in
+    b.2 (all_break b.0 is c.args.number i c.result_type-r.result vs c.as_slice-types.result.now c.asks_of-line.result.now r ts c.asks_of-line.ensures t c.in_default.ensures)
 
 pub returns : goal.returns
 returns c = λ G fits never.
@@ -31,9 +26,8 @@ returns c = λ G fits never.
     let vs = c.as_slice-values.result.now in
     let a = c.in-Some.asked in
     let r : c.result_type-r.result ≡ result_type_in i.operands = c.result_type-r.ensures ∙ ap (λ os. result_type_in (plain_operands os)) c.as_slice.ensures.value in
-    let q : c.in_ok-conditions.conditions.items ≡ conditions_of (row_of i.opcode) (length vs) = c.in_ok-conditions.ensures ∙ ap (λ o. conditions_of o (length vs)) c.row_of.ensures in
     let t : AreTyped G is i vs = rw c.as_slice-values.ensures.value (c.in_ok-typed.ensures.typed G fits) in
-    let first : FailsFirst (HoldsOf is c.args.number i c.result_type-r.result vs) c.in_ok-conditions.conditions.items a = rw c.as_slice-2.ensures.value at c.in-Some.ensures in
+    let ts : c.as_slice-types.result.now ≡ types_in vs = c.as_slice-types.ensures.value ∙ c.in_ok-declared.ensures in
     let by : IsDefinedBy is i (operand_in is i vs a) c.defined_by.result = rw c.operand_in-operand.ensures at c.defined_by.ensures is c.requires.ids in
-    rw (c.operand_in-operand.ensures, c.condition_in.ensures, c.wanted_in.ensures, c.found_in.ensures, c.from_vec.ensures, c.in_ok-types.ensures)
-    (operation_shows G is c.args.number i c.result_type-r.result vs c.in_ok-conditions.conditions.items a c.defined_by.result r q t first by never)
+    rw (c.operand_in-operand.ensures, c.condition_in.ensures, c.wanted_in.ensures, c.found_in.ensures, c.from_vec.ensures, c.in_ok-read.ensures)
+    (operation_shows G is c.args.number i c.result_type-r.result vs c.as_slice-types.result.now c.asks_of-line.result.now a c.defined_by.result r ts c.asks_of-line.ensures t c.in-Some.ensures by never)

@@ -1,0 +1,6 @@
+pub mod Fronts
+pub mod Stopping
+pub mod Paths
+pub mod Places
+pub mod Shares
+pub mod Listing

@@ -1,0 +1,10 @@
+pub mod Values
+pub mod Condition
+pub mod Chain
+pub mod Stops
+pub mod Path
+pub mod Variable
+pub mod Rest
+pub mod Asks
+pub mod Example
+pub mod inner

@@ -1,0 +1,94 @@
+//! Worked examples. Each function does nothing: its contract is what is proved.
+
+ghost use Rattle.std.specs.Prelude.{◌≡◌, [], ◌∷◌, Some, None, IsSome, true, false};
+ghost use Rattle.spv_module.specs.Operand.{Value, Word};
+ghost use Rattle.spv_type_forms.specs.Example.{small, lone_variable};
+ghost use Rattle.spv_conditions.specs.declared.asked.Asked.TheVariants as asked;
+ghost use Rattle.spv_conditions.specs.declared.asked.Asks.TheVariants as asks;
+ghost use Rattle.spv_conditions.specs.declared.asked.Each.TheVariants as each;
+ghost use Rattle.spv_conditions.specs.declared.asked.Rest.TheVariants as rest;
+ghost use Rattle.spv_conditions.specs.declared.condition.Kind.TheVariants.{Ints, Composite, Int, Data};
+ghost use Rattle.spv_conditions.specs.declared.condition.Relation.TheVariants.{OtherWidth, Same, SameClass, SameCount};
+ghost use Rattle.spv_conditions.specs.declared.condition.Relation.TheVariants.{SameComponent};
+ghost use Rattle.spv_conditions.specs.declared.seat.Seat.TheVariants as seat;
+ghost use Rattle.spv_conditions.specs.Asks.{conditions_in};
+ghost use Rattle.spv_conditions.specs.Chain.{led_by, led_to};
+ghost use Rattle.spv_conditions.specs.Condition.{Agrees, FailsFirst, Holds, IsNamedClass, IsOf};
+ghost use Rattle.spv_conditions.specs.Example.{no_weight, one_weight};
+ghost use Rattle.spv_conditions.specs.Path.{reached_by, stop_at};
+ghost use Rattle.spv_conditions.specs.Rest.{RestHolds, IsComponent, IsShare};
+ghost use Rattle.spv_conditions.specs.Variable.{HasClass, MayHave, MayInitialize};
+
+/// Conditions of types of the module of `type_examples` of spv_type_forms that hold, and some that do not: `%1` and
+/// `%14` are ints of width 32 and 64, `%2` a float, `%3` and `%15` vectors of four and two of `%1`, `%13` of four
+/// bools; `%6` a struct of `%1` and `%2`; `%4` and `%7` pointers of CrossWorkgroup to `%2` and `%6`, `%16` of Generic to
+/// `%2`.
+pub fn condition_examples()
+    ensures kind { IsOf small Ints 3 }
+    ensures no_kind { ¬ (IsOf small Ints 2) }
+    ensures count { Agrees small SameCount 1 14 }
+    ensures no_count { ¬ (Agrees small SameCount 1 3) }
+    ensures width { Agrees small OtherWidth 1 14 }
+    ensures no_width { ¬ (Agrees small OtherWidth 1 1) }
+    ensures class { Agrees small SameClass 4 7 }
+    ensures no_class { ¬ (Agrees small SameClass 4 16) }
+    ensures named { IsNamedClass 5 }
+    ensures generic { ¬ (IsNamedClass 8) }
+    // Of an int and a float the first that is no int.
+    ensures first { FailsFirst (Holds small (λ q. ⊥) None (1 ∷ 2 ∷ []))
+        (asked.Kind Int (seat.Value 0) ∷ asked.Kind Int (seat.Value 1) ∷ []) (asked.Kind Int (seat.Value 1)) }
+    ensures not_first { ¬ (FailsFirst (Holds small (λ q. ⊥) None (1 ∷ 2 ∷ []))
+        (asked.Kind Int (seat.Value 0) ∷ []) (asked.Kind Int (seat.Value 0))) }
+    // Of two values, and of one.
+    ensures each { conditions_in (asks.Each each.Same ∷ asks.Once (asked.Kind Data seat.Result) ∷ []) 2
+        ≡ asked.Relation Same (seat.Value 0) seat.Result ∷ asked.Relation Same (seat.Value 1) seat.Result
+        ∷ asked.Kind Data seat.Result ∷ [] }
+    ensures indexes { conditions_in (asks.Indexes false ∷ []) 2
+        ≡ asked.Kind Int (seat.Value 1) ∷ asked.Rest (rest.Chosen false 0) ∷ [] }
+    ensures no_indexes { ¬ (conditions_in (asks.Indexes true ∷ []) 2 ≡ asked.Kind Int (seat.Value 1) ∷ []) }
+{}
+
+/// Which literals name a component, and which values are constituents, in that module.
+pub fn rest_examples()
+    ensures literal { IsComponent 4 3 }
+    ensures no_literal { ¬ (IsComponent 4 4) }
+    ensures share { IsShare small 1 3 }
+    ensures no_share { ¬ (IsShare small 2 3) }
+    ensures composite { IsOf small Composite 6 }
+    ensures no_composite { ¬ (IsOf small Composite 2) }
+    ensures component { Agrees small SameComponent 3 15 }
+    ensures no_component { ¬ (Agrees small SameComponent 3 13) }
+{}
+
+/// What is asked of an OpVariable: %7 is a pointer of the storage class CrossWorkgroup, of number 5.
+pub fn variable_examples()
+    ensures class { HasClass small (Some 7) (Value 0 5 ∷ []) }
+    ensures no_class { ¬ (HasClass small (Some 7) (Value 0 4 ∷ [])) }
+    ensures constant { MayInitialize small 18 }
+    ensures initializer { ¬ (MayInitialize lone_variable 7) }
+    ensures place { MayHave lone_variable 0 5 }
+    ensures no_place { ¬ (MayHave lone_variable 0 7) }
+{}
+
+/// What is asked of the weights of an OpBranchConditional: one without any, and one with one.
+pub fn weight_examples()
+    ensures none { RestHolds small 8 no_weight None (12 ∷ []) rest.Weights }
+    ensures one { ¬ (RestHolds small 8 one_weight None (12 ∷ []) rest.Weights) }
+{}
+
+/// Where indexes of an access chain lead: %8 is a variable whose type, %7, is a pointer to the struct type %6 of an int
+/// and a float; %5 is an OpConstant, of number 1, and %18 an OpSpecConstant.
+pub fn chain_examples()
+    ensures led { led_to small false (8 ∷ 5 ∷ []) (7 ∷ 1 ∷ []) ≡ Some 2 }
+    ensures not_led { ¬ (led_to small false (8 ∷ 5 ∷ []) (7 ∷ 1 ∷ []) ≡ Some 1) }
+    ensures chosen { IsSome (led_by small true (8 ∷ 5 ∷ 5 ∷ []) (7 ∷ 1 ∷ 1 ∷ []) 1) }
+    ensures not_chosen { ¬ (IsSome (led_by small false (8 ∷ 18 ∷ []) (7 ∷ 1 ∷ []) 1)) }
+{}
+
+/// Where literals lead as indexes, in that module.
+pub fn path_examples()
+    ensures reached { reached_by small (1 ∷ []) 6 ≡ 2 }
+    ensures not_reached { ¬ (reached_by small (2 ∷ []) 6 ≡ 2) }
+    ensures stop { stop_at small 0 (Word 1 ∷ Word 0 ∷ []) 6 ≡ Some 1 }
+    ensures no_stop { ¬ (stop_at small 0 (Word 1 ∷ []) 6 ≡ Some 0) }
+{}

@@ -1,9 +1,0 @@
-use Rattle.spv_module.specs.Module.{plain_inst}
-use Rattle.spv_evidence.specs.Values.{types_in}
-use Rattle.spv_evidence.proofs.lemmas.Stopping.{are_stops}
-use Rattle.spv_evidence.proofs.chain.stops_of.Goals as goal
-
-pub returns : goal.returns
-returns c =
-    are_stops c.args.definitions.now (plain_inst c.args.inst.now) (types_in c.args.values.now) (record { with_element = c.stop_of.result; without = c.stop_of-2.result }) c.base_in-base.result _ _ c.stop_of.ensures c.stop_of-2.ensures
-    c.base_in-base.ensures c.indexes_of.ensures c.indexes_of-2.ensures

@@ -1,7 +1,0 @@
-use Rattle.std.proofs.Common.{◌≡◌, ◌++◌, ◌-◌}
-use Rattle.spv_operation_evidence.specs.declared.asked.Rest.TheVariants as rest
-use Rattle.spv_operation_evidence.specs.Conditions.{each_of}
-use Rattle.spv_operation_evidence.proofs.conditions.push_parts.Given as goal
-
-abbrev pub invariant-loop-k : goal.invariant-loop-k
-invariant-loop-k l = l.conditions.items ++ each_of rest.Part l.k (l.count - l.k) ≡ l.fn.conditions.items ++ each_of rest.Part 0 l.count

@@ -1,0 +1,120 @@
+"""The table of operations of docs/PROFILE.md (Y5), as the table of types of spv_ops tells it.
+
+A line of the table in src/table.rt of spv_ops has opcodes, where their values stand and the conditions
+that they ask. The words of a condition are those of `spv explain`, in src/conditions.rt of
+spv_fault_lines: there 'its type' is that of the operand, here it goes by its letter.
+"""
+
+import re
+
+from .common import TESTS, Check, Unusable
+from .opcodes import CRATES, OPCODES_OF, TYPED, opcodes, part, text
+
+PAGE = TESTS.parent / "docs/PROFILE.md"
+WORDS = CRATES / "spv_fault_lines/src/conditions.rt"
+HEAD = "| Instructions | Conditions, in order |\n|---|---|\n"
+REMEDY = "tests/operations --keep writes it"
+LINE = re.compile(r"([A-Z]\w+(?: to \w+)?(?:, \w+(?: to \w+)?)*)(?: by (\w+))?:((?:\s+\[[^\]]*\])+);")
+SEATS = {"r": "r", "o": "o", "p": "p", "q": "q", "3": "s", "4": "t", "5": "u"}
+NUMBERS = ("no value", "one value", "two values", "three values", "four values", "five values", "six values")
+ELEMENT = {True: " after the element", False: ""}
+# More opcodes than these, one after another, are told by the first and the last.
+MOST = 4
+
+
+def words():
+    """The words of each condition, by its name in the code."""
+    found = re.findall(r'(\w+)(?:\(\w+\))? =>\s*\{?\s*"([^"]*)"', text(WORDS))
+    return dict(found)
+
+
+def name(constant):
+    """The name of an opcode, by that of its constant."""
+    return "Op" + "".join(word.capitalize() for word in constant.split("_"))
+
+
+def group(first, last, known):
+    """The instructions of a group of opcodes."""
+    if not last:
+        return name(first)
+    among = range(known[first], known[last] + 1)
+    if len(among) > MOST:
+        return f"{name(first)} to {name(last)} ({among[0]} to {among[-1]})"
+    called = {number: constant for constant, number in known.items()}
+    return ", ".join(name(called[number]) for number in among)
+
+
+def of(told, seat, wanted=""):
+    """The words of a condition of a type, and of the one that is wanted."""
+    for other in ("the one that is wanted", "the wanted one", "the wanted type"):
+        told = told.replace(other, wanted)
+    return told.replace("its type", seat)
+
+
+def condition(asked, told):
+    """What a condition of a line says, by its words in the table."""
+    match asked:
+        case ["gives" | "takes" as kind, count]:
+            result = "a result type" if kind == "gives" else "no result type"
+            return f"{result} and {NUMBERS[int(count)]}"
+        case ["each", "Same"]:
+            return "of each value: " + of(told["Same"], "its type", "r")
+        case ["each", "Share"]:
+            return "of a vector, of each constituent: " + of(told["Share"], "its type", "the component type of r")
+        case ["each", "Part"]:
+            return f"of a struct or an array, of each constituent: {told['Part']}"
+        case ["Several" | "Filled" as rest]:
+            return "of a vector: " + of(told[rest], "r")
+        case ["Count"]:
+            return "of a struct or an array: " + told["Count"]
+        case ["indexes", *element]:
+            return f"of each index{ELEMENT[bool(element)]}: {told['Int']}; {told['Chosen']}"
+        case ["leads", *_]:
+            return of(told["Leads"], "r")
+        case ["within", _]:
+            return told["Within"].replace("the index", "each index", 1)
+        case [seat, "reached", "from", value]:
+            return of(told["Reached"], SEATS[seat]) + f" from {value}"
+        case [seat, "is", kind]:
+            return of(told[kind], SEATS[seat])
+        case [seat, relation, wanted]:
+            return of(told[relation], SEATS[seat], SEATS[wanted])
+        case ["InitializerType"]:
+            return "of the initializer: " + told["InitializerType"]
+        case ["Component"]:
+            return told["Component"].replace("the literal", "each literal", 1)
+        case [rest]:
+            return of(told[rest], "r")
+    raise Unusable(f"{TYPED} asks {' '.join(asked)!r}, which has no words")
+
+
+def table():
+    """The rows of the table, as the page has them."""
+    known, told = opcodes(), words()
+    rows = []
+    for groups, _, asked in LINE.findall(part(TYPED, r"\$what! \{\n(.*?)\n {8}\}\n")):
+        instructions = ", ".join(group(first, last, known) for first, last in OPCODES_OF.findall(groups))
+        conditions = "; ".join(condition(one.split(), told) for one in re.findall(r"\[([^\]]*)\]", asked))
+        rows.append(f"| {instructions} | {conditions} |\n")
+    return HEAD + "".join(rows)
+
+
+def page():
+    """The page with the table that it must hold."""
+    now = text(PAGE)
+    found = re.search(re.escape(HEAD) + r"(?:\|.*\n)*", now)
+    if not found:
+        raise Unusable(f"{PAGE} has no {HEAD.splitlines()[0]!r}")
+    return now[: found.start()] + table() + now[found.end() :]
+
+
+def wrong_page(_program, _folder):
+    """None if the page holds the table that the table of types tells, else that it does not."""
+    if text(PAGE) != page():
+        return f"  the table of operations of docs/PROFILE.md is not that of spv_ops; {REMEDY}"
+    return None
+
+
+def checks():
+    """One check, of the page."""
+    return [Check("operations: the table in docs/PROFILE.md", frozenset(), wrong_page)]
