@@ -24,4 +24,4 @@ pub use first::first_failing;
 pub use path::{part_within, stop_at};
 pub use rest::reached_in;
 pub use seat::{Seat, type_at};
-pub use variable::{is_class_at, is_initializer};
+pub use variable::{all_initialize, is_class_at};

@@ -21,7 +21,7 @@ const FUNCTION: u32 = 7;
 const GENERIC: u32 = 8;
 
 /// Whether an id may initialize a variable: it is a constant, or a variable of section 9.
-pub fn is_initializer(definitions: &Definitions, x: u32) -> bool
+fn is_initializer(definitions: &Definitions, x: u32) -> bool
     ensures { IsTrue result ↔ MayInitialize definitions.now x }
 {
     is_constant(definitions, x) || definitions.is_global(x)
@@ -105,7 +105,7 @@ pub fn is_class_here(definitions: &Definitions, number: u32, inst: &Inst) -> boo
 }
 
 /// Whether the ids at the front of the operands all may initialize variables.
-fn all_initialize(definitions: &Definitions, operands: &[Operand]) -> bool
+pub fn all_initialize(definitions: &Definitions, operands: &[Operand]) -> bool
     ensures { IsTrue result ↔ AllByRecursion (MayInitialize definitions.now) (ids_in (plain_operands operands.now)) }
 {
     for operand in operands {

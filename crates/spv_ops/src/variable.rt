@@ -10,24 +10,9 @@ ghost use Rattle.spv_type_forms.specs.Types.{class_in};
 ghost use Rattle.spv_type_forms.specs.Form.{form_of};
 ghost use Rattle.spv_ops.specs.inner.Declares.{DeclaresVariable};
 
-use spv_conditions::{is_class_at, is_initializer};
+use spv_conditions::{all_initialize, is_class_at};
 use spv_module::Operand;
 use spv_type_forms::{Definitions, Form, all_pointees};
-
-/// Whether the ids at the front of the operands all initialize variables.
-fn are_initializers(definitions: &Definitions, operands: &[Operand]) -> bool
-    ensures { IsTrue result ↔ AllByRecursion (MayInitialize definitions.now) (ids_in (plain_operands operands.now)) }
-{
-    for operand in operands {
-        let Operand::Id(x) = operand else {
-            return true;
-        };
-        if !is_initializer(definitions, *x) {
-            return false;
-        }
-    }
-    true
-}
 
 /// Whether r is a pointer of the storage class, which a variable there may have, and the ids may initialize it.
 fn may_declare(
@@ -45,7 +30,7 @@ fn may_declare(
     match definitions.form(r) {
         Some(Form::Pointer { class: own, .. }) => own == class
             && is_class_at(definitions, number, class)
-            && are_initializers(definitions, operands),
+            && all_initialize(definitions, operands),
         _ => false,
     }
 }
