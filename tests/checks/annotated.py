@@ -53,9 +53,9 @@ def refused(printed):
     return Answer(f"{printed[0]}\n".encode(), b"", 1)
 
 
-def lines_differ(reading, answer, function=None):
+def lines_differ(reading, answer, function=None, status=0):
     """None if an answer is the text that the second reading has, else what is wrong."""
-    if (answer.err, answer.status) != (b"", 0):
+    if (answer.err, answer.status) != (b"", status):
         return f"  {answer}"
     text = text_of(answer)
     if not text.endswith("\n"):
@@ -90,7 +90,11 @@ def module_differs(program, folder, grammar_file, facts, path):
     whole = asked(program, folder, "annotate", *words)
     if code_of(printed) in "WI":
         alone = asked(program, folder, "annotate", "--function", "1", *words)
-        return difference(refused(printed), whole) or difference(refused(printed), alone)
+        wrong = difference(refused(printed), alone)
+        if code_of(printed) == "W":
+            return wrong or difference(refused(printed), whole)
+        # (those before the one that is malformed)
+        return wrong or lines_differ(Reading(facts, printed), whole, status=1)
     reading = Reading(facts, printed)
     wrong = lines_differ(reading, whole) or law_differs(program, folder, text_of(whole), *words)
     for function in functions_of(facts):
@@ -131,12 +135,22 @@ def cases_with_words(folder):
         yield case, words
 
 
+def beginning_differs(shown, got):
+    """None if an answer has the line of a verdict first, and what explains it last, else what is wrong."""
+    verdict = text_of(shown)
+    lines = text_of(got).split("\n")
+    is_right = (got.err, got.status) == (b"", 1) and f"{lines[0]}\n" == f"; {verdict}"
+    return None if is_right and lines[-2].startswith("; ^ ") and f"; ^ {verdict[:-1]}" in lines else f"  {got}"
+
+
 def cases_read(program, folder):
     """The modules of all other cases, each under its own grammar file: the verdict line where there is no text, the
     error where the grammar file is refused, and else the text of `show` with comments."""
     for case, words in cases_with_words(folder):
         shown, got = asked(program, folder, "show", *words), asked(program, folder, "annotate", *words)
-        if shown.status != 0:
+        if shown.out.startswith(b"fault I"):
+            wrong = beginning_differs(shown, got)
+        elif shown.status != 0:
             wrong = difference(shown, got) or difference(shown, asked(program, folder, "annotate", "--html", *words))
         elif (got.err, got.status) != (b"", 0):
             wrong = f"  {got}"

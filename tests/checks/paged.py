@@ -328,9 +328,9 @@ def module_differs(program, folder, facts, path):
         choices += [["--function", str(it)] for it in functions_of(facts)]
     for words in choices:
         plain, got = (asked(program, folder, "annotate", *form, *words, path) for form in ([], ["--html"]))
-        if code_of(printed) in "WI":
+        if code_of(printed) == "W":
             wrong = difference(plain, got)
-        elif (got.err, got.status) != (b"", 0):
+        elif (got.err, got.status) != (b"", plain.status):
             wrong = f"  {got}"
         else:
             wrong = page_differs(text_of(got), facts, text_of(plain), str(path))

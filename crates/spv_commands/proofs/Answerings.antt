@@ -94,7 +94,7 @@ views_it how G function bytes output answer h = record { output = output; viewin
 pub views_refused : (how : View) (G : Table) (function : Option ℕ) (bytes : List ℕ) (code : WordError) → ((e : WordError) (o : Order) (bs ws : List ℕ) → IsModule o bs ws → ¬ IsFirstBroken e bs)
     → IsFirstBroken code bytes → Views how G function bytes [] (Some (refused_line code)) false
 views_refused how G function bytes code never h =
-    views_it how G function bytes (refused_line code) false (IsViewing.judged (refused_line code) (no_words G bytes code function never h) (IsVerdict.refused code h))
+    views_it how G function bytes (refused_line code) false (IsViewing.judged (refused_line code) (no_words how G bytes code function never h) (IsVerdict.refused code h))
 
 -- memory is a reason for every command
 pub for_memory : (command : Command) (G : Table) (bytes : List ℕ) (r : Result Reply Trouble) → IfErr r (λ t. t ≡ Memory) → IfErr r (WhyNot command G bytes)

@@ -223,6 +223,7 @@ fn viewed(
     };
     match view_image(alloc, table, how, function, &image) {
         Ok(Viewed::Text(text)) => Ok(Reply::Done(Output::Bytes(text.into_bytes()))),
+        Ok(Viewed::Beginning(text)) => Ok(Reply::Fault(Output::Bytes(text.into_bytes()))),
         Ok(Viewed::Line(judgment)) => Ok(fault(judgment)),
         Err(ViewError::NoFunction) => Err(Trouble::NoFunction),
         Err(_) => Err(Trouble::Memory),

@@ -15,6 +15,11 @@ returns-in-Ok-Text-clause-gives c =
     let viewing = rw c.in-Ok-Text.field-0-is at (c.in-Ok-Text.ensures.viewed c.args.bytes.items c.in-Ok.field-0-1 c.in-Ok.ensures.gives) in
     (rw c.into_bytes.ensures.value (views_it c.args.how c.args.table.now c.args.function c.args.bytes.items _ _ viewing), refl)
 
+pub returns-in-Ok-Beginning-clause-gives : goal.returns-in-Ok-Beginning-clause-gives
+returns-in-Ok-Beginning-clause-gives c =
+    let viewing = rw c.in-Ok-Beginning.field-0-is at (c.in-Ok-Beginning.ensures.viewed c.args.bytes.items c.in-Ok.field-0-1 c.in-Ok.ensures.gives) in
+    (rw c.into_bytes-in-Ok-Beginning.ensures.value (views_it c.args.how c.args.table.now c.args.function c.args.bytes.items _ _ viewing), refl)
+
 pub returns-in-Ok-Line-clause-gives : goal.returns-in-Ok-Line-clause-gives
 returns-in-Ok-Line-clause-gives c =
     let viewing = rw c.in-Ok-Line.field-0-is at (c.in-Ok-Line.ensures.viewed c.args.bytes.items c.in-Ok.field-0-1 c.in-Ok.ensures.gives) in
