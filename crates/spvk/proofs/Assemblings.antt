@@ -25,6 +25,12 @@ pub all_made : (G : Table) (o : Order) (text words : List ℕ) (a : Assembled) �
     → HoldsBytes o words [] a.buffer.bytes (4 * length words) → a.fault.code ≡ 0 → a.fault.line ≡ 0 → ComesTo G o text a
 all_made G o text words a u r b w c l = made words (record { utf8 = u; header = r.0; insts = r.1; read = r.2; begins = b; told = r.3 }) w c l
 
+pub all_made_by : (G : Table) (o : Order) (text words : List ℕ) (r : Result Assembled Memory) → IsUtf8 text
+    → ((h : Header) × (is : List PlainInst) × IsReadText G h is (drop 5 words) text × IsHeaderOf words h × IsListing G is (drop 5 words)) → IsHeader words
+    → IfOk r (λ a. HoldsBytes o words [] a.buffer.bytes (4 * length words)) → IfOk r (λ a. a.fault.code ≡ 0) → IfOk r (λ a. a.fault.line ≡ 0) → IfOk r (ComesTo G o text)
+all_made_by G o text words (Ok a) u r b w c l = all_made G o text words a u r b w c l
+all_made_by G o text words (Err e) u r b w c l = tt
+
 module _ (G : Table) (o : Order) (text : List ℕ) (line : ℕ) (a : Assembled) (u : IsUtf8 text) (l : a.fault.line ≡ line) (n : a.buffer.bytes ≡ None) where
   at_fault : (code : AsmCode) → code ≢ S6 → IsAsmFailure G text code line → a.fault.code ≡ text_code_number code → ComesTo G o text a
   at_fault S1 k f c = failed S1 line u f c l n
