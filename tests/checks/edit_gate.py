@@ -6,7 +6,7 @@ import shutil
 import subprocess
 import sys
 import tempfile
-from concurrent.futures import ThreadPoolExecutor
+from concurrent.futures import ThreadPoolExecutor, as_completed
 from pathlib import Path
 
 from . import edit_record
@@ -130,7 +130,8 @@ def try_due(names):
     jobs = os.environ.get("RT_JOBS", "1")
     worst = 0
     with ThreadPoolExecutor(int(jobs) if jobs.isdigit() and jobs != "0" else 1) as pool:
-        for status, refused in pool.map(lambda it: trial(*it), wanted.items()):
+        for done in as_completed([pool.submit(trial, *it) for it in wanted.items()]):
+            status, refused = done.result()
             worst = max(worst, status)
             state.note(refused)
     if worst:
