@@ -158,13 +158,15 @@ class Instruction:
 
     inst: int
     text: str
+    operands: Tuple[int, ...] = ()
 
 
 @dataclass(frozen=True)
 class Id:
-    """An id."""
+    """An id; of a type that a condition speaks of, also the numbers of the operands that are of it."""
 
     id: int
+    operands: Tuple[int, ...] = ()
 
 
 @dataclass(frozen=True)
@@ -221,6 +223,7 @@ class Evidence:
     section: Optional[str] = None
     at: Optional[Instruction] = None
     function: Optional[int] = None
+    function_name: Optional[str] = None
     block: Optional[int] = None
     words: Optional[Words] = None
     failing_word: Optional[FailingWord] = None
@@ -250,6 +253,7 @@ class Evidence:
     argument: Optional[int] = None
     wanted: Thing = None
     found: Thing = None
+    size: Optional[int] = None
     help: Optional[str] = None
     missing_parent: Optional[int] = None
     no_predecessor: Optional[Operand] = None
@@ -272,10 +276,15 @@ def _same(it: Any) -> Any:
     return it
 
 
+def _frozen(it: Any) -> Any:
+    """A value of JSON, a list as a tuple."""
+    return tuple(it) if isinstance(it, list) else it
+
+
 def _made_of(kind: Any) -> Callable[[Any], Any]:
     """What makes a value of a JSON object; members for which it has no field are left out."""
     names = {it.name for it in fields(kind)}
-    return lambda it: kind(**{name: value for name, value in it.items() if name in names})
+    return lambda it: kind(**{name: _frozen(value) for name, value in it.items() if name in names})
 
 
 _instruction, _id = _made_of(Instruction), _made_of(Id)
@@ -305,6 +314,7 @@ _MEMBERS: Dict[str, Tuple[str, Callable[[Any], Any]]] = {
     "section": ("section", _same),
     "at": ("at", _instruction),
     "function": ("function", _same),
+    "functionName": ("function_name", _same),
     "block": ("block", _same),
     "words": ("words", _words),
     "failingWord": ("failing_word", _made_of(FailingWord)),
@@ -334,6 +344,7 @@ _MEMBERS: Dict[str, Tuple[str, Callable[[Any], Any]]] = {
     "argument": ("argument", _same),
     "wanted": ("wanted", _thing),
     "found": ("found", _thing),
+    "size": ("size", _same),
     "help": ("help", _same),
     "missingParent": ("missing_parent", _same),
     "noPredecessor": ("no_predecessor", _made_of(Operand)),

@@ -9,7 +9,7 @@ import struct
 
 from reading.assemble import assembled
 
-from .cases import profile
+from .cases import grammar_read
 from .common import TESTS, Answer, Check, difference, run
 
 GRAMMAR = TESTS / "profile.json"
@@ -90,7 +90,7 @@ def texts_read(_program, _folder):
     """Of every text of tests/modules the second reading makes the module beside it, up to the order of bytes."""
     for text in sorted(MODULES.glob("*.spvasm")):
         content = text.with_suffix(".spv").read_bytes()
-        made = assembled(profile(), text.read_text(encoding="utf-8").splitlines())
+        made = assembled(grammar_read("profile.json"), text.read_text(encoding="utf-8").splitlines())
         if made != (content if is_little(content) else turned(content)):
             return f"  {text.name}: the second reading makes another module"
     return None

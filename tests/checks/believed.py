@@ -24,12 +24,17 @@ PROMISES = (
     (
         "The headline: what `valid` means, and what a fault is",
         "`check` answers of the words of a module, and `check_stream` of the bytes of a stream.",
-        (("spv_verdict", "judging.rt", "check"), ("spv_verdict", "stream.rt", "check_stream")),
+        (("spv_check", "judging.rt", "check"), ("spv_check", "stream.rt", "check_stream")),
     ),
     (
         "A checked module never gets stuck",
         "`trace` answers the run of a valid module.",
-        (("spv_verdict", "tracing.rt", "trace"),),
+        (("spv_run", "tracing.rt", "trace"),),
+    ),
+    (
+        "What is refused by the profile is refused with --extended",
+        "The law `refused_too` of spv_verdict.",
+        (("spv_verdict", "laws.rt", "refused_too"),),
     ),
     (
         "From words to instructions and back",
@@ -55,8 +60,8 @@ PROMISES = (
         (
             ("spv_layout", "plan.rt", "lay_out"),
             ("spv_ids", "ids.rt", "number"),
-            ("spv_verdict", "types.rt", "type_check"),
-            ("spv_verdict", "flow.rt", "flow_check"),
+            ("spv_check", "types.rt", "type_check"),
+            ("spv_check", "flow.rt", "flow_check"),
         ),
     ),
     (
@@ -218,7 +223,7 @@ The words of the language, and those of the toolchain's library that stand in th
 
 
 # What a valid module is.
-VALID = ("Rattle.spv_verdict.specs.Valid", "IsValid")
+VALID = ("Rattle.spv_check.specs.Valid", "IsValid")
 
 BY_VALID = """What a valid module is, `IsValid` alone: {count}.
 """
@@ -229,7 +234,7 @@ CONSTANTS_HEAD = """## Constants of the code
 
 Besides opcodes and the tables that are named above, definitions name these constants of the code. They are to be read where they stand:"""
 
-BY_RULE = """`check` takes the words of an image, which begin with a good header, and answers `IsAnswer` of them: the checked module (`IsChecked`) or its fault (`IsFault`). It answers the former exactly where the bytes of those words are a valid module (`IsValid`): they begin with a good header (`IsModule`: the rules W), the words behind it spell a list of instructions (`IsListing`: I), and the list breaks no other rule (`IsSound`: P to G). With `--extended` the list is looked at with the operands of extended instructions (`looked_at`), and must not break Y9 either. `check_stream` writes the line of the verdict on the bytes that it reads (`IsVerdict`). That words have one verdict, and bytes one line, is proved beside them (`one_answer`, `one_verdict` and `one_first` of spv_verdict). Which table a grammar file gives is said in a part of its own below, and in prose in PROFILE.md. [RULES.md](RULES.md) has a line for each code, with the code that answers it, its evidence and a case.
+BY_RULE = """`check` takes the words of an image, which begin with a good header, and answers `IsAnswer` of them: the checked module (`IsChecked`) or its fault (`IsFault`). It answers the former exactly where the bytes of those words are a valid module (`IsValid`): they begin with a good header (`IsModule`: the rules W), the words behind it spell a list of instructions (`IsListing`: I), and the list breaks no other rule (`IsSound`: P to G). With `--extended` the list is looked at with the operands of extended instructions (`looked_at`), and must not break Y9 either. `check_stream` writes the line of the verdict on the bytes that it reads (`IsVerdict`). That words have one verdict, and bytes one line, is proved beside them (`one_answer`, `one_verdict` and `one_first` of spv_check). Which table a grammar file gives is said in a part of its own below, and in prose in PROFILE.md. [RULES.md](RULES.md) has a line for each code, with the code that answers it, its evidence and a case.
 
 The rules, and the definitions that say what is kept, or (broken) where a rule is broken:
 

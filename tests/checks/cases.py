@@ -11,9 +11,10 @@ from typing import List, Optional, Tuple
 from reading.assemble import Unread, assembled
 from reading.verdict import grammar_in
 
-from .common import TESTS, Answer, Check, Unusable, difference, layers_of, run, shown
+from .common import TESTS, Answer, Check, Unusable, difference, layers_of, layers_that_stand, run, shown
 
 COLUMN = 7
+OPENCL = "opencl.json"
 ONCE = ("case", "layer", "run", "G", "made", "exit", "why")
 MANY = ("old", "new", "F", "text", "out", "quoted", "err")
 PIECE = re.compile(r"(hex )?(\S+?)( first (\d+) bytes)?( times (\d+))?")
@@ -89,9 +90,15 @@ def piece(case, text):
 
 
 @lru_cache(maxsize=None)
-def profile():
-    """The grammar of profile.json, as the second reading has it."""
-    return grammar_in(TESTS / "profile.json")
+def grammar_read(name):
+    """The grammar of a file of this folder, as the second reading has it."""
+    return grammar_in(TESTS / name)
+
+
+def grammar_of_text(case):
+    """The grammar by which the text of a case's module is read: where the case has the grammar file of `--opencl` it is
+    that one."""
+    return grammar_read(OPENCL if case.one("G") == OPENCL else "profile.json")
 
 
 def pieces(case):
@@ -99,7 +106,7 @@ def pieces(case):
     file. The lines 'text' are a module's, which the second reading makes."""
     if case.all("text"):
         try:
-            return [(assembled(profile(), case.all("text")), 1)]
+            return [(assembled(grammar_of_text(case), case.all("text")), 1)]
         except (Unread, KeyError, ValueError) as error:
             raise case.tell(f"no text of a module: {error}") from error
     return [piece(case, text) for text in case.all("F")]
@@ -199,7 +206,7 @@ def check_files(all_cases):
         raise Unusable(f"not a file, or named by no case: {', '.join(sorted(names ^ files))}")
 
 
-def all_cases():
+def every_case():
     """The cases of all files, each name once."""
     paths = sorted((TESTS / "cases").glob("*.cases"))
     found = [case for path in paths for case in read_cases(path)]
@@ -208,6 +215,12 @@ def all_cases():
             raise Unusable(f"{times} cases have the name {name}")
     check_files(found)
     return found
+
+
+def all_cases():
+    """The cases whose layers stand."""
+    stands = layers_that_stand()
+    return [case for case in every_case() if layers_of(case.one("layer")) <= stands]
 
 
 def written():
@@ -225,4 +238,4 @@ def checks():
             lambda program, folder: run_case(case, program, folder),
         )
 
-    return [check(case) for case in all_cases()]
+    return [check(case) for case in every_case()]

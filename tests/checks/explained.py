@@ -4,9 +4,10 @@ import subprocess
 from functools import lru_cache
 
 from reading.judge import judged
+from reading.profiles import Profile
 from reading.verdict import grammar_in
 
-from .cases import written
+from .cases import OPENCL, written
 from .common import TESTS, Check
 from .ruled import PAGE, sentences
 
@@ -29,22 +30,22 @@ def sentence_of():
     return dict(sentences(PAGE.read_text(encoding="utf-8")))
 
 
-def difference(program, path, grammar, is_extended=False):
+def difference(program, path, grammar, profile=Profile.OWN):
     """None if the verdict on a module is that of `check`, and each line that explains it is true, in full too, else
-    what is not; with the operands of extended instructions or without."""
-    asked = ["--extended"] if is_extended else []
-    verdict = output(program, "check", *asked, "--grammar", PROFILE, path).split("\n")[:-1]
+    what is not; by how far it is looked at."""
+    asked, file = profile.flags, TESTS / OPENCL if profile == Profile.OPENCL else PROFILE
+    verdict = output(program, "check", *asked, "--grammar", file, path).split("\n")[:-1]
     for flags in ([], ["--full"]):
-        printed = output(program, "explain", *asked, *flags, "--grammar", PROFILE, path).split("\n")[:-1]
+        printed = output(program, "explain", *asked, *flags, "--grammar", file, path).split("\n")[:-1]
         if printed[:1] != verdict:
             return f"  {path.name}: {printed[:1]} and not {verdict}"
-        _, _, wrong = judged(grammar, sentence_of(), path.read_bytes(), printed, bool(flags), is_extended)
+        _, _, wrong = judged(grammar, sentence_of(), path.read_bytes(), printed, bool(flags), profile)
         if wrong:
             return "\n".join(f"  {path.name} {' '.join(asked + flags)}: {it}" for it in wrong)
     return None
 
 
-def explained(is_extended):
+def explained(profile):
     """The check that all modules of tests/modules and of texts of cases are explained by true lines."""
 
     def check(program, folder):
@@ -53,7 +54,7 @@ def explained(is_extended):
         for name, content in written().items():
             paths.append(folder / f"{name}.spv")
             paths[-1].write_bytes(content)
-        wrong = [it for it in (difference(program, path, grammar, is_extended) for path in paths) if it]
+        wrong = [it for it in (difference(program, path, grammar, profile) for path in paths) if it]
         return "\n".join(wrong) or None
 
     return check
@@ -62,6 +63,6 @@ def explained(is_extended):
 def checks():
     """All modules, without and with the operands of extended instructions."""
     return [
-        Check("explain beside the second reading", LAYERS, explained(False)),
-        Check("explain beside the second reading, extended", LAYERS, explained(True)),
+        Check("explain beside the second reading", LAYERS, explained(Profile.OWN)),
+        Check("explain beside the second reading, extended", LAYERS, explained(Profile.EXTENDED)),
     ]

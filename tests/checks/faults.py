@@ -81,7 +81,8 @@ def too_few(struct, parts):
     """What is told of one constituent too few."""
     made = f"%{struct} = OpTypeStruct {ids(parts)}"
     condition = "condition: there are as many constituents as the type has parts"
-    return [condition, f"operand: 0 %{struct}", f"type: {made}", f"found: {made}"]
+    of = f"{made}, of operand 0 %{struct}"
+    return [condition, f"operand: 0 %{struct}", f"type: {of}", f"found: {of}"]
 
 
 def unequal(insts):
@@ -97,7 +98,7 @@ def unled(insts):
     return [
         "condition: at a struct the index is an OpConstant, the number of a member; else the type before it has parts",
         f"operand: {last} %{zero}",
-        "found: %5 = OpTypeInt 32 0",
+        f"found: %5 = OpTypeInt 32 0, of operand {last} %{zero}",
     ]
 
 

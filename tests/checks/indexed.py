@@ -30,7 +30,7 @@ ANSWERING = (
     "spv_type_rules",
     "spv_capabilities",
     "spv_flow",
-    "spv_verdict",
+    "spv_check",
 )
 EVIDENCE = "spv_*evidence/specs/**/*.antt"
 CONSTRUCTOR = re.compile(r"^  ([a-z]\w*) :", re.M)

@@ -57,6 +57,33 @@ def thing(told):
     return str(told)
 
 
+def standing(text):
+    """The operands of an instruction whose text this is, as words. Those of declarations and operations have no
+    spaces."""
+    result, _, rest = text.rpartition(" = ")
+    opcode, *found = rest.split(" ")
+    if result:
+        found.insert(0 if opcode.startswith("OpType") else 1, result)
+    return found
+
+
+def whose(told, whole):
+    """The operands that are of a type."""
+    found = standing(whole["at"]["text"])
+    return "".join(f", of operand {it} {found[it]}" for it in told.get("operands", ()))
+
+
+def typed(key):
+    """The function that writes a line of a type and of the operands that are of it, or of a thing."""
+    return lambda told, whole: [f"{key}: {thing(told)}" + (whose(told, whole) if isinstance(told, dict) else "")]
+
+
+def types(told, whole):
+    """The lines of types, and whose they are."""
+    above = [", part of a type above" * (it.get("operands") == []) for it in told]
+    return [f"type: {thing(it)}{whose(it, whole)}{more}" for it, more in zip(told, above)]
+
+
 def ids(key):
     """The function that writes a line of ids."""
     return lambda told, _: [f"{key}:" + "".join(f" %{it}" for it in told)]
@@ -83,11 +110,12 @@ def inst(key):
 
 
 def place(told, whole):
-    """The function, and the block if it is of one."""
+    """The function, its name if it has one, and the block if it is of one."""
     key, block = "open" if whole["code"] == "L2" else "in", whole.get("block")
     return [
         f"{key}: function"
         + (f" %{told}" if told is not None else "")
+        + (f" {whole['functionName']}" if "functionName" in whole else "")
         + (f", block %{block}" if block is not None else "")
     ]
 
@@ -112,6 +140,7 @@ def may_come(told, whole):
 LINES = {
     "at": lambda told, _: [f"at: {told['text']}"],
     "function": place,
+    "functionName": lambda *_: [],
     "block": lambda *_: [],
     "words": words,
     "failingWord": failing_word,
@@ -135,12 +164,13 @@ LINES = {
     "called": inst("called"),
     "imported": inst("imported"),
     "condition": text("condition"),
-    "types": lambda told, _: [f"type: {thing(it)}" for it in told],
+    "types": types,
     "place": text("place"),
     "parameter": text("parameter"),
     "argument": text("argument"),
-    "wanted": lambda told, _: [f"wanted: {thing(told)}"],
-    "found": lambda told, _: [f"found: {thing(told)}"],
+    "wanted": typed("wanted"),
+    "found": typed("found"),
+    "size": text("size"),
     "help": text("help"),
     "missingParent": result("missing parent"),
     "noPredecessor": lambda told, _: [f"no predecessor:{operand_part(told)}"],

@@ -9,6 +9,7 @@ import sys
 from reading.conditions import WORDS
 from reading.decode import Grammar
 from reading.judge import judged
+from reading.profiles import Profile
 from shapes.changes import with_extended
 
 from . import typed
@@ -102,10 +103,11 @@ def seen(program, folder):
     grammar = Grammar(json.loads(PROFILE.read_text(encoding="utf-8")))
     sentence_of = dict(sentences(PAGE.read_text(encoding="utf-8")))
     wrong = []
-    for flags, paths in (([], sorted((TESTS / "modules").glob("*.spv"))[::8]), (["--extended"], calling(folder))):
-        for path, lines in answers(program, PROFILE, paths, *flags)[0].items():
+    own = sorted((TESTS / "modules").glob("*.spv"))[::8]
+    for profile, paths in ((Profile.OWN, own), (Profile.EXTENDED, calling(folder))):
+        for path, lines in answers(program, PROFILE, paths, *profile.flags)[0].items():
             for line, other in spoiled(lines):
-                if not judged(grammar, sentence_of, path.read_bytes(), other, False, bool(flags))[2]:
+                if not judged(grammar, sentence_of, path.read_bytes(), other, False, profile)[2]:
                     wrong.append(f"  {path.name}: {line}")
     return "\n".join(wrong) or None
 

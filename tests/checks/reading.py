@@ -11,9 +11,9 @@ SECONDS = 600
 
 
 def compared(*flags):
-    """The check that the two say the same, and explain it alike, of every module of tests/modules, of those of the
+    """The check that the two say the same (and explain it alike) of every module of tests/modules, of those of the
     table of types, and of some changed ones."""
-    words = [sys.executable, str(COMPARE), "--count", str(COUNT), "--explain", *flags]
+    words = [sys.executable, str(COMPARE), "--count", str(COUNT), *flags]
 
     def check(program, _folder):
         given = [*words, "--program", str(program)]
@@ -24,8 +24,9 @@ def compared(*flags):
 
 
 def checks():
-    """One check of all modules, and one with the operands of extended instructions."""
+    """A check of all modules, one with the operands of extended instructions, and one of what `--opencl` takes."""
     return [
-        Check("second reading", frozenset({"first path"}), compared()),
-        Check("second reading, extended", frozenset({"first path"}), compared("--extended")),
+        Check("second reading", frozenset({"first path"}), compared("--explain")),
+        Check("second reading, extended", frozenset({"first path"}), compared("--explain", "--extended")),
+        Check("second reading, opencl", frozenset({"opencl"}), compared("--opencl")),
     ]

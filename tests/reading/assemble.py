@@ -4,12 +4,13 @@ import re
 import struct
 
 from .decode import FLOAT, INT, SWITCH
+from .profiles import VERSION_1_6
 
-VERSION_1_6 = 0x00010600
 MAGIC = 0x07230203
 TOKEN = re.compile(r'"(?:[^"\\]|\\.)*"|[^\s"]+')
 ESCAPE = re.compile(r"\\(.)")
 BOUND = "; Bound: "
+VERSION = re.compile(r"; Version: 1\.([0-6])")
 
 
 class Unread(Exception):
@@ -129,11 +130,14 @@ class Writer:
 
 
 def assembled(grammar, lines):
-    """The bytes of a module of version 1.6, the lowest byte of a word first, of the lines of its text. Lines of a
-    header may stand first: of these `; Bound: N` is read. Without it the bound is the greatest result and one."""
+    """The bytes of a module, the lowest byte of a word first, of the lines of its text. Lines of a header may stand
+    first: of these `; Version: 1.N` and `; Bound: N` are read. Without them the version is 1.6, and the bound the
+    greatest result and one."""
     writer = Writer(grammar)
     insts = [writer.instruction(line) for line in lines if not line.startswith(";")]
     said = [int(line[len(BOUND) :]) for line in lines if line.startswith(BOUND)]
     bound = said[0] if said else 1 + max((of for of in writer.types if of is not None), default=0)
-    words = [MAGIC, VERSION_1_6, 0, bound, 0, *(word for inst in insts for word in inst)]
+    minors = [int(found[1]) for found in map(VERSION.fullmatch, lines) if found]
+    version = 0x00010000 | minors[0] << 8 if minors else VERSION_1_6
+    words = [MAGIC, version, 0, bound, 0, *(word for inst in insts for word in inst)]
     return struct.pack(f"<{len(words)}I", *words)

@@ -6,24 +6,9 @@ the result type (`r`), a value operand (`o`, `p`, `q` and on, by its place among
 conditions.
 """
 
+from .forms import ARRAY, BOOL, CONSTANTS, FLOAT, INT, OPAQUE, POINTER, SCALARS, SPECIAL, STRUCT, VECTOR, VOID
 from .order import opcodes_in
-from .types import (
-    ARRAY,
-    BOOL,
-    CONSTANTS,
-    FLOAT,
-    INT,
-    OPAQUE,
-    POINTER,
-    RULES,
-    SCALARS,
-    SPECIAL,
-    STRUCT,
-    VECTOR,
-    VOID,
-    cast,
-    selected,
-)
+from .types import RULES, cast, selected
 
 LETTERS = "opqstu"
 

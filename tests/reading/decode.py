@@ -1,8 +1,11 @@
 """Words, header and instructions: rules W2 to W8 and I1 to I12."""
 
 import struct
-from dataclasses import dataclass
-from typing import List, Tuple
+from dataclasses import dataclass, field
+from functools import cached_property
+from typing import List, Optional, Tuple
+
+from .profiles import Profile
 
 MOST_BYTES = 16_777_216
 GREATEST_BOUND = 4_194_303
@@ -22,21 +25,22 @@ class Broken(Exception):
 
 @dataclass
 class Inst:
-    """An instruction. An operand is a pair or triple that begins with its sort."""
+    """An instruction. An operand is a pair or triple that begins with its sort. What is found of its uses is kept."""
 
     opcode: int
     operands: List[Tuple]
     word: int
+    used: Optional[List[Tuple]] = field(default=None, init=False, repr=False, compare=False)
 
     def first(self, sort):
         """What the first operand of a sort holds, if there is one."""
         return next((it[1] for it in self.operands if it[0] == sort), None)
 
-    @property
+    @cached_property
     def result(self):
         return self.first("Result")
 
-    @property
+    @cached_property
     def type(self):
         return self.first("Type")
 
@@ -71,7 +75,7 @@ class Grammar:
                 yield value, it
 
 
-def words_of(content):
+def words_of(content, profile=Profile.OWN):
     """The words of a module's bytes."""
     if len(content) > MOST_BYTES:
         raise Broken("W8")
@@ -83,7 +87,7 @@ def words_of(content):
     if order is None:
         raise Broken("W4")
     words = struct.unpack(f"{order}{len(content) // 4}I", content)
-    if words[1] != 0x00010600:
+    if words[1] not in profile.versions:
         raise Broken("W5")
     if words[4] != 0:
         raise Broken("W6")

@@ -7,6 +7,7 @@ from .decode import Broken, instructions, words_of
 from .extended import check_miscalls, opened
 from .flow import bodies, check_flow
 from .order import SHAPE_OF, Places, check_ids, check_layout, check_shapes, uses_by
+from .profiles import Profile
 from .text import Text, visible
 from .types import Types, check_types
 
@@ -40,8 +41,8 @@ class Facts:
     `broken` is its first fault, None where it is valid. Where the operands of extended instructions are looked at, the
     instructions are the opened ones, and the texts of them those that words spell."""
 
-    def __init__(self, grammar, content, is_extended=False):
-        self.grammar, self.content, self.is_extended = grammar, content, is_extended
+    def __init__(self, grammar, content, profile=Profile.OWN):
+        self.grammar, self.content, self.profile = grammar, content, profile
         self.words, self.insts, self.broken = (), [], None
         try:
             self.read()
@@ -50,18 +51,18 @@ class Facts:
 
     def read(self):
         """Goes through the stages, up to the one that a rule breaks."""
-        self.words = words_of(self.content)
+        self.words = words_of(self.content, self.profile)
         self.insts = self.decoded()
-        self.insts = opened(self.insts) if self.is_extended else self.insts
-        check_shapes(self.insts)
-        check_layout(self.insts)
+        self.insts = opened(self.insts) if self.profile >= Profile.EXTENDED else self.insts
+        check_shapes(self.insts, self.profile)
+        check_layout(self.insts, self.profile)
         self.places = Places(self.insts)
         self.local = self.locals()
         _, _, local = check_ids(self.insts, self.bound)
         self.types = Types(self.grammar, self.insts, self.first, self.places)
         check_types(self.grammar, self.insts, self.first, self.places)
-        check_flow(self.insts, local)
-        if self.is_extended:
+        check_flow(self.insts, local, self.words[1])
+        if self.profile >= Profile.EXTENDED:
             check_miscalls(self.insts)
 
     def decoded(self):

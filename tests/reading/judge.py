@@ -7,12 +7,14 @@ short), any of them will do.
 import re
 from collections import deque
 
-from . import conditions, extended
+from . import conditions, extended, owners
 from .facts import FUNCTION, FUNCTION_END, LABEL, Facts, open_at
 from .flow import CALL, TOLD, ToldOfTargets, targets
+from .forms import UNLIKE, VECTOR, VOID
 from .order import BEGIN, MOST_NAMES, after, kind_of, may_come, may_end, row_text
+from .profiles import Profile
 from .text import CONTROL, bits_of, visible
-from .types import NEEDED, UNLIKE, VECTOR, VOID, is_defined, is_import, parameters_of, plays
+from .types import NEEDED, is_defined, is_import, parameters_of, plays
 
 LINE = re.compile(r"([a-z]+(?: [a-z]+)*):(?: (.*))?")
 # The lines after that of the sentence, by code: each key with a semicolon after it.
@@ -35,7 +37,7 @@ FORMS = {
     "C2": f"{PLACE}(operand;(bit;)?)?needs one of;",
     "E1": f"{PLACE}missing;",
     "E2": f"{PLACE}(called;|imported;|part;)",
-    "Y2 Y4 Y5": f"{PLACE}condition;(operand;(defined;)?)?(type;)*(wanted;)?(found;)?",
+    "Y2 Y4 Y5": f"{PLACE}condition;(operand;(defined;)?)?(type;)*(wanted;)?(found;(size;)?)?",
     "Y6": f"{PLACE}(place|parameter);(type;)?wanted;found;",
     "Y7": f"{PLACE}place;wanted;found;",
     "Y8": f"{PLACE}(place|argument);(type;)?wanted;found;",
@@ -121,7 +123,7 @@ class Judge(ToldOfTargets, extended.ToldOfCalls):
         if function is None or function.result is None:
             return None
         within = f", block %{block.result}" if block and block.result is not None else ""
-        return f"function %{function.result}{within}"
+        return f"function %{function.result}{owners.name(self.facts, function.result)}{within}"
 
     def is_in(self, text):
         return text == self.place(self.number)
@@ -160,6 +162,8 @@ class Judge(ToldOfTargets, extended.ToldOfCalls):
             found.append("no line of the operand's type")
         if conditions.compares(self.one("condition")) and not {"wanted", "found"} <= set(keys):
             found.append("no line wanted and found")
+        if "size" not in keys and self.due_size() is not None:
+            found.append("no line size")
         return found
 
     # Words and instructions.
@@ -245,18 +249,18 @@ class Judge(ToldOfTargets, extended.ToldOfCalls):
     # Shapes and layout.
 
     def is_row(self, text):
-        return text == row_text(self.inst.opcode)
+        return text == row_text(self.inst.opcode, self.facts.profile)
 
     def state(self):
         """The state of the layout before the instruction that is told."""
         state = BEGIN
         for inst in self.facts.insts[: self.number]:
-            state = after(state, inst.opcode)
+            state = after(state, inst.opcode, self.facts.profile)
         return state
 
     def is_may_come(self, text):
         state, entries = self.state(), self.facts.grammar.entries
-        come, end = may_come(state), ["end of module"] * may_end(state)
+        come, end = may_come(state, self.facts.profile), ["end of module"] * may_end(state)
         if len(come) > MOST_NAMES and not self.is_full:
             return text == "; ".join([*dict.fromkeys(map(kind_of, come)), *end])
         return text == " ".join([*(visible(entries[it]["opname"]) for it in come if it in entries), *end])
@@ -478,9 +482,47 @@ class Judge(ToldOfTargets, extended.ToldOfCalls):
         return conditions.fails(self.facts, self.number, text, at, self.of_line(self.one("wanted")))
 
     def of_line(self, text):
-        """The id of a line that shows a definition, or is an id alone; None where it is neither."""
-        found = re.match(r"%(\d+)( = |$)", text)
+        """The id of a line that shows a definition, or begins with an id alone; None where it is neither."""
+        found = re.match(r"%(\d+)( = |, |$)", text)
         return int(found[1]) if found else None
+
+    def behind(self, text):
+        """The id of a line that shows a type, and what stands behind its definition or the id; none where it is no
+        definition."""
+        of = self.of_line(text)
+        full = None if of is None or of not in self.facts.first else self.facts.shown(self.facts.first[of])
+        for front in (full, f"%{of}"):
+            if front is not None and text.startswith(front) and self.is_definition(front):
+                return of, text[len(front) :]
+        return None, None
+
+    def is_read(self, text):
+        """Whether a line shows a type that a condition reads, and whose it is: of operands, or a part of one that was
+        told."""
+        told = set(self.types_told)
+        of, whose = self.behind(text)
+        if of is None or of not in conditions.types_at(self.facts, self.number):
+            return False
+        found = owners.places(self.facts, self.number, of)
+        if found:
+            return whose == owners.owners(self.facts, self.number, found)
+        return whose == owners.ABOVE and any(of in self.facts.types.rest(it) for it in told)
+
+    def is_compared(self, text, at):
+        """Whether a line shows a type that is compared, and whose it is: what is wanted of other operands than the one
+        at which the condition fails, what is found of that one."""
+        of, whose = self.behind(text)
+        operand = self.operand() if self.one("operand") else None
+        found = [it for it in owners.places(self.facts, self.number, of) if (it == operand) == (at == 1)]
+        return of is not None and whose == owners.owners(self.facts, self.number, found)
+
+    def due_size(self):
+        """How many parts the type has that is found, None where that is not told."""
+        name = conditions.WORDS[self.one("condition")]
+        return owners.size(self.facts, self.of_line(self.one("found"))) if name in owners.SIZED else None
+
+    def is_size(self, text):
+        return text == str(self.due_size())
 
     def is_definition(self, text):
         """Whether a line shows the definition of its id, or of an id whose definition was told is that id."""
@@ -492,12 +534,9 @@ class Judge(ToldOfTargets, extended.ToldOfCalls):
         return text == full or is_told and text == f"%{of}"
 
     def is_type(self, text):
-        of = self.of_line(text)
-        if not self.is_definition(text):
-            return False
         if self.code in ("Y6", "Y8"):
-            return of == self.asked()
-        return of in conditions.types_at(self.facts, self.number)
+            return self.is_definition(text) and self.of_line(text) == self.asked()
+        return self.is_read(text)
 
     def asked(self):
         """The id that is asked as the type of a function."""
@@ -538,7 +577,7 @@ class Judge(ToldOfTargets, extended.ToldOfCalls):
 
     def is_side(self, text, at):
         if self.code in ("Y2", "Y4", "Y5"):
-            return self.is_definition(text)
+            return self.is_compared(text, at)
         wanted = self.sides()
         if wanted[0] == wanted[1]:
             return False
@@ -615,10 +654,10 @@ class Judge(ToldOfTargets, extended.ToldOfCalls):
         return first == self.caller() and self.is_chain(steps, {callee}, first)
 
 
-def judged(grammar, sentences, content, lines, is_full=False, is_extended=False):
-    """What is untrue in the lines that `explain` writes of a module, in full or not, with the operands of extended
-    instructions or without, and its facts."""
-    facts = Facts(grammar, content, is_extended)
+def judged(grammar, sentences, content, lines, is_full=False, profile=Profile.OWN):
+    """What is untrue in the lines that `explain` writes of a module, in full or not, by how far it is looked at, and
+    its facts."""
+    facts = Facts(grammar, content, profile)
     verdict = facts.broken.line if facts.broken else "valid"
     if lines[:1] != [verdict]:
         return facts, [], [f"{lines[:1]}, and not {verdict}"]

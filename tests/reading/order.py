@@ -2,9 +2,12 @@
 
 import re
 from collections import defaultdict
+from functools import lru_cache
 from itertools import chain
 
+from . import opencl
 from .decode import Broken
+from .profiles import Profile
 
 # Opcodes, whether a block's body may have them, and the shape.
 SHAPES = (
@@ -73,6 +76,8 @@ SHAPES = (
     ("256 257", True, "v W"),
     ("330", False, "S"),
 )
+# The kinds of operands that are masks; those that are named otherwise are values.
+MASKS = ("FunctionControl", "MemoryAccess", "LoopControl", "SelectionControl", "ImageOperands")
 SORTS = {"T": "Type", "R": "Result", "W": "Word", "N": "Number", "S": "Text"}
 ROLES = dict(zip("tvfselgacm", "type value function string set label global any value value".split()))
 # The sorts of the operands behind the number of an OpExtInst: where they are looked at, those of OpenCL.std are
@@ -80,7 +85,7 @@ ROLES = dict(zip("tvfselgacm", "type value function string set label global any 
 UNSEEN = ("Id", "Argument", "Mention")
 LINES = (8, 317)
 ENDS = (249, 250, 251, 253, 254, 255)
-SECTIONS = (
+OF_PROFILE = (
     {17},
     {10},
     {11},
@@ -93,7 +98,8 @@ SECTIONS = (
     {71, 72},
     {19, 20, 21, 22, 23, 28, 30, 31, 32, 33, 39, 41, 42, 43, 44, 46, 48, 49, 50, 51, 59, 1},
 )
-MODEL, DECLARED = 3, 10
+SECTIONS = tuple(it | opencl.MORE_IN_SECTIONS.get(at, set()) for at, it in enumerate(OF_PROFILE))
+MODEL, DECLARED = 3, opencl.DECLARED
 BEGIN = ("section", 0)
 
 
@@ -104,8 +110,15 @@ def opcodes_in(text):
         yield from range(int(first), int(last or first) + 1)
 
 
-SHAPE_OF = {code: shape for codes, _, shape in SHAPES for code in opcodes_in(codes)}
-IN_BODY = {code for codes, is_body, _ in SHAPES if is_body for code in opcodes_in(codes)}
+PROFILE = {code for codes, _, _ in SHAPES for code in opcodes_in(codes)}
+ALL_SHAPES = (*SHAPES, *opencl.SHAPES)
+SHAPE_OF = {code: shape for codes, _, shape in ALL_SHAPES for code in opcodes_in(codes)}
+IN_BODY = {code for codes, is_body, _ in ALL_SHAPES if is_body for code in opcodes_in(codes)}
+
+
+def opcodes_of(profile):
+    """The opcodes that have a row, by how far a module is looked at."""
+    return SHAPE_OF.keys() if profile == Profile.OPENCL else PROFILE
 
 
 # What a letter of a shape is called.
@@ -113,20 +126,36 @@ CALLED = dict(zip("TRWNSx", ("result type", "result", "word", "number", "string"
 CALLED.update(ROLES)
 
 
-def row_text(opcode):
+def row_text(opcode, profile=Profile.OWN):
     """The operands of the row of an opcode, in words."""
-    if opcode not in SHAPE_OF:
+    if opcode not in opcodes_of(profile):
         return "none"
     texts = []
-    for part in re.findall(r"\(.*?\)\*|\[.*?\]|\S+", SHAPE_OF[opcode]):
-        words = ["file" if part == "s?" else CALLED.get(it, it) for it in part.strip("()[]*?").replace("+", "").split()]
+    for part in parts_of(SHAPE_OF[opcode]):
+        words = ["file" if part == "s?" else CALLED.get(it, it) for it in words_in(part)]
         said = ", ".join(words)
         if part.endswith("*"):
             said = f"any number of: {said}"
         elif part.endswith(("?", "]")):
             said = f"{said} or nothing"
-        texts += [said] + ["any others"] * ("+" in part)
+        texts += [said] + ["any others"] * ("+" in part) + ["any number of: value"] * part.endswith(VALUES)
     return ", ".join(texts) or "no operands"
+
+
+# The end of a part that is a mask or nothing, with any number of values behind the mask.
+VALUES = " v*]"
+
+
+@lru_cache(maxsize=None)
+def parts_of(shape):
+    """The parts of a shape: what stands in brackets, and each word by itself."""
+    return re.findall(r"\(.*?\)\*|\[.*?\]|\S+", shape)
+
+
+@lru_cache(maxsize=None)
+def words_in(part):
+    """The words of a part of a shape, without those values."""
+    return part.replace(VALUES, "").strip("()[]*?").replace("+", "").split()
 
 
 def letter(operand, wanted):
@@ -137,42 +166,56 @@ def letter(operand, wanted):
         return operand[0] in UNSEEN
     if len(wanted) == 1:
         return operand[0] == "Id"
-    return operand[0] in ("Value", "Mask") and operand[1] == wanted.rstrip("+")
+    name = wanted.rstrip("+")
+    return operand[0] == ("Mask" if name in MASKS else "Value") and operand[1] == name
 
 
 def role_of(wanted, operand):
     """The role of an operand that one word of a shape asks for, None where it is no use."""
     if wanted == "x":
         return "value" if operand[0] == "Argument" else None
+    if wanted == "+":
+        return "any" if operand[0] == "Id" else None
     return "type" if wanted == "T" else ROLES.get(wanted)
 
 
-def uses_by(shape, operands):
-    """The roles of the operands by a shape, None for those that are no use; or None if they differ."""
-    roles, at = [], 0
-    for part in re.findall(r"\(.*?\)\*|\[.*?\]|\S+", shape):
-        words = part.strip("()[]*?").replace("+", "").split()
+def taken(shape, operands):
+    """The word of the shape that each operand stands for, `+` of those that it lets follow; or None if they differ."""
+    found, at = [], 0
+    for part in parts_of(shape):
+        words = words_in(part)
         is_many, is_optional, took = part.endswith("*"), part[-1] in "*?]", False
         while is_many or not took:
             now = operands[at : at + len(words)]
             if len(now) < len(words) or not all(map(letter, now, words)):
                 break
-            roles += map(role_of, words, now)
+            found += words
             at, took = at + len(words), True
         if not took and not is_optional:
             return None
         while "+" in part and took and at < len(operands):
             if operands[at][0] in ("Type", "Result"):
                 return None
-            roles.append("any" if operands[at][0] == "Id" else None)
+            found.append("+")
             at += 1
-    return roles if at == len(operands) else None
+        while part.endswith(VALUES) and took and at < len(operands) and letter(operands[at], "v"):
+            found.append("v")
+            at += 1
+    return found if at == len(operands) else None
+
+
+def uses_by(shape, operands):
+    """The roles of the operands by a shape, None for those that are no use; or None if they differ."""
+    words = taken(shape, operands)
+    return None if words is None else list(map(role_of, words, operands))
 
 
 def uses(inst):
     """The ids that an instruction uses, each with its role."""
-    roles = uses_by(SHAPE_OF[inst.opcode], inst.operands)
-    return [(it[1], role) for it, role in zip(inst.operands, roles) if role]
+    if inst.used is None:
+        roles = uses_by(SHAPE_OF[inst.opcode], inst.operands)
+        inst.used = [(it[1], role) for it, role in zip(inst.operands, roles) if role]
+    return inst.used
 
 
 def mentions(inst):
@@ -181,10 +224,10 @@ def mentions(inst):
     return [it[1] for it in inst.operands if it[0] == "Mention"]
 
 
-def check_shapes(insts):
+def check_shapes(insts, profile=Profile.OWN):
+    known = opcodes_of(profile)
     for number, inst in enumerate(insts):
-        shape = SHAPE_OF.get(inst.opcode)
-        if shape is None or uses_by(shape, inst.operands) is None:
+        if inst.opcode not in known or uses_by(SHAPE_OF[inst.opcode], inst.operands) is None:
             raise Broken("P1", number, inst.word)
 
 
@@ -211,9 +254,11 @@ def in_block(state, opcode):
     return {246: ("merge", (249, 250)), 247: ("merge", (250, 251))}.get(opcode)
 
 
-def after(state, opcode):
+def after(state, opcode, profile=Profile.OWN):
     """What comes after an instruction of the layout, or None where it can't stand there."""
     name, what = state
+    if opcode == opencl.EXTENDED and profile == Profile.OPENCL:
+        return state if name in opencl.PASSED else after_section(what, LINES[0]) if name == "section" else None
     if name == "section":
         return after_section(what, opcode)
     if name == "merge":
@@ -235,7 +280,7 @@ MOST_NAMES = 8
 KINDS = {
     "a source": {7, 3, 4, 2},
     "a name": {5, 6},
-    "a decoration": {71, 72},
+    "a decoration": SECTIONS[opencl.DECORATIONS],
     "a type or constant": SECTIONS[DECLARED] - {59, 1},
     "a variable": {59},
     "an instruction of a block": IN_BODY - {1},
@@ -249,6 +294,7 @@ ALONE = {
     14: "OpMemoryModel",
     15: "OpEntryPoint",
     16: "OpExecutionMode",
+    331: "OpExecutionModeId",
     17: "OpCapability",
     54: "OpFunction",
     55: "OpFunctionParameter",
@@ -271,15 +317,15 @@ def may_end(state):
     return state[0] == "between" or state[0] == "section" and state[1] >= MODEL
 
 
-def may_come(state):
+def may_come(state, profile=Profile.OWN):
     """The opcodes that may come at a state of the layout, in order."""
-    return [it for it in sorted(SHAPE_OF) if after(state, it) is not None]
+    return [it for it in sorted(opcodes_of(profile)) if after(state, it, profile) is not None]
 
 
-def check_layout(insts):
+def check_layout(insts, profile=Profile.OWN):
     state = BEGIN
     for number, inst in enumerate(insts):
-        state = after(state, inst.opcode)
+        state = after(state, inst.opcode, profile)
         if state is None:
             raise Broken("L1", number, inst.word)
     if not may_end(state):
@@ -308,7 +354,7 @@ class Places:
                 inside, seen = number, True
             self.function.append(inside)
             if not seen:
-                found = DECLARED if inst.opcode in LINES else None
+                found = DECLARED if inst.opcode in (*LINES, opencl.EXTENDED) else None
                 section = max(section, found or next(at for at, it in enumerate(SECTIONS) if inst.opcode in it))
             self.section.append(11 if seen else section)
             if inst.opcode == 56:

@@ -1,16 +1,34 @@
-"""Roles, capabilities and types: rules Y1, C1, C2, M1, E1, E2 and Y2 to Y8."""
+"""Roles, capabilities and types: rules Y1, C1, C2, M1, E1, E2 and Y2 to Y8.
 
-from functools import partial
+What `--opencl` adds to the tables of types and operations is in objects.py.
+"""
 
+from functools import cached_property, partial
+
+from . import objects
 from .decode import Broken
-from .order import opcodes_in, uses
+from .forms import (
+    ARRAY,
+    BOOL,
+    CONSTANTS,
+    DATA,
+    FLOAT,
+    FUNCTION,
+    INT,
+    NULLABLE,
+    OPAQUE,
+    PLAIN,
+    POINTER,
+    SCALARS,
+    SPECIAL,
+    STRUCT,
+    TYPES,
+    UNLIKE,
+    VECTOR,
+    VOID,
+)
+from .order import SHAPE_OF, opcodes_in, taken, uses
 
-VOID, BOOL, INT, FLOAT, VECTOR, ARRAY, STRUCT, OPAQUE, POINTER, FUNCTION = 19, 20, 21, 22, 23, 28, 30, 31, 32, 33
-SCALARS = (BOOL, INT, FLOAT)
-DATA = (*SCALARS, VECTOR, ARRAY, STRUCT, POINTER)
-CONSTANTS = (41, 42, 43, 44, 46)
-SPECIAL = (48, 49, 50, 51)
-UNLIKE = (VOID, BOOL, INT, FLOAT, VECTOR, OPAQUE, FUNCTION)
 NEEDED = {(INT, 16): (22,), (INT, 64): (11,), (FLOAT, 64): (10,), (FLOAT, 16): (8, 9)}
 
 
@@ -32,7 +50,7 @@ class Types:
 
     def form(self, of):
         found = self.definition(of)
-        return found.opcode if found and VOID <= found.opcode <= FUNCTION else None
+        return found.opcode if found and found.opcode in TYPES else None
 
     def rest(self, of):
         """What the operands of a type's declaration hold after its result."""
@@ -44,6 +62,22 @@ class Types:
 
     def is_data(self, of):
         return self.form(of) in DATA
+
+    def is_plain(self, of):
+        return self.form(of) in PLAIN
+
+    @cached_property
+    def nullable(self):
+        """The types of which there is a null constant. By their order: a part that is declared later is a pointer."""
+        found = set()
+        for number, inst in enumerate(self.insts):
+            of = inst.result
+            if of is None or self.definitions[of] != number or self.form(of) not in DATA:
+                continue
+            parts = self.rest(of)[:1] if inst.opcode == ARRAY else self.rest(of) if inst.opcode == STRUCT else []
+            if inst.opcode in NULLABLE and all(it in found or self.definitions[it] > number for it in parts):
+                found.add(of)
+        return found
 
     def shape(self, of):
         """The opcode of the scalar, its width, and how many; of bool the width is 0."""
@@ -107,7 +141,7 @@ def plays(types, role, of):
     found = types.definition(of)
     number = types.definitions.get(of)
     return {
-        "type": VOID <= found.opcode <= FUNCTION,
+        "type": found.opcode in TYPES,
         "value": found.type is not None and found.opcode != 54,
         "function": found.opcode == 54,
         "string": found.opcode == 7,
@@ -129,6 +163,8 @@ def is_capable(types, inst):
         needed = NEEDED.get((inst.opcode, inst.operands[1][1]), ())
     if inst.opcode == VECTOR and inst.operands[2][1] in (8, 16):
         needed = (7,)
+    if not all(it in types.implied for it in objects.needed(inst)):
+        return False
     return all(map(types.is_covered, listed)) and (not needed or any(it in types.implied for it in needed))
 
 
@@ -140,7 +176,7 @@ def is_entry_sound(types, number, inst):
         at = types.definitions[function]
         called = any(it.opcode == 57 and it.operands[2][1] == function for it in insts)
         return inst.operands[0][2] == 6 and is_defined(types, at) and types.form(insts[at].type) == VOID and not called
-    if inst.opcode == 16:
+    if inst.opcode in (16, 331):
         return any(it.opcode == 15 and it.operands[1][1] == inst.operands[0][1] for it in insts)
     if inst.opcode == 54:
         imported = any(it.opcode == 71 and it.operands[0][1] == inst.result and is_import(it) for it in insts)
@@ -169,6 +205,8 @@ def is_declaration_sound(types, number, inst):
     if inst.opcode == 39:
         of, (_, _, kind) = inst.operands[0][1], inst.operands[1]
         return types.form(of) == POINTER and types.definitions[of] > number and types.pointer(of)[0] == kind
+    if inst.opcode in objects.DECLARED:
+        return objects.DECLARED[inst.opcode](types, types.rest(inst.result))
     rest = types.rest(inst.result) if inst.opcode in (INT, FLOAT, VECTOR, ARRAY, STRUCT, POINTER, FUNCTION) else []
     if inst.opcode == INT:
         return rest[0] in (8, 16, 32, 64) and rest[1] == 0
@@ -200,7 +238,9 @@ def is_constant_sound(types, inst):
         width = types.rest(of)[0]
         return width >= 32 or inst.operands[2][1] >> width == 0
     if inst.opcode == 46:
-        return types.is_data(of)
+        return of in types.nullable
+    if inst.opcode in objects.CONSTANT:
+        return objects.CONSTANT[inst.opcode](types, inst)
     if inst.opcode in (44, 51):
         given = [it[1] for it in inst.operands[2:]]
         count, part = types.parts(of)
@@ -319,7 +359,8 @@ def constructed(types, inst):
 def is_atomic_sound(types, inst, tags):
     code, r = inst.opcode, inst.type
     ids = [it[1] for it in inst.operands if it[0] == "Id"]
-    orders = {230: ids[1:4]}.get(code, ids[1:3])
+    exchanges = code in (230, 231)
+    orders = ids[1:4] if exchanges else ids[1:3]
     if any(types.form(types.type_of(it)) != INT or types.rest(types.type_of(it))[0] != 32 for it in orders):
         return False
     pointed = types.pointer(tags[0])[1]
@@ -328,7 +369,7 @@ def is_atomic_sound(types, inst, tags):
         return pointed is not None and pointed == last and types.form(last) in (INT, FLOAT)
     if pointed is None or pointed != r or types.form(r) not in ((INT, FLOAT) if code in (227, 229) else (INT,)):
         return False
-    return code in (227, 232, 233) or last == r and (code != 230 or tags[-2] == r)
+    return code in (227, 232, 233) or last == r and (not exchanges or tags[-2] == r)
 
 
 def same(types, scalar, inst, tags):
@@ -361,7 +402,7 @@ def generic(types, inst, tags, is_back):
 
 
 def selected(types, inst, tags):
-    if not (tags[1] == tags[2] == inst.type and types.is_data(inst.type)):
+    if not (tags[1] == tags[2] == inst.type and types.is_plain(inst.type)):
         return False
     is_wide = types.form(inst.type) == VECTOR and types.form(tags[0]) == VECTOR and types.is_of(BOOL, tags[0])
     return types.form(tags[0]) == BOOL or is_wide and types.parts(tags[0])[0] == types.parts(inst.type)[0]
@@ -401,6 +442,8 @@ def is_typed(types, number, inst):
         return ROWS[code](types, inst, tags)
     if code == 59:
         return variable(types, number, inst)
+    if code in objects.ROWS:
+        return objects.is_row(types, number, inst, taken(SHAPE_OF[code], inst.operands))
     return True
 
 
@@ -443,7 +486,7 @@ def rows():
     by("180-191", lambda t, i, o: compared(t, FLOAT, i, o))
     by("194-196", shifted)
     by("224 225", lambda t, i, o: all(t.form(it) == INT and t.rest(it)[0] == 32 for it in o))
-    by("227-230 232-242", is_atomic_sound)
+    by("227-242", is_atomic_sound)
     by("245", lambda t, i, o: t.is_data(i.type) and all(it == i.type for it in o))
     by("250", lambda t, i, o: t.form(o[0]) == BOOL and len(i.operands) in (3, 5))
     by("251", lambda t, i, o: t.form(o[0]) == INT)

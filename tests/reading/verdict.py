@@ -6,6 +6,7 @@ from .decode import Broken, Grammar, instructions, words_of
 from .extended import check_miscalls, opened
 from .flow import check_flow
 from .order import check_ids, check_layout, check_shapes
+from .profiles import Profile
 from .types import check_types
 
 
@@ -14,21 +15,21 @@ def grammar_in(path):
     return Grammar(json.loads(path.read_text(encoding="utf-8")))
 
 
-def verdict(grammar, content, has_types=True, has_flow=True, is_extended=False):
-    """The verdict line on a module, without its line feed, with or without the last stages, and with the operands of
-    extended instructions or without."""
+def verdict(grammar, content, has_types=True, has_flow=True, profile=Profile.OWN):
+    """The verdict line on a module, without its line feed, with or without the last stages, by how far it is looked
+    at."""
     try:
-        words = words_of(content)
+        words = words_of(content, profile)
         insts = instructions(grammar, words)
-        insts = opened(insts) if is_extended else insts
-        check_shapes(insts)
-        check_layout(insts)
+        insts = opened(insts) if profile >= Profile.EXTENDED else insts
+        check_shapes(insts, profile)
+        check_layout(insts, profile)
         definitions, places, local = check_ids(insts, words[3])
         if has_types:
             check_types(grammar, insts, definitions, places)
         if has_flow:
-            check_flow(insts, local)
-        if is_extended:
+            check_flow(insts, local, words[1])
+        if profile >= Profile.EXTENDED:
             check_miscalls(insts)
     except Broken as broken:
         return broken.line

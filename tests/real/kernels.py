@@ -1,6 +1,7 @@
 """Random kernels in OpenCL C, of what the profile has rules for: arithmetic on all widths and vectors, conversions,
 calls of functions and of OpenCL.std, arrays, a structure, branches, loops, switches, atomics and barriers. What the
-profile leaves out is left out here: bits are not counted, and no conversion saturates."""
+profile leaves out comes where it is asked for: images, copies that a group waits for, what groups find together, tests
+of floats, products of vectors, counts of bits, conversions that saturate."""
 
 import random
 from dataclasses import dataclass
@@ -17,6 +18,22 @@ EFFECTS = (
     "atomic_inc(counter);",
     "atomic_add(counter, (int)at);",
     "atomic_cmpxchg(counter, 1, 2);",
+)
+# The same of what `--opencl` takes besides.
+MORE_OF_INTEGERS = {"popcount": 1, "add_sat": 2, "hadd": 2, "abs_diff": 2}
+GROUPED = ("reduce_add", "reduce_min", "reduce_max", "scan_inclusive_add", "scan_exclusive_max", "scan_inclusive_min")
+TESTS_OF_ONE = ("isnan", "isinf", "isfinite", "isnormal", "signbit")
+TESTS_OF_TWO = ("isordered", "isunordered", "islessgreater", "isequal", "isless", "isgreaterequal")
+MORE_EFFECTS = (
+    "work_group_barrier(CLK_GLOBAL_MEM_FENCE, memory_scope_device);",
+    "if (!atomic_flag_test_and_set(flag)) atomic_flag_clear(flag);",
+    "{ int old = 1; atomic_compare_exchange_weak(exact, &old, (int)at); out[old & 255] += 1; }",
+    "{ event_t got = async_work_group_copy(shared, (global uint *)out, 32, 0); wait_group_events(1, &got); }",
+    "write_imagef(drawn, (int2)((int)at & 7, 1), read_imagef(seen, chosen, (float2)(first, 0.5f)));",
+    "write_imagef(drawn, (int2)(3, (int)at & 7), read_imagef(seen, kept, (int2)(number, 2)));",
+    "out[1] += get_image_width(seen) + get_image_height(drawn) + get_image_channel_order(seen);",
+    "if (work_group_all(number > 3) || work_group_any(number < 0)) out[2] += 1;",
+    "prefetch(out + 8, 4);",
 )
 # How many expressions stand in one another, and how many statements.
 DEPTH = 2
@@ -49,9 +66,9 @@ INT = Type("int")
 class Kernel:
     """The text of a kernel file that a seed gives."""
 
-    def __init__(self, seed):
+    def __init__(self, seed, has_more=False):
         self.chance = random.Random(seed)
-        self.count = 0
+        self.count, self.has_more = 0, has_more
         self.functions = []
 
     def fresh(self):
@@ -77,6 +94,8 @@ class Kernel:
             return self.leaf(of, known)
         forms = [self.operation, self.operation, self.call, self.conversion]
         forms += [self.choice, self.component] if of.width == 1 else [self.shuffle]
+        if self.has_more:
+            forms += [self.more_calls, self.saturated, self.more_calls] + ([self.scalar] if of.width == 1 else [])
         return f"({of})({self.chance.choice(forms)(of, known, depth - 1)})"
 
     def operation(self, of, known, depth):
@@ -96,6 +115,54 @@ class Kernel:
     def conversion(self, of, known, depth):
         other = Type(self.chance.choice(INTEGERS + FLOATS), of.width)
         return f"convert_{of}({self.expression(other, known, depth)})"
+
+    def more_calls(self, of, known, depth):
+        """A call of what the profile leaves out."""
+        if of.is_float():
+            return self.product(of, known, depth) if of.width == 1 else self.blended(of, known, depth)
+        name = self.chance.choice(list(MORE_OF_INTEGERS))
+        given = ", ".join(self.expression(of, known, depth) for _ in range(MORE_OF_INTEGERS[name]))
+        return f"convert_{of}({name}({given}))" if name == "abs_diff" else f"{name}({given})"
+
+    def product(self, of, known, depth):
+        vector = Type(of.scalar, self.chance.choice((2, 3, 4)))
+        one, other = (self.expression(vector, known, depth) for _ in range(2))
+        return f"dot({one}, {other})"
+
+    def blended(self, of, known, depth):
+        """A float of vectors by a test of each component."""
+        one, other = (self.expression(of, known, depth) for _ in range(2))
+        return f"select({one}, {other}, {self.test(one, other)})"
+
+    def test(self, one, other):
+        """A test of floats, for each component."""
+        if self.chance.random() < 0.5:
+            return f"{self.chance.choice(TESTS_OF_ONE)}({one})"
+        return f"{self.chance.choice(TESTS_OF_TWO)}({one}, {other})"
+
+    def scalar(self, of, known, depth):
+        """A number of a test of a whole vector."""
+        vector = Type(self.chance.choice(FLOATS), self.chance.choice((1, 2, 4)))
+        one, other = (self.expression(vector, known, depth) for _ in range(2))
+        told = self.test(one, other)
+        return f"({of})({self.chance.choice(('any', 'all'))}({told}))" if vector.width > 1 else f"({of})({told})"
+
+    def saturated(self, of, known, depth):
+        if of.is_float():
+            return self.conversion(of, known, depth)
+        other = Type(self.chance.choice(INTEGERS + FLOATS), of.width)
+        return f"convert_{of}_sat({self.expression(other, known, depth)})"
+
+    def grouped(self, known, _):
+        """What a group finds together of a number."""
+        scalar = self.chance.choice(("int", "uint", "long", "ulong", "float", "double"))
+        it = Variable(self.fresh(), Type(scalar))
+        line = f"{it.type} {it.name} = work_group_{self.chance.choice(GROUPED)}({self.expression(it.type, known, 1)});"
+        known.append(it)
+        return [line]
+
+    def more_effect(self, *_):
+        return [self.chance.choice(MORE_EFFECTS)]
 
     def choice(self, of, known, depth):
         one, other = (self.expression(of, known, depth) for _ in range(2))
@@ -120,6 +187,8 @@ class Kernel:
         for _ in range(self.chance.randrange(1, 5)):
             forms = [self.definition, self.definition, self.assignment, self.output, self.effect]
             forms += [self.array, self.result]
+            if self.has_more and nested == NESTED:
+                forms += [self.grouped, self.more_effect]
             if nested:
                 forms += [self.branch, self.loop, self.countdown, self.switch]
             if is_looped:
@@ -204,9 +273,15 @@ class Kernel:
         for _ in range(self.chance.randrange(4)):
             lines += self.function()
         space = self.chance.choice(("global", "constant"))
+        more = ""
+        if self.has_more:
+            kept = "CLK_NORMALIZED_COORDS_FALSE | CLK_ADDRESS_CLAMP | CLK_FILTER_NEAREST"
+            lines.append(f"constant sampler_t kept = {kept};")
+            more = ", read_only image2d_t seen, write_only image2d_t drawn, sampler_t chosen"
+            more += ", volatile global atomic_flag *flag, volatile global atomic_int *exact"
         lines += [
             f"kernel void random(global int *out, {space} const float *in, global volatile int *counter,",
-            "                   local uint *shared, float4 vector, int number)",
+            f"                   local uint *shared, float4 vector, int number{more})",
             "{",
             "size_t at = get_global_id(0), beside = get_local_id(0);",
             "shared[beside & 63] = (uint)at;",

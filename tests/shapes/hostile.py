@@ -10,6 +10,7 @@ from .graphs import immediate_dominators, random_targets
 from .module import (
     ENTRY,
     FUNCTION_TYPE,
+    GREATEST_BOUND,
     INT,
     KERNEL,
     LONGEST,
@@ -549,6 +550,85 @@ def many_sets(module):
     closed(module)
 
 
+def scattered_labels(module):
+    """Blocks of one instruction, four words each, whose labels are ids at random."""
+    module.scatter(random.Random(SEED))
+    opened(module)
+    kernel(module)
+    while module.room() > 4:
+        label = module.fresh()
+        jump(module, label)
+        begun(module, label)
+    closed(module)
+
+
+def scattered_chain(module):
+    """A chain of blocks, each of which uses the value of the one before, with ids at random."""
+    module.scatter(random.Random(SEED))
+    reducible_chain(module)
+
+
+def scattered_diamonds(module):
+    """Diamonds with a phi at the end of each, of values of both sides, with ids at random."""
+    module.scatter(random.Random(SEED))
+    opened(module)
+    kernel(module)
+    value = add(module, ONE)
+    while module.room() > 64:
+        one, other, end, joined = (module.fresh() for _ in range(4))
+        fork(module, one, other)
+        begun(module, one)
+        left = add(module, value)
+        jump(module, end)
+        begun(module, other)
+        right = add(module, value)
+        jump(module, end)
+        begun(module, end)
+        module.put(op.PHI, INT, joined, left, one, right, other)
+        value = joined
+    closed(module)
+
+
+def scattered_waves(module):
+    """Sections of waves behind two blocks that lead to each other, with ids at random."""
+    module.scatter(random.Random(SEED))
+    irreducible_waves(module)
+
+
+def scattered_waves_fault(module):
+    """A1: one section of waves and a long tail, whose last block uses the value that is lost first, with ids at
+    random."""
+    module.scatter(random.Random(SEED))
+    waves_fault(module)
+
+
+def scattered_few_waves_fault(module):
+    """A1: the same of few values, all but the last of which the last block uses, with ids at random."""
+    module.scatter(random.Random(SEED))
+    few_waves_fault(module)
+
+
+# How many ids lie side by side, and then how far the next ones are, where rows of ids far apart are to be full.
+CLUSTER, APART = 64, 4_096
+
+
+def clustered_labels(module):
+    """Blocks of one instruction whose labels lie side by side, as many as a row of ids has, and then far apart."""
+    opened(module)
+    kernel(module)
+    chance, count = random.Random(SEED), module.room() // 4
+    begins = range(APART, GREATEST_BOUND - CLUSTER, min(APART, GREATEST_BOUND * CLUSTER // (count + 1)))
+    ids = [begin + at for begin in begins for at in range(CLUSTER)][:count]
+    chance.shuffle(ids)
+    for label in ids:
+        if module.room() <= 4:
+            break
+        jump(module, label)
+        begun(module, label)
+    closed(module)
+    module.next = GREATEST_BOUND
+
+
 HOSTILE = {
     shape.__name__.replace("_", "-"): shape
     for shape in (
@@ -571,5 +651,12 @@ HOSTILE = {
         random_fault,
         printfs,
         many_sets,
+        scattered_labels,
+        scattered_chain,
+        scattered_diamonds,
+        scattered_waves,
+        scattered_waves_fault,
+        scattered_few_waves_fault,
+        clustered_labels,
     )
 }

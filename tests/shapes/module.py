@@ -19,6 +19,12 @@ class Module:
         self.words = array("I", [0x07230203, 0x00010600, 0, 0, 0])
         self.most = most_words
         self.next = FIRST_FREE
+        # What chooses ids at random, and those that were chosen; None where ids come one after another.
+        self.chance, self.chosen = None, set()
+
+    def scatter(self, chance):
+        """Has ids chosen at random from here on, up to the greatest bound."""
+        self.chance = chance
 
     def put(self, opcode, *operands):
         """Adds an instruction."""
@@ -27,8 +33,18 @@ class Module:
 
     def fresh(self):
         """An id that no instruction has yet."""
+        if self.chance is not None:
+            return self.scattered()
         self.next += 1
         return self.next - 1
+
+    def scattered(self):
+        """An id at random that no instruction has yet."""
+        while True:
+            chosen = self.chance.randrange(self.next, GREATEST_BOUND)
+            if chosen not in self.chosen:
+                self.chosen.add(chosen)
+                return chosen
 
     def room(self):
         """How many words may still come, if a few are kept for the end."""
@@ -36,7 +52,7 @@ class Module:
 
     def write(self, path):
         """Writes the module in little order, with its bound."""
-        self.words[3] = self.next
+        self.words[3] = self.next if self.chance is None else GREATEST_BOUND
         if sys.byteorder == "big":
             self.words.byteswap()
         path.write_bytes(self.words.tobytes())

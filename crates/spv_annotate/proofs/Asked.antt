@@ -1,5 +1,6 @@
 -- The first instruction that defines an id, if it is asked for.
-use Rattle.std.proofs.Common.{◌≡◌, ◌≤◌, ◌<◌, ◌+◌, ◌-◌, ◌∙◌, ℕ, zero, suc, List, [], ◌∷◌, Option, Some, None, Bool, true, false, length, nat_eq, refl, sym, ap, subst, arith}
+use Rattle.std.proofs.Common.{◌≡◌, ◌≤◌, ◌<◌, ◌+◌, ◌-◌, ◌∙◌, ℕ, zero, suc, List, [], ◌∷◌, Option, Some, None, Bool, true}
+use Rattle.std.proofs.Common.{false, length, nat_eq, refl, sym, ap, subst, arith}
 use Rattle.std.specs.Prelude.{◌&&◌, if◌then◌else◌, nat_lt, option_and_then, slice_get}
 use Rattle.std.specs.List.{position_from}
 use Rattle.std.proofs.lemmas.Bool.Decides.{nat_tests}
@@ -28,7 +29,8 @@ passed_by : {A : Type 0} (p : A → Bool) (xs : List A) (k n : ℕ) → position
 passed_by p [] k n e = absurd cc
 passed_by {A} p (y ∷ ys) k n e = by (p y) refl (λ f. passed_by p ys (k + 1) n f)
   where
-    by : (b : Bool) → p y ≡ b → (position_from p (k + 1) ys ≡ Some n → IsPassed p ys (k + 1) n) → IsPassed p (y ∷ ys) k n
+    by : (b : Bool) → p y ≡ b → (position_from p (k + 1) ys ≡ Some n → IsPassed p ys (k + 1) n)
+        → IsPassed p (y ∷ ys) k n
     by true f g =
         (let a : Some k ≡ Some n = rw f at e in
         let b : k ≡ n = cc in
@@ -36,7 +38,8 @@ passed_by {A} p (y ∷ ys) k n e = by (p y) refl (λ f. passed_by p ys (k + 1) n
         record {
           behind = omega (arith, b);
           within = omega (arith, b);
-          passed = λ x s. let t : slice_get (y ∷ ys) 0 ≡ Some x = subst (λ m. slice_get (y ∷ ys) m ≡ Some x) z s in let i : y ≡ x = cc in subst (λ (w : A). p w ≡ true) i f;
+          passed = λ x s. let t : slice_get (y ∷ ys) 0 ≡ Some x = subst (λ m. slice_get (y ∷ ys) m ≡ Some x) z s in
+              let i : y ≡ x = cc in subst (λ (w : A). p w ≡ true) i f;
         })
     by false f g =
         (let r = g (rw f at e) in
@@ -50,7 +53,8 @@ passed_by {A} p (y ∷ ys) k n e = by (p y) refl (λ f. passed_by p ys (k + 1) n
         })
 
 -- one instruction more, which is not asked for
-pub unasked_step : (is : List PlainInst) (asked : Option ℕ) (at : ℕ) (o : Option ℕ) → is_of is asked at ≡ false → asked_below is asked at o ≡ asked_below is asked (at + 1) o
+pub unasked_step : (is : List PlainInst) (asked : Option ℕ) (at : ℕ) (o : Option ℕ) → is_of is asked at ≡ false
+    → asked_below is asked at o ≡ asked_below is asked (at + 1) o
 unasked_step is asked at None h = refl
 unasked_step is asked at (Some n) h = by (nat_eq n at) refl
   where
@@ -66,7 +70,8 @@ unasked_step is asked at (Some n) h = by (nat_eq n at) refl
         rw s refl)
 
 -- one more, which is asked for
-pub asked_step : (is : List PlainInst) (asked : Option ℕ) (at x : ℕ) (id old new : Option ℕ) → at < length is → id ≡ result_in (inst_at is at).operands
+pub asked_step : (is : List PlainInst) (asked : Option ℕ) (at x : ℕ) (id old new : Option ℕ) → at < length is
+    → id ≡ result_in (inst_at is at).operands
     → old ≡ asked_below is asked at (definition_of is x)
     → new ≡ (if is_number x id && is_number at (definition_of is x) then Some at else old)
     → is_of is asked at ≡ true → new ≡ asked_below is asked (at + 1) (definition_of is x)
@@ -78,7 +83,8 @@ asked_step is asked at x id old new l r before after h = by (definition_of is x)
 
     other : (o : Option ℕ) → definition_of is x ≡ o → is_number at o ≡ false → new ≡ asked_below is asked at o
     other o e f = after ∙ (ap (λ (p : Option ℕ). if is_number x id && is_number at p then Some at else old) e
-        ∙ (ap (λ (b : Bool). if is_number x id && b then Some at else old) f ∙ (never (is_number x id) ∙ (before ∙ ap (asked_below is asked at) e))))
+        ∙ (ap (λ (b : Bool). if is_number x id && b then Some at else old) f
+        ∙ (never (is_number x id) ∙ (before ∙ ap (asked_below is asked at) e))))
 
     here : (n : ℕ) → definition_of is x ≡ Some n → nat_eq n at ≡ true → new ≡ asked_below is asked (at + 1) (Some n)
     here n e f =
@@ -91,12 +97,14 @@ asked_step is asked at x id old new l r before after h = by (definition_of is x)
         let v : is_number at (definition_of is x) ≡ true = ap (is_number at) e ∙ f in
         let g : nat_lt n (at + 1) ≡ true = grind (arith, nat_tests) in
         let k : is_of is asked n ≡ true = rw s h in
-        let w : new ≡ Some at = after ∙ (ap (λ (b : Bool). if b && is_number at (definition_of is x) then Some at else old) u
+        let w : new ≡ Some at = after ∙ (ap
+        (λ (b : Bool). if b && is_number at (definition_of is x) then Some at else old) u
         ∙ ap (λ (b : Bool). if b then Some at else old) v) in
         let m : Some at ≡ asked_below is asked (at + 1) (Some n) = rw (g, k) (ap Some (sym s)) in
         w ∙ m)
 
-    same : (n : ℕ) (b : Bool) → definition_of is x ≡ Some n → nat_eq n at ≡ b → new ≡ asked_below is asked (at + 1) (Some n)
+    same : (n : ℕ) (b : Bool) → definition_of is x ≡ Some n → nat_eq n at ≡ b
+        → new ≡ asked_below is asked (at + 1) (Some n)
     same n true e f = here n e f
     same n false e f = other (Some n) e f ∙ (let s : nat_lt n (at + 1) ≡ nat_lt n at = same_below n at f in rw s refl)
 

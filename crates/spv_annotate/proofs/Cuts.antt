@@ -1,5 +1,6 @@
 -- Where a long name is cut.
-use Rattle.std.proofs.Common.{◌≡◌, ◌<◌, ◌≤◌, ◌+◌, ℕ, zero, suc, List, [], ◌∷◌, Bool, true, false, ◌&&◌, length, refl, subst, arith, inl, inr}
+use Rattle.std.proofs.Common.{◌≡◌, ◌<◌, ◌≤◌, ◌+◌, ℕ, zero, suc, List, [], ◌∷◌, Bool, true, false, ◌&&◌, length, refl}
+use Rattle.std.proofs.Common.{subst, arith, inl, inr}
 use Rattle.std.specs.Prelude.{nat_le, nat_lt, slice_index, take, if◌then◌else◌}
 use Rattle.std.specs.Str.{IsCharBoundary}
 use Rattle.std.proofs.lemmas.Bool.{cases_lt}
@@ -13,21 +14,24 @@ goes_on b e = (grind (arith, nat_tests), grind (arith, nat_tests))
 stops : (b : ℕ) → (nat_le 128 b && nat_lt b 192) ≡ false → 128 ≤ b → 192 ≤ b
 stops b e l = grind (arith, nat_tests)
 
-at_last : (t : List ℕ) (k r : ℕ) → k + 1 < length t → (128 ≤ slice_index t (suc k)) × (slice_index t (suc k) < 192) → r ≡ suc k → IsCharBoundary t r → ⊥
+at_last : (t : List ℕ) (k r : ℕ) → k + 1 < length t → (128 ≤ slice_index t (suc k)) × (slice_index t (suc k) < 192)
+    → r ≡ suc k → IsCharBoundary t r → ⊥
 at_last t k r l g e b =
     let c : IsCharBoundary t (suc k) = subst (IsCharBoundary t) e b in
     let h = c.1 (omega arith) g.0 in
     let m = g.1 in
     omega arith
 
-pub cut_floor : (t : List ℕ) (k r : ℕ) → k < length t → r ≤ k → IsCharBoundary t r → ((i : ℕ) → r < i → i ≤ k → ¬ (IsCharBoundary t i)) → cut_at t k ≡ r
+pub cut_floor : (t : List ℕ) (k r : ℕ) → k < length t → r ≤ k → IsCharBoundary t r
+    → ((i : ℕ) → r < i → i ≤ k → ¬ (IsCharBoundary t i)) → cut_at t k ≡ r
 unfolding cut_at
 cut_floor t zero r l m b n = omega arith
 cut_floor t (suc k) r l m b n =
     split (nat_le 128 (slice_index t (suc k)) && nat_lt (slice_index t (suc k)) 192) refl
     (λ o. cut_floor t k r (omega arith) o b (λ i p q. n i p (omega arith)))
   where
-    split : (z : Bool) → (nat_le 128 (slice_index t (suc k)) && nat_lt (slice_index t (suc k)) 192) ≡ z → (r ≤ k → cut_at t k ≡ r) → cut_at t (suc k) ≡ r
+    split : (z : Bool) → (nat_le 128 (slice_index t (suc k)) && nat_lt (slice_index t (suc k)) 192) ≡ z
+        → (r ≤ k → cut_at t k ≡ r) → cut_at t (suc k) ≡ r
     split true e ih =
         let g = goes_on (slice_index t (suc k)) e in
         rw e (elim (cases_lt r (suc k)) [

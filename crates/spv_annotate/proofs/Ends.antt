@@ -52,12 +52,15 @@ plain_cons_last : (d a : ℕ) (t : List ℕ) → last_of a t ≢ 32 → last_of 
 plain_cons_last d a [] n = byte_last d a n
 plain_cons_last d a (b ∷ []) n = split (is_late_control a b) refl (λ e. plain_cons_last e b [] n)
   where
-    split : (l : Bool) → is_late_control a b ≡ l → ((e : ℕ) → last_of e (plain_of (b ∷ [])) ≢ 32) → last_of d (plain_of (a ∷ b ∷ [])) ≢ 32
+    split : (l : Bool) → is_late_control a b ≡ l → ((e : ℕ) → last_of e (plain_of (b ∷ [])) ≢ 32)
+        → last_of d (plain_of (a ∷ b ∷ [])) ≢ 32
     split true e next = rw e (hex_last (last_of d (plain.escaped a)) b)
     split false e next = rw e (rw (last-append d (plain_byte a) (plain_of (b ∷ []))) (next (last_of d (plain_byte a))))
-plain_cons_last d a (b ∷ c ∷ text) n = split (is_late_control a b) refl (λ e. plain_cons_last e c text n) (λ e. plain_cons_last e b (c ∷ text) n)
+plain_cons_last d a (b ∷ c ∷ text) n =
+    split (is_late_control a b) refl (λ e. plain_cons_last e c text n) (λ e. plain_cons_last e b (c ∷ text) n)
   where
-    split : (l : Bool) → is_late_control a b ≡ l → ((e : ℕ) → last_of e (plain_of (c ∷ text)) ≢ 32) → ((e : ℕ) → last_of e (plain_of (b ∷ c ∷ text)) ≢ 32)
+    split : (l : Bool) → is_late_control a b ≡ l → ((e : ℕ) → last_of e (plain_of (c ∷ text)) ≢ 32)
+        → ((e : ℕ) → last_of e (plain_of (b ∷ c ∷ text)) ≢ 32)
         → last_of d (plain_of (a ∷ b ∷ c ∷ text)) ≢ 32
     split true e later next =
         rw e (rw (last-append d (plain.escaped a) (plain.escaped b ++ plain_of (c ∷ text)))

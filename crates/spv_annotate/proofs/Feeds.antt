@@ -1,5 +1,6 @@
 -- Texts without a line feed.
-use Rattle.std.proofs.Common.{◌≡◌, ◌≢◌, ◌/◌, ◌%◌, ◌++◌, ℕ, zero, suc, List, [], ◌∷◌, Option, Some, None, Bool, true, false, refl, ap, arith, subst, length, take, drop}
+use Rattle.std.proofs.Common.{◌≡◌, ◌≢◌, ◌/◌, ◌%◌, ◌++◌, ℕ, zero, suc, List, [], ◌∷◌, Option, Some, None, Bool, true}
+use Rattle.std.proofs.Common.{false, refl, ap, arith, subst, length, take, drop}
 use Rattle.std.specs.Prelude.{codes, decimal, if◌then◌else◌, nat_eq, nat_le, nat_lt, slice_get, unwrap_or}
 use Rattle.std.specs.List.{flat_map, onto_first}
 use Rattle.std.proofs.lemmas.Bool.Decides.{nat_tests}
@@ -21,7 +22,9 @@ use Rattle.spv_extended.specs.declared.set.Set.{Set}
 use Rattle.spv_extended.specs.declared.set.Set.TheVariants.{OpenClStd, OpenClDebugInfo, DebugInfo, Other}
 use Rattle.spv_annotate.specs.Called.{called_by, ids_of}
 use Rattle.spv_annotate.specs.Module.{definition_of, inst_at, naming_of, predecessors, text_in}
-use Rattle.spv_annotate.specs.Notes.{block_note, call_name, call_note, call_text, column, comment, cut_at, from_note, from_text, gap, entry_named, name_note, name_unless, name_notes, name_text, note, notes, opencl_lines, opencl_name, place_text, short_name, told_most}
+use Rattle.spv_annotate.specs.Notes.{block_note, call_name, call_note, call_text, column, comment, cut_at, from_note}
+use Rattle.spv_annotate.specs.Notes.{from_text, gap, entry_named, name_note, name_unless, name_notes, name_text, note}
+use Rattle.spv_annotate.specs.Notes.{notes, opencl_lines, opencl_name, place_text, short_name, told_most}
 use Rattle.spv_annotate.specs.Values.{IsValue, IsValueOf, hex_of, is_nan}
 use Rattle.spv_annotate.specs.declared.values.Bits.TheVariants.{Half, Single, Double}
 use Rattle.spv_annotate.proofs.Inks.{AreInk, hex_ink}
@@ -53,7 +56,8 @@ plain_feedless (a ∷ []) = subst (λ (t : List ℕ). NoFeed t) (append_nothing 
 plain_feedless (a ∷ b ∷ text) = split (is_late_control a b) (plain_feedless text) (plain_feedless (b ∷ text))
   where
     split : (l : Bool) → NoFeed (plain_of text) → NoFeed (plain_of (b ∷ text))
-        → NoFeed (if l then plain.escaped a ++ (plain.escaped b ++ plain_of text) else plain_byte a ++ plain_of (b ∷ text))
+        → NoFeed (if l then plain.escaped a ++ (plain.escaped b ++ plain_of text) else plain_byte a
+        ++ plain_of (b ∷ text))
     split true h g = escaped_feedless a (plain.escaped b ++ plain_of text) (escaped_feedless b (plain_of text) h)
     split false h g = byte_feedless a (plain_of (b ∷ text)) g
 
@@ -92,12 +96,14 @@ name_feedless t = split (told_most t) (nat_le (length t) (told_most t))
   where
     split : (k : ℕ) (z : Bool) → NoFeed (if z then plain_of t else plain_of (take (cut_at t k) t) ++ codes "..")
     split k true = plain_feedless t
-    split k false = feedless-append (plain_of (take (cut_at t k) t)) (codes "..") (plain_feedless (take (cut_at t k) t)) (no_feed_by (codes "..") refl)
+    split k false = feedless-append (plain_of (take (cut_at t k) t)) (codes "..") (plain_feedless (take (cut_at t k) t))
+        (no_feed_by (codes "..") refl)
 
 name_note_feedless : (is : List PlainInst) (x : ℕ) (o : Option ℕ) → NoFeed (name_text is x o)
 name_note_feedless is x None = tt
 name_note_feedless is x (Some n) =
-    feedless-append (codes ", " ++ id_text x) (32 ∷ short_name (text_in (inst_at is n).operands)) (feedless-append (codes ", ") (id_text x) (no_feed_by (codes ", ") refl) (id_feedless x))
+    feedless-append (codes ", " ++ id_text x) (32 ∷ short_name (text_in (inst_at is n).operands))
+    (feedless-append (codes ", ") (id_text x) (no_feed_by (codes ", ") refl) (id_feedless x))
     ((λ e. omega arith), name_feedless (text_in (inst_at is n).operands))
 
 names_feedless : (is : List PlainInst) (i : PlainInst) → NoFeed (name_notes is i)
@@ -109,7 +115,8 @@ names_feedless is i = split (nat_eq i.opcode NAME)
 
     split : (z : Bool) → NoFeed (if z then [] else flat_map (name_unless is (entry_named is i)) (ids_of is i))
     split true = tt
-    split false = flat_feedless (name_unless is (entry_named is i)) (ids_of is i) (λ x. unless x (is_number x (entry_named is i)))
+    split false = flat_feedless (name_unless is (entry_named is i)) (ids_of is i)
+        (λ x. unless x (is_number x (entry_named is i)))
 
 opencl_feedless : (k : ℕ) → NoFeed (opencl_name k)
 unfolding opencl_lines
@@ -163,22 +170,28 @@ value_feedless (Some b) t h = split (is_nan b) h
     bits : (b : Bits) → NoFeed (hex_of b)
     bits (Half n) = hex 4 n
     bits (Single n) = hex 8 n
-    bits (Double n) = feedless-append (hex_digits 8 (n / 4294967296)) (hex_digits 8 (n % 4294967296)) (hex 8 (n / 4294967296)) (hex 8 (n % 4294967296))
+    bits (Double n) = feedless-append (hex_digits 8 (n / 4294967296)) (hex_digits 8 (n % 4294967296))
+        (hex 8 (n / 4294967296)) (hex 8 (n % 4294967296))
 
     split : (z : Bool) → IsValueOf z b t → NoFeed t
     split true h = rw h (feedless-append (codes "NaN 0x") (hex_of b) (no_feed_by (codes "NaN 0x") refl) (bits b))
     split false h = tame_feedless t h.1
 
-notes_feedless : (is : List PlainInst) (value : List ℕ) (n : ℕ) (i : PlainInst) → NoFeed value → NoFeed (notes is value n i)
+notes_feedless : (is : List PlainInst) (value : List ℕ) (n : ℕ) (i : PlainInst) → NoFeed value
+    → NoFeed (notes is value n i)
 notes_feedless is value n i h =
     feedless-append (name_notes is i ++ call_note is i ++ note value) (block_note is n i)
-    (feedless-append (name_notes is i ++ call_note is i) (note value) (feedless-append (name_notes is i) (call_note is i) (names_feedless is i) (call_feedless is i)) (note_feedless value h))
+    (feedless-append (name_notes is i ++ call_note is i) (note value)
+    (feedless-append (name_notes is i) (call_note is i) (names_feedless is i) (call_feedless is i))
+    (note_feedless value h))
     (block_feedless is n i)
 
 place_feedless : (n word : ℕ) → NoFeed (place_text n word)
 place_feedless n word =
     feedless-append (codes "; inst " ++ decimal n ++ codes " word ") (decimal word)
-    (feedless-append (codes "; inst " ++ decimal n) (codes " word ") (feedless-append (codes "; inst ") (decimal n) (no_feed_by (codes "; inst ") refl) (decimal_feedless n)) (no_feed_by (codes " word ") refl))
+    (feedless-append (codes "; inst " ++ decimal n) (codes " word ")
+    (feedless-append (codes "; inst ") (decimal n) (no_feed_by (codes "; inst ") refl) (decimal_feedless n))
+    (no_feed_by (codes " word ") refl))
     (decimal_feedless word)
 
 drop_feedless : (k : ℕ) (t : List ℕ) → NoFeed t → NoFeed (drop k t)
@@ -186,8 +199,11 @@ drop_feedless zero t h = h
 drop_feedless (suc k) [] h = tt
 drop_feedless (suc k) (b ∷ t) h = drop_feedless k t h.1
 
-pub comment_feedless : (is : List PlainInst) (value : List ℕ) (n : ℕ) (line : List ℕ) → NoFeed value → NoFeed (comment is value n line)
+pub comment_feedless : (is : List PlainInst) (value : List ℕ) (n : ℕ) (line : List ℕ) → NoFeed value
+    → NoFeed (comment is value n line)
 comment_feedless is value n line h =
     feedless-append (gap (length line) ++ place_text n (first_word_of is n)) (notes is value n (inst_at is n))
-    (feedless-append (gap (length line)) (place_text n (first_word_of is n)) (drop_feedless (if nat_lt (length line) 47 then length line else 47) column (no_feed_by column refl)) (place_feedless n (first_word_of is n)))
+    (feedless-append (gap (length line)) (place_text n (first_word_of is n))
+    (drop_feedless (if nat_lt (length line) 47 then length line else 47) column (no_feed_by column refl))
+    (place_feedless n (first_word_of is n)))
     (notes_feedless is value n (inst_at is n) h)

@@ -26,13 +26,16 @@ point_tame false ds h = tt
 
 exponent_tame : (negative : Bool) (ds : List ℕ) → AllDigits 10 ds → AreTame (exponent_text negative ds)
 exponent_tame negative [] h = tt
-exponent_tame negative (d ∷ ds) h = (omega arith, tame-append (sign_text negative) (d ∷ ds) (sign_tame negative) (digits_tame (d ∷ ds) h))
+exponent_tame negative (d ∷ ds) h =
+    (omega arith, tame-append (sign_text negative) (d ∷ ds) (sign_tame negative) (digits_tame (d ∷ ds) h))
 
 parts_tame : (p : Parts) → IsPlain p → AreTame (text_of p)
 parts_tame p h =
     let w = h.well_formed in
-    tame-append p.whole ((if p.point then 46 ∷ p.fraction else []) ++ exponent_text p.exponent_negative p.exponent) (digits_tame p.whole w.whole_digits)
-    (tame-append (if p.point then 46 ∷ p.fraction else []) (exponent_text p.exponent_negative p.exponent) (point_tame p.point p.fraction w.fraction_digits)
+    tame-append p.whole ((if p.point then 46 ∷ p.fraction else []) ++ exponent_text p.exponent_negative p.exponent)
+    (digits_tame p.whole w.whole_digits)
+    (tame-append (if p.point then 46 ∷ p.fraction else []) (exponent_text p.exponent_negative p.exponent)
+    (point_tame p.point p.fraction w.fraction_digits)
     (exponent_tame p.exponent_negative p.exponent w.exponent_digits))
 
 plain_tame : (t : List ℕ) → IsPlainNumber t → AreTame t
@@ -40,11 +43,13 @@ plain_tame t h = rw h.2 (tame-append (sign_text h.0) (text_of h.1) (sign_tame h.
 
 word_tame : (x : Float) → AreTame (word_of x)
 word_tame nan = (omega arith, (omega arith, (omega arith, tt)))
-word_tame (inf negative) = tame-append (sign_text negative) (codes "inf") (sign_tame negative) (omega arith, (omega arith, (omega arith, tt)))
+word_tame (inf negative) =
+    tame-append (sign_text negative) (codes "inf") (sign_tame negative) (omega arith, (omega arith, (omega arith, tt)))
 word_tame (fin s m e) = tt
 
 -- the text of a float has no space, control character or line feed
-pub float_tame : (x : Float) (t : List ℕ) → (IsTrue (float_is_finite x) → IsPlainNumber t) → (IsFalse (float_is_finite x) → t ≡ word_of x) → AreTame t
+pub float_tame : (x : Float) (t : List ℕ) → (IsTrue (float_is_finite x) → IsPlainNumber t)
+    → (IsFalse (float_is_finite x) → t ≡ word_of x) → AreTame t
 float_tame x t h g = split (float_is_finite x) refl
   where
     split : (b : Bool) → float_is_finite x ≡ b → AreTame t

@@ -1,5 +1,6 @@
 -- Half floats as single ones.
-use Rattle.std.proofs.Common.{◌≡◌, ◌≢◌, ◌<◌, ◌≤◌, ◌+◌, ◌-◌, ◌*◌, ◌/◌, ◌%◌, ℕ, zero, suc, Bool, true, false, nat_eq, refl, arith}
+use Rattle.std.proofs.Common.{◌≡◌, ◌≢◌, ◌<◌, ◌≤◌, ◌+◌, ◌-◌, ◌*◌, ◌/◌, ◌%◌, ℕ, zero, suc, Bool, true, false, nat_eq}
+use Rattle.std.proofs.Common.{refl, arith}
 use Rattle.std.specs.Prelude.{if◌then◌else◌, nat_le}
 use Rattle.std.proofs.lemmas.Bool.Decides.{nat_tests}
 use Rattle.spv_annotate.specs.Values.{raised, widened, widened_size}
@@ -29,14 +30,16 @@ unfolding raised
 raised_small zero e m = omega arith
 raised_small (suc left) e m = by (nat_le 1024 m) refl (raised_small left (e - 1) (2 * m))
   where
-    by : (b : Bool) → nat_le 1024 m ≡ b → raised left (e - 1) (2 * m) ≤ (e - 1) * 8388608 + 8380416 → raised (suc left) e m ≤ e * 8388608 + 8380416
+    by : (b : Bool) → nat_le 1024 m ≡ b → raised left (e - 1) (2 * m) ≤ (e - 1) * 8388608 + 8380416
+        → raised (suc left) e m ≤ e * 8388608 + 8380416
     by true f h = rw f (omega arith)
     by false f h = rw f (omega (arith, h))
 
 size_small : (h : ℕ) → h ≤ 31744 → widened_size h ≤ 2139095040
 size_small h l = one (nat_eq h 0) (nat_eq (h / 1024) 0) (nat_eq (h / 1024) 31) refl refl refl
   where
-    one : (a b d : Bool) → nat_eq h 0 ≡ a → nat_eq (h / 1024) 0 ≡ b → nat_eq (h / 1024) 31 ≡ d → widened_size h ≤ 2139095040
+    one : (a b d : Bool) → nat_eq h 0 ≡ a → nat_eq (h / 1024) 0 ≡ b → nat_eq (h / 1024) 31 ≡ d
+        → widened_size h ≤ 2139095040
     one true b d e f g = rw e (omega arith)
     one false true d e f g = rw (e, f) (let r = raised_small 10 113 h in omega (arith, r))
     one false false true e f g = rw (e, f, g) (let s : h / 1024 ≡ 31 = grind (arith, nat_tests) in omega (arith, s, l))

@@ -5,5 +5,6 @@ use Rattle.spv_table.specs.Lookups.{is_number}
 use Rattle.spv_annotate.specs.Page.{Scene, is_walked, line_class}
 
 -- as that of a block of the walk
-pub class_walked : (S : Scene) (n : ℕ) → is_number n S.fault ≡ false → is_walked S n ≡ true → line_class S n ≡ codes " class=walk"
+pub class_walked : (S : Scene) (n : ℕ) → is_number n S.fault ≡ false → is_walked S n ≡ true
+    → line_class S n ≡ codes " class=walk"
 class_walked S n f w = rw (f, w) refl

@@ -1,5 +1,6 @@
 -- Instructions without notes.
-use Rattle.std.proofs.Common.{◌≡◌, ◌≢◌, ◌+◌, ◌++◌, ◌∙◌, ◌||◌, ℕ, List, [], ◌∷◌, Option, Some, None, Bool, true, false, cond, flat_map, length, nat_eq, refl, sym, ap, append-nil}
+use Rattle.std.proofs.Common.{◌≡◌, ◌≢◌, ◌+◌, ◌++◌, ◌∙◌, ◌||◌, ℕ, List, [], ◌∷◌, Option, Some, None, Bool, true, false}
+use Rattle.std.proofs.Common.{cond, flat_map, length, nat_eq, refl, sym, ap, append-nil}
 use Rattle.std.specs.Prelude.{if◌then◌else◌}
 use Rattle.std.specs.List.{list_any, position_from}
 use Rattle.std.proofs.lemmas.Bool.Decides.{nat_tests}
@@ -11,7 +12,8 @@ use Rattle.spv_layout.specs.Place.{first_word_of}
 use Rattle.spv_extended.specs.Call.{call_in}
 use Rattle.spv_annotate.specs.Called.{ids_of, set_of}
 use Rattle.spv_annotate.specs.Module.{inst_at, named_by, named_in, naming_of}
-use Rattle.spv_annotate.specs.Notes.{block_note, call_note, call_text, comment, from_note, gap, entry_named, name_note, name_notes, name_unless, name_text, note, notes, place_text}
+use Rattle.spv_annotate.specs.Notes.{block_note, call_note, call_text, comment, from_note, gap, entry_named, name_note}
+use Rattle.spv_annotate.specs.Notes.{name_notes, name_unless, name_text, note, notes, place_text}
 use Rattle.spv_annotate.specs.inner.Known.{is_naming}
 
 neither : (a b : Bool) → (a || b) ≡ false → (a ≡ false) × (b ≡ false)
@@ -19,11 +21,13 @@ neither false b h = (refl, h)
 neither true b h = cc
 
 -- where no instruction is an OpName, none names an id
-pub unnamed_from : (x k : ℕ) (is : List PlainInst) → list_any is_naming is ≡ false → position_from (λ i. is_number x (named_by i)) k is ≡ None
+pub unnamed_from : (x k : ℕ) (is : List PlainInst) → list_any is_naming is ≡ false
+    → position_from (λ i. is_number x (named_by i)) k is ≡ None
 unnamed_from x k [] h = refl
 unnamed_from x k (i ∷ is) h =
     let r = neither (is_naming i) (list_any is_naming is) h in
-    ap (λ (b : Bool). cond (is_number x (if b then named_in i.operands else None)) (Some k) (position_from (λ j. is_number x (named_by j)) (k + 1) is)) r.0
+    ap (λ (b : Bool). cond (is_number x (if b then named_in i.operands else None)) (Some k)
+    (position_from (λ j. is_number x (named_by j)) (k + 1) is)) r.0
     ∙ unnamed_from x (k + 1) is r.1
 
 pub unnamed : (is : List PlainInst) → list_any is_naming is ≡ false → (x : ℕ) → naming_of is x ≡ None
@@ -33,10 +37,12 @@ none_either : (b : Bool) (t : List ℕ) → t ≡ [] → (if b then [] else t) �
 none_either true t e = refl
 none_either false t e = e
 
-no_names : (is : List PlainInst) (o : Option ℕ) (xs : List ℕ) → ((x : ℕ) → naming_of is x ≡ None) → flat_map (name_unless is o) xs ≡ []
+no_names : (is : List PlainInst) (o : Option ℕ) (xs : List ℕ) → ((x : ℕ) → naming_of is x ≡ None)
+    → flat_map (name_unless is o) xs ≡ []
 no_names is o [] n = refl
 no_names is o (x ∷ xs) n =
-    ap (λ z. z ++ flat_map (name_unless is o) xs) (none_either (is_number x o) (name_note is x) (ap (name_text is x) (n x))) ∙ no_names is o xs n
+    ap (λ z. z ++ flat_map (name_unless is o) xs)
+    (none_either (is_number x o) (name_note is x) (ap (name_text is x) (n x))) ∙ no_names is o xs n
 
 no_value : (t : List ℕ) → length t ≡ 0 → note t ≡ []
 no_value [] e = refl
@@ -46,18 +52,21 @@ four_nothing : (a b c d : List ℕ) → a ≡ [] → b ≡ [] → c ≡ [] → d
 four_nothing a b c d p q r s = rw (p, q, r, s) refl
 
 -- an instruction that is no call and no label, has no value and no named id, has no notes
-pub no_notes : (is : List PlainInst) (value : List ℕ) (n : ℕ) (i : PlainInst) → list_any is_naming is ≡ false → i.opcode ≢ EXT_INST → i.opcode ≢ LABEL → length value ≡ 0 → notes is value n i ≡ []
+pub no_notes : (is : List PlainInst) (value : List ℕ) (n : ℕ) (i : PlainInst) → list_any is_naming is ≡ false
+    → i.opcode ≢ EXT_INST → i.opcode ≢ LABEL → length value ≡ 0 → notes is value n i ≡ []
 no_notes is value n i h e l v =
     let f : nat_eq i.opcode EXT_INST ≡ false = grind (arith, nat_tests) in
     let g : nat_eq i.opcode LABEL ≡ false = grind (arith, nat_tests) in
     four_nothing (name_notes is i) (call_note is i) (note value) (block_note is n i)
-    (none_either (nat_eq i.opcode NAME) (flat_map (name_unless is (entry_named is i)) (ids_of is i)) (no_names is (entry_named is i) (ids_of is i) (unnamed is h)))
+    (none_either (nat_eq i.opcode NAME) (flat_map (name_unless is (entry_named is i)) (ids_of is i))
+    (no_names is (entry_named is i) (ids_of is i) (unnamed is h)))
     (ap (λ (b : Bool). call_text (if b then call_in (set_of is) i.operands else None)) f)
     (no_value value v)
     (ap (λ (b : Bool). if b then from_note is n (result_in i.operands) else []) g)
 
 -- its comment tells its place alone
-pub bare_comment : (is : List PlainInst) (value : List ℕ) (n word : ℕ) (line : List ℕ) → word ≡ first_word_of is n → notes is value n (inst_at is n) ≡ []
+pub bare_comment : (is : List PlainInst) (value : List ℕ) (n word : ℕ) (line : List ℕ) → word ≡ first_word_of is n
+    → notes is value n (inst_at is n) ≡ []
     → gap (length line) ++ place_text n word ≡ comment is value n line
 bare_comment is value n word line e h =
     let place = gap (length line) ++ place_text n (first_word_of is n) in

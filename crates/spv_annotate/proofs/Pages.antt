@@ -11,10 +11,12 @@ pub behind : (out a b mid last : List ℕ) → mid ≡ out ++ a → last ≡ mid
 behind out a b mid last e f = f ∙ (ap (λ z. z ++ b) e ∙ append_assoc out a b)
 
 -- five texts, one behind the other
-pub whole : (front contents middle body end one two three last : List ℕ) → one ≡ front ++ contents → two ≡ one ++ middle → three ≡ two ++ body
+pub whole : (front contents middle body end one two three last : List ℕ) → one ≡ front ++ contents → two ≡ one ++ middle
+    → three ≡ two ++ body
     → last ≡ three ++ end → last ≡ front ++ (contents ++ (middle ++ (body ++ end)))
 whole front contents middle body end one two three last e f g h =
-    let k : last ≡ one ++ (middle ++ (body ++ end)) = behind one middle (body ++ end) two last f (behind two body end three last g h) in
+    let k : last ≡ one ++ (middle ++ (body ++ end)) = behind one middle (body ++ end) two last f
+    (behind two body end three last g h) in
     behind front contents (middle ++ (body ++ end)) one last e k
 
 -- a module that is short has few instructions

@@ -1,5 +1,6 @@
 -- A line, cut before each id.
-use Rattle.std.proofs.Common.{◌≡◌, ◌++◌, ◌∙◌, ◌<◌, ◌≤◌, ◌+◌, ◌-◌, ◌^◌, ℕ, zero, suc, List, [], ◌∷◌, Option, Some, Bool, true, false, length, take, drop, get_or, refl, sym, ap, subst, arith, append_assoc}
+use Rattle.std.proofs.Common.{◌≡◌, ◌++◌, ◌∙◌, ◌<◌, ◌≤◌, ◌+◌, ◌-◌, ◌^◌, ℕ, zero, suc, List, [], ◌∷◌, Option, Some, Bool}
+use Rattle.std.proofs.Common.{true, false, length, take, drop, get_or, refl, sym, ap, subst, arith, append_assoc}
 use Rattle.std.specs.Prelude.{◌==◌, nat_lt, decimal, option_and_then}
 use Rattle.std.specs.List.{flat_map, onto_first, prefix_len}
 use Rattle.std.specs.Option.{option_to_list}
@@ -52,7 +53,8 @@ stays Commented b h = refl
 pub record Later (q : Quoting) (line : List ℕ) : Type 0 where
   pub parts : List (List ℕ)
   pub cut : cut_from q line ≡ take (until_id q line) line ∷ parts
-  pub same : (f : List ℕ → List ℕ) → f [] ≡ [] → flat_map f parts ≡ flat_map f (cut_from (base q) (drop (until_id q line) line))
+  pub same : (f : List ℕ → List ℕ) → f [] ≡ []
+      → flat_map f parts ≡ flat_map f (cut_from (base q) (drop (until_id q line) line))
 
 pub later : (q : Quoting) (line : List ℕ) → Later q line
 later q [] = record { parts = []; cut = refl; same = λ f e. sym (ap (λ z. z ++ []) e) }
@@ -65,7 +67,8 @@ later q (b ∷ line) = by (begins_id q b) refl (later (after_byte q b) line)
         record {
           parts = onto_first b (cut_from q line);
           cut = rw e refl;
-          same = λ f z. sym (ap (λ k. flat_map f (cut_from (base q) (drop k (b ∷ line)))) n ∙ (ap (λ k. flat_map f (cut_from k (b ∷ line))) (begins_base q b e)
+          same = λ f z. sym (ap (λ k. flat_map f (cut_from (base q) (drop k (b ∷ line)))) n
+              ∙ (ap (λ k. flat_map f (cut_from k (b ∷ line))) (begins_base q b e)
               ∙ (ap (flat_map f) c ∙ ap (λ y. y ++ flat_map f (onto_first b (cut_from q line))) z)));
         })
     by false e r =
@@ -77,7 +80,8 @@ later q (b ∷ line) = by (begins_id q b) refl (later (after_byte q b) line)
 
 -- the first part of a line, and the others
 pub first_part : (f : List ℕ → List ℕ) (q : Quoting) (line : List ℕ) → f [] ≡ [] → base q ≡ q → 0 < length line
-    → flat_map f (cut_from q line) ≡ f (take (part_len q line) line) ++ flat_map f (cut_from q (drop (part_len q line) line))
+    → flat_map f (cut_from q line) ≡ f (take (part_len q line) line)
+    ++ flat_map f (cut_from q (drop (part_len q line) line))
 first_part f q [] e h l = absurd (omega (arith, l))
 first_part f q (b ∷ line) e h l = by (begins_id q b) refl
   where
@@ -85,16 +89,20 @@ first_part f q (b ∷ line) e h l = by (begins_id q b) refl
     r = later (after_byte q b) line
 
     rest : flat_map f r.parts ≡ flat_map f (cut_from q (drop (until_id (after_byte q b) line) line))
-    rest = r.same f e ∙ ap (λ z. flat_map f (cut_from z (drop (until_id (after_byte q b) line) line))) (same_base q b ∙ h)
+    rest = r.same f e ∙ ap (λ z. flat_map f (cut_from z (drop (until_id (after_byte q b) line) line)))
+        (same_base q b ∙ h)
 
     by : (x : Bool) → begins_id q b ≡ x
-        → flat_map f (cut_from q (b ∷ line)) ≡ f (b ∷ take (until_id (after_byte q b) line) line) ++ flat_map f (cut_from q (drop (until_id (after_byte q b) line) line))
+        → flat_map f (cut_from q (b ∷ line)) ≡ f (b ∷ take (until_id (after_byte q b) line) line)
+        ++ flat_map f (cut_from q (drop (until_id (after_byte q b) line) line))
     by true g =
         (let s = stays q b g in
         rw g (ap (λ z. z ++ flat_map f (onto_first b (cut_from q line))) e
         ∙ (ap (λ z. flat_map f (onto_first b (cut_from z line))) (sym s)
-        ∙ (ap (λ z. flat_map f (onto_first b z)) r.cut ∙ ap (λ z. f (b ∷ take (until_id (after_byte q b) line) line) ++ z) rest))))
-    by false g = rw g (ap (λ z. flat_map f (onto_first b z)) r.cut ∙ ap (λ z. f (b ∷ take (until_id (after_byte q b) line) line) ++ z) rest)
+        ∙ (ap (λ z. flat_map f (onto_first b z)) r.cut
+        ∙ ap (λ z. f (b ∷ take (until_id (after_byte q b) line) line) ++ z) rest))))
+    by false g = rw g (ap (λ z. flat_map f (onto_first b z)) r.cut
+        ∙ ap (λ z. f (b ∷ take (until_id (after_byte q b) line) line) ++ z) rest)
 
 onto_front : (b : ℕ) (ws : List (List ℕ)) → flat_map (λ w. w) (onto_first b ws) ≡ b ∷ flat_map (λ w. w) ws
 onto_front b [] = refl
@@ -105,7 +113,8 @@ pub joined : (q : Quoting) (line : List ℕ) → flat_map (λ w. w) (cut_from q 
 joined q [] = refl
 joined q (b ∷ line) = by (begins_id q b) refl (joined q line) (joined (after_byte q b) line)
   where
-    by : (x : Bool) → begins_id q b ≡ x → flat_map (λ w. w) (cut_from q line) ≡ line → flat_map (λ w. w) (cut_from (after_byte q b) line) ≡ line
+    by : (x : Bool) → begins_id q b ≡ x → flat_map (λ w. w) (cut_from q line) ≡ line
+        → flat_map (λ w. w) (cut_from (after_byte q b) line) ≡ line
         → flat_map (λ w. w) (cut_from q (b ∷ line)) ≡ b ∷ line
     by true e f g = rw e (onto_front b (cut_from q line) ∙ ap (λ z. b ∷ z) f)
     by false e f g = rw e (onto_front b (cut_from (after_byte q b) line) ∙ ap (λ z. b ∷ z) g)
@@ -143,7 +152,8 @@ part_ends q (b ∷ line) n e l = (
 digit_small : (b : ℕ) → is_digit b ≡ true → b < 128
 digit_small b h = grind (arith, nat_tests)
 
-pub id_ends : (line : List ℕ) (n : ℕ) → IsUtf8 line → 1 ≤ length line → get_or line 0 0 ≡ 37 → n ≡ prefix_len is_digit (drop 1 line)
+pub id_ends : (line : List ℕ) (n : ℕ) → IsUtf8 line → 1 ≤ length line → get_or line 0 0 ≡ 37
+    → n ≡ prefix_len is_digit (drop 1 line)
     → n ≤ length (drop 1 line) → IsCharBoundary line (1 + n)
 id_ends [] n u l f e h = absurd (omega (arith, l))
 id_ends (b ∷ line) zero u l f e h = IsCharBoundary-after_ascii (b ∷ line) 0 u (omega arith) (omega (arith, f))
@@ -169,18 +179,21 @@ found_id word ds n h e =
     sym (ap id_of i ∙ id_of_decimal n h.0)
 
 -- the id that a part begins with
-pub id_front : (xs : List ℕ) (n : ℕ) (r : Option ℕ) (word : List ℕ) → 1 ≤ length xs → get_or xs 0 0 ≡ 37 → n ≡ prefix_len is_digit (drop 1 xs)
+pub id_front : (xs : List ℕ) (n : ℕ) (r : Option ℕ) (word : List ℕ) → 1 ≤ length xs → get_or xs 0 0 ≡ 37
+    → n ≡ prefix_len is_digit (drop 1 xs)
     → word ≡ take (1 + n) xs → ((ds : List ℕ) → word ≡ 37 ∷ ds → r ≡ id_of ds) → option_to_list r ≡ ids_at xs
 id_front [] n r word l f e w h = absurd (omega (arith, l))
 id_front (x ∷ t) n r word l f e w h =
     let m : 1 + n ≡ suc n = omega arith in
     let x37 : x ≡ 37 = f in
-    let v : word ≡ 37 ∷ digits_in t = w ∙ (ap (λ z. take z (x ∷ t)) m ∙ (ap (λ z. x ∷ take z t) e ∙ ap (λ z. z ∷ digits_in t) x37)) in
+    let v : word ≡ 37 ∷ digits_in t = w ∙ (ap (λ z. take z (x ∷ t)) m
+    ∙ (ap (λ z. x ∷ take z t) e ∙ ap (λ z. z ∷ digits_in t) x37)) in
     let p : ids_at (x ∷ t) ≡ option_to_list (id_of (digits_in t)) = rw x37 refl in
     ap option_to_list (h (digits_in t) v) ∙ sym p
 
 -- a part that begins with an id
-pub word_front : (xs : List ℕ) (n : ℕ) (word : List ℕ) → 1 ≤ length xs → get_or xs 0 0 ≡ 37 → n ≡ prefix_len is_digit (drop 1 xs) → word ≡ take (1 + n) xs → word ≡ 37 ∷ digits_in (drop 1 xs)
+pub word_front : (xs : List ℕ) (n : ℕ) (word : List ℕ) → 1 ≤ length xs → get_or xs 0 0 ≡ 37
+    → n ≡ prefix_len is_digit (drop 1 xs) → word ≡ take (1 + n) xs → word ≡ 37 ∷ digits_in (drop 1 xs)
 word_front [] n word l f e w = absurd (omega (arith, l))
 word_front (x ∷ t) n word l f e w =
     let m : 1 + n ≡ suc n = omega arith in
@@ -201,12 +214,15 @@ part_whole d (x ∷ t) n word rest l f e w r =
     ap (λ z. id_html o z ++ escaped rest) v ∙ (ap (λ z. id_html o (37 ∷ digits_in t) ++ escaped z) s ∙ sym p)
 
 -- one part more of a line
-pub linked_more : (d : ℕ → Option ℕ) (q : Quoting) (xs goal out more : List ℕ) (n : ℕ) → base q ≡ q → 0 < length xs → n ≡ part_len q xs
+pub linked_more : (d : ℕ → Option ℕ) (q : Quoting) (xs goal out more : List ℕ) (n : ℕ) → base q ≡ q → 0 < length xs
+    → n ≡ part_len q xs
     → out ++ linked d q xs ≡ goal → more ≡ out ++ part_html d (take n xs) → more ++ linked d q (drop n xs) ≡ goal
 linked_more d q xs goal out more n b l e f g =
     let h = first_part (part_html d) q xs refl b l in
-    let k : out ++ linked d q xs ≡ out ++ (part_html d (take n xs) ++ linked d q (drop n xs)) = rw e (ap (λ z. out ++ z) h) in
-    ap (λ z. z ++ linked d q (drop n xs)) g ∙ (append_assoc out (part_html d (take n xs)) (linked d q (drop n xs)) ∙ (sym k ∙ f))
+    let k : out ++ linked d q xs ≡ out ++ (part_html d (take n xs) ++ linked d q (drop n xs)) = rw e
+    (ap (λ z. out ++ z) h) in
+    ap (λ z. z ++ linked d q (drop n xs)) g
+    ∙ (append_assoc out (part_html d (take n xs)) (linked d q (drop n xs)) ∙ (sym k ∙ f))
 
 -- what stands behind the first byte
 pub all_behind : (xs : List ℕ) → take (length xs - 1) (drop 1 xs) ≡ drop 1 xs

@@ -32,17 +32,21 @@ plain_same (a ∷ b ∷ t) h =
 tame_by : (b : ℕ) → nat_eq b 10 ≡ false → is_line_octet b ≡ true → is_tame_octet b ≡ true
 tame_by b e h = rw e at h
 
-onto_tame : (b : ℕ) (ls : List (List ℕ)) → is_tame_octet b ≡ true → are_tame_lines ls ≡ true → are_tame_lines (onto_first b ls) ≡ true
+onto_tame : (b : ℕ) (ls : List (List ℕ)) → is_tame_octet b ≡ true → are_tame_lines ls ≡ true
+    → are_tame_lines (onto_first b ls) ≡ true
 onto_tame b [] e h = rw e refl
 onto_tame b (l ∷ ls) e h = rw e h
 
 pub tame_lines : (t : List ℕ) → list_all is_line_octet t ≡ true → are_tame_lines (lines_of t) ≡ true
 tame_lines [] h = refl
-tame_lines (b ∷ t) h = let r = both (is_line_octet b) (list_all is_line_octet t) h in split (nat_eq b 10) refl r.0 (tame_lines t r.1)
+tame_lines (b ∷ t) h = let r = both (is_line_octet b) (list_all is_line_octet t) h in
+    split (nat_eq b 10) refl r.0 (tame_lines t r.1)
   where
-    split : (z : Bool) → nat_eq b 10 ≡ z → is_line_octet b ≡ true → are_tame_lines (lines_of t) ≡ true → are_tame_lines (lines_of (b ∷ t)) ≡ true
+    split : (z : Bool) → nat_eq b 10 ≡ z → is_line_octet b ≡ true → are_tame_lines (lines_of t) ≡ true
+        → are_tame_lines (lines_of (b ∷ t)) ≡ true
     split true e o k = rw e k
     split false e o k = rw e (onto_tame b (lines_of t) (tame_by b e o) k)
 
-pub first_tame : (line : List ℕ) (lines rest : List (List ℕ)) → rest ≡ line ∷ lines → are_tame_lines rest ≡ true → (list_all is_tame_octet line ≡ true) × (are_tame_lines lines ≡ true)
+pub first_tame : (line : List ℕ) (lines rest : List (List ℕ)) → rest ≡ line ∷ lines → are_tame_lines rest ≡ true
+    → (list_all is_tame_octet line ≡ true) × (are_tame_lines lines ≡ true)
 first_tame line lines rest e h = both (list_all is_tame_octet line) (are_tame_lines lines) (rw e at h)

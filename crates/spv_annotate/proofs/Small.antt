@@ -1,5 +1,6 @@
 -- Facts on small lists.
-use Rattle.std.proofs.Common.{◌≡◌, ◌+◌, ◌++◌, ◌∙◌, ℕ, zero, suc, List, [], ◌∷◌, Bool, true, false, ◌&&◌, refl, ap, arith}
+use Rattle.std.proofs.Common.{◌≡◌, ◌+◌, ◌++◌, ◌∙◌, ℕ, zero, suc, List, [], ◌∷◌, Bool, true, false, ◌&&◌, refl, ap}
+use Rattle.std.proofs.Common.{arith}
 use Rattle.std.proofs.Common.{Some, drop, take, length, ◌==◌}
 use Rattle.std.specs.Prelude.{IsAscii, nat_lt, slice_get}
 use Rattle.std.proofs.Common.{map}
@@ -16,7 +17,8 @@ both false b h = cc
 
 pub ascii_by : (xs : List ℕ) → list_all (λ b. nat_lt b 128) xs ≡ true → IsAscii xs
 ascii_by [] h i = omega arith
-ascii_by (b ∷ xs) h zero = let r = both (nat_lt b 128) (list_all (λ b. nat_lt b 128) xs) h in let e = r.0 in grind (arith, nat_tests)
+ascii_by (b ∷ xs) h zero = let r = both (nat_lt b 128) (list_all (λ b. nat_lt b 128) xs) h in let e = r.0 in
+    grind (arith, nat_tests)
 ascii_by (b ∷ xs) h (suc i) = ascii_by xs (both (nat_lt b 128) (list_all (λ b. nat_lt b 128) xs) h).1 i
 
 -- one number more
@@ -31,7 +33,8 @@ nothing_behind : (xs : List ℕ) → xs ++ [] ≡ xs
 nothing_behind [] = refl
 nothing_behind (x ∷ xs) = ap (λ ys. x ∷ ys) (nothing_behind xs)
 
-pub flat_range_more : {A : Type 0} (f : ℕ → List A) (n : ℕ) → flat_map f (range_with_len 0 (n + 1)) ≡ flat_map f (range_with_len 0 n) ++ f n
+pub flat_range_more : {A : Type 0} (f : ℕ → List A) (n : ℕ)
+    → flat_map f (range_with_len 0 (n + 1)) ≡ flat_map f (range_with_len 0 n) ++ f n
 flat_range_more {A} f n =
     let z : 0 + n ≡ n = omega arith in
     ap (flat_map f) (range_more 0 n) ∙ (flat_map-append f (range_with_len 0 n) ((0 + n) ∷ [])
@@ -58,7 +61,8 @@ drop_tail zero (z ∷ xs) ys x e = cc
 drop_tail (suc k) [] ys x e = absurd cc
 drop_tail (suc k) (z ∷ xs) ys x e = let n : suc k + 1 ≡ suc (k + 1) = omega arith in rw n (drop_tail k xs ys x e)
 
-pub take_tail : {A : Type 0} (k : ℕ) (xs ys : List A) (x : A) → drop k xs ≡ x ∷ ys → take (k + 1) xs ≡ take k xs ++ (x ∷ [])
+pub take_tail : {A : Type 0} (k : ℕ) (xs ys : List A) (x : A) → drop k xs ≡ x ∷ ys
+    → take (k + 1) xs ≡ take k xs ++ (x ∷ [])
 take_tail zero [] ys x e = absurd cc
 take_tail zero (z ∷ xs) ys x e = let f : z ≡ x = cc in ap (λ w. w ∷ []) f
 take_tail (suc k) [] ys x e = absurd cc
@@ -66,9 +70,11 @@ take_tail (suc k) (z ∷ xs) ys x e =
     let n : suc k + 1 ≡ suc (k + 1) = omega arith in rw n (ap (λ w. z ∷ w) (take_tail k xs ys x e))
 
 -- so many pieces more
-pub flat_tail : {A B : Type 0} (f : A → List B) (k : ℕ) (xs ys : List A) (x : A) → drop k xs ≡ x ∷ ys → flat_map f (take (k + 1) xs) ≡ flat_map f (take k xs) ++ f x
+pub flat_tail : {A B : Type 0} (f : A → List B) (k : ℕ) (xs ys : List A) (x : A) → drop k xs ≡ x ∷ ys
+    → flat_map f (take (k + 1) xs) ≡ flat_map f (take k xs) ++ f x
 flat_tail {A} {B} f k xs ys x e =
-    ap (flat_map f) (take_tail k xs ys x e) ∙ (flat_map-append f (take k xs) (x ∷ []) ∙ ap (λ z. flat_map f (take k xs) ++ z) (all (f x)))
+    ap (flat_map f) (take_tail k xs ys x e)
+    ∙ (flat_map-append f (take k xs) (x ∷ []) ∙ ap (λ z. flat_map f (take k xs) ++ z) (all (f x)))
   where
     all : (zs : List B) → zs ++ [] ≡ zs
     all [] = refl

@@ -1,5 +1,6 @@
 -- Parts of a line that hold no id, and comments that stand for themselves.
-use Rattle.std.proofs.Common.{◌≡◌, ◌++◌, ◌∙◌, ◌<◌, ◌≤◌, ◌+◌, ℕ, zero, suc, List, [], ◌∷◌, Option, Some, None, Bool, true, false, ◌&&◌, length, drop, get_or, refl, ap, arith, append-nil}
+use Rattle.std.proofs.Common.{◌≡◌, ◌++◌, ◌∙◌, ◌<◌, ◌≤◌, ◌+◌, ℕ, zero, suc, List, [], ◌∷◌, Option, Some, None, Bool}
+use Rattle.std.proofs.Common.{true, false, ◌&&◌, length, drop, get_or, refl, ap, arith, append-nil}
 use Rattle.std.specs.Prelude.{◌==◌, option_and_then}
 use Rattle.std.specs.List.{flat_map, list_all, onto_first}
 use Rattle.std.proofs.lemmas.Bool.Decides.{nat_tests}
@@ -80,7 +81,8 @@ digits_bare (b ∷ t) h =
     rw (digit_bare b r.0) (digits_bare t r.1)
 
 -- the digits of an id stand for themselves
-pub id_escaped : (d : ℕ → Option ℕ) (ds : List ℕ) (n : ℕ) → Some n ≡ option_and_then d (id_of ds) → escaped (37 ∷ ds) ≡ 37 ∷ ds
+pub id_escaped : (d : ℕ → Option ℕ) (ds : List ℕ) (n : ℕ) → Some n ≡ option_and_then d (id_of ds)
+    → escaped (37 ∷ ds) ≡ 37 ∷ ds
 id_escaped d ds n h = by (is_lean ds) (list_all is_digit ds) refl refl
   where
     by : (x y : Bool) → is_lean ds ≡ x → list_all is_digit ds ≡ y → escaped (37 ∷ ds) ≡ 37 ∷ ds

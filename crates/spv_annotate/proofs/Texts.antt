@@ -1,5 +1,6 @@
 -- The lines of a shown text.
-use Rattle.std.proofs.Common.{◌≡◌, ◌≢◌, ◌++◌, ◌∙◌, ℕ, List, [], ◌∷◌, Bool, true, false, not, ◌&&◌, nat_eq, refl, ap, arith}
+use Rattle.std.proofs.Common.{◌≡◌, ◌≢◌, ◌++◌, ◌∙◌, ℕ, List, [], ◌∷◌, Bool, true, false, not, ◌&&◌, nat_eq, refl, ap}
+use Rattle.std.proofs.Common.{arith}
 use Rattle.std.specs.Prelude.{decimal, codes}
 use Rattle.std.specs.List.{list_all}
 use Rattle.std.proofs.lemmas.Bool.Decides.{nat_tests}
@@ -36,10 +37,12 @@ glyph_feedless d e = grind (arith, nat_tests)
 
 onto_feedless : (k n : ℕ) (acc : List ℕ) → NoFeed acc → NoFeed (digits_onto k 10 false n acc)
 onto_feedless zero n acc h = h
-onto_feedless (suc k) n acc h = split (n / 10 == 0) (onto_feedless k (n / 10) (digit_glyph false (n % 10) ∷ acc) (glyph_feedless (n % 10), h))
+onto_feedless (suc k) n acc h =
+    split (n / 10 == 0) (onto_feedless k (n / 10) (digit_glyph false (n % 10) ∷ acc) (glyph_feedless (n % 10), h))
   where
     split : (b : Bool) → NoFeed (digits_onto k 10 false (n / 10) (digit_glyph false (n % 10) ∷ acc))
-        → NoFeed (if b then digit_glyph false (n % 10) ∷ acc else digits_onto k 10 false (n / 10) (digit_glyph false (n % 10) ∷ acc))
+        → NoFeed (if b then digit_glyph false (n % 10)
+        ∷ acc else digits_onto k 10 false (n / 10) (digit_glyph false (n % 10) ∷ acc))
     split true m = (glyph_feedless (n % 10), h)
     split false m = m
 
@@ -66,8 +69,10 @@ header_feedless h = (
 )
 
 -- the lines of a shown text
-pub text_lines : (G : Table) (h : Header) (is : List PlainInst) (t : List ℕ) → (s : IsShownText G h is t) → IsSpelled G is
+pub text_lines : (G : Table) (h : Header) (is : List PlainInst) (t : List ℕ) → (s : IsShownText G h is t)
+    → IsSpelled G is
     → lines_of t ≡ header_lines h ++ s.lines
 text_lines G h is t s e =
     ap lines_of s.all ∙ lines_ended (header_lines h ++ s.lines)
-    (lines-append (header_lines h) s.lines (header_feedless h) (quiet_lines s.lines (shown_quiet G is s.lines s.shown e)))
+    (lines-append (header_lines h) s.lines (header_feedless h)
+    (quiet_lines s.lines (shown_quiet G is s.lines s.shown e)))

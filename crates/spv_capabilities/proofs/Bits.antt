@@ -1,5 +1,6 @@
 -- The set bits of a mask, one after another.
-use Rattle.std.proofs.Common.{◌≡◌, ◌<◌, ◌+◌, ◌-◌, ◌*◌, ◌/◌, ◌%◌, ◌^◌, ℕ, zero, suc, List, ◌∷◌, Bool, true, false, nat_eq, ◌↔◌, refl, sym, ap, ◌∙◌, add-one, arith}
+use Rattle.std.proofs.Common.{◌≡◌, ◌<◌, ◌+◌, ◌-◌, ◌*◌, ◌/◌, ◌%◌, ◌^◌, ℕ, zero, suc, List, ◌∷◌, Bool, true, false}
+use Rattle.std.proofs.Common.{nat_eq, ◌↔◌, refl, sym, ap, ◌∙◌, add-one, arith}
 use Rattle.std.specs.Prelude.{filter}
 use Rattle.std.specs.List.{AllByRecursion}
 use Rattle.std.proofs.Math.Nat.{pow-succ', div-div-eq-div-mul}
@@ -16,7 +17,8 @@ has_bit mask b = nat_eq (mask / b % 2) 1
 unfoldable pub AllFrom : (ℕ → Type 0) → ℕ → ℕ → Type 0
 AllFrom P mask position = AllByRecursion P (filter (has_bit mask) (bits_from (32 - position) (2 ^ position)))
 
-pub all_bits : (G : Table) (is : List PlainInst) (k mask : ℕ) → IsCoveredMask G is k mask ↔ AllFrom (IsCoveredValue G is k) mask 0
+pub all_bits : (G : Table) (is : List PlainInst) (k mask : ℕ)
+    → IsCoveredMask G is k mask ↔ AllFrom (IsCoveredValue G is k) mask 0
 unfolding AllFrom IsCoveredMask
 all_bits G is k mask = (λ a. a, λ a. a)
 
@@ -31,19 +33,24 @@ bits_more n l =
     let d : 2 * 2 ^ n ≡ 2 ^ (n + 1) = sym (ap (λ m. 2 ^ m) s ∙ pow-succ' 2 n) in
     ap (λ m. bits_from m (2 ^ n)) k ∙ ap (λ b. 2 ^ n ∷ bits_from (32 - (n + 1)) b) d
 
-all_front : (P : ℕ → Type 0) (t : ℕ → Bool) (x : ℕ) (xs : List ℕ) → t x ≡ true → AllByRecursion P (filter t (x ∷ xs)) ↔ (P x × AllByRecursion P (filter t xs))
+all_front : (P : ℕ → Type 0) (t : ℕ → Bool) (x : ℕ) (xs : List ℕ) → t x ≡ true
+    → AllByRecursion P (filter t (x ∷ xs)) ↔ (P x × AllByRecursion P (filter t xs))
 all_front P t x xs e = rw e (λ a. a, λ a. a)
 
-all_rest : (P : ℕ → Type 0) (t : ℕ → Bool) (x : ℕ) (xs : List ℕ) → t x ≡ false → AllByRecursion P (filter t (x ∷ xs)) ↔ AllByRecursion P (filter t xs)
+all_rest : (P : ℕ → Type 0) (t : ℕ → Bool) (x : ℕ) (xs : List ℕ) → t x ≡ false
+    → AllByRecursion P (filter t (x ∷ xs)) ↔ AllByRecursion P (filter t xs)
 all_rest P t x xs e = rw e (λ a. a, λ a. a)
 
-pub set_at : (P : ℕ → Type 0) (mask n : ℕ) → n < 32 → has_bit mask (2 ^ n) ≡ true → AllFrom P mask n ↔ (P (2 ^ n) × AllFrom P mask (n + 1))
+pub set_at : (P : ℕ → Type 0) (mask n : ℕ) → n < 32 → has_bit mask (2 ^ n) ≡ true
+    → AllFrom P mask n ↔ (P (2 ^ n) × AllFrom P mask (n + 1))
 unfolding AllFrom
 set_at P mask n l e = rw (bits_more n l) (all_front P (has_bit mask) (2 ^ n) (bits_from (32 - (n + 1)) (2 ^ (n + 1))) e)
 
-pub unset_at : (P : ℕ → Type 0) (mask n : ℕ) → n < 32 → has_bit mask (2 ^ n) ≡ false → AllFrom P mask n ↔ AllFrom P mask (n + 1)
+pub unset_at : (P : ℕ → Type 0) (mask n : ℕ) → n < 32 → has_bit mask (2 ^ n) ≡ false
+    → AllFrom P mask n ↔ AllFrom P mask (n + 1)
 unfolding AllFrom
-unset_at P mask n l e = rw (bits_more n l) (all_rest P (has_bit mask) (2 ^ n) (bits_from (32 - (n + 1)) (2 ^ (n + 1))) e)
+unset_at P mask n l e =
+    rw (bits_more n l) (all_rest P (has_bit mask) (2 ^ n) (bits_from (32 - (n + 1)) (2 ^ (n + 1))) e)
 
 -- above the highest set bit none is set
 half_none : (mask b : ℕ) → mask / b ≡ 0 → mask / (2 * b) ≡ 0
@@ -61,15 +68,18 @@ pub no_more : (P : ℕ → Type 0) (mask n : ℕ) → mask / 2 ^ n ≡ 0 → All
 unfolding AllFrom
 no_more P mask n e = none_above P mask (32 - n) (2 ^ n) e
 
-bit_by : (P : ℕ → Type 0) (mask n : ℕ) → n < 32 → (b : Bool) → has_bit mask (2 ^ n) ≡ b → (has_bit mask (2 ^ n) ≡ true → P (2 ^ n)) → AllFrom P mask n ↔ AllFrom P mask (n + 1)
+bit_by : (P : ℕ → Type 0) (mask n : ℕ) → n < 32 → (b : Bool) → has_bit mask (2 ^ n) ≡ b
+    → (has_bit mask (2 ^ n) ≡ true → P (2 ^ n)) → AllFrom P mask n ↔ AllFrom P mask (n + 1)
 bit_by P mask n l true e h = let s = set_at P mask n l e in (λ a. (s.0 a).1, λ a. s.1 (h e, a))
 bit_by P mask n l false e h = unset_at P mask n l e
 
 -- one bit more
-pub bit_covered : (P : ℕ → Type 0) (mask n : ℕ) → n < 32 → (has_bit mask (2 ^ n) ≡ true → P (2 ^ n)) → AllFrom P mask n ↔ AllFrom P mask (n + 1)
+pub bit_covered : (P : ℕ → Type 0) (mask n : ℕ) → n < 32 → (has_bit mask (2 ^ n) ≡ true → P (2 ^ n))
+    → AllFrom P mask n ↔ AllFrom P mask (n + 1)
 bit_covered P mask n l h = bit_by P mask n l (has_bit mask (2 ^ n)) refl h
 
-pub bit_not_covered : (P : ℕ → Type 0) (mask n : ℕ) → n < 32 → ¬ (has_bit mask (2 ^ n) ≡ true → P (2 ^ n)) → ¬ (AllFrom P mask n)
+pub bit_not_covered : (P : ℕ → Type 0) (mask n : ℕ) → n < 32 → ¬ (has_bit mask (2 ^ n) ≡ true → P (2 ^ n))
+    → ¬ (AllFrom P mask n)
 bit_not_covered P mask n l h a = h (λ e. ((set_at P mask n l e).0 a).0)
 
 -- none is set in 0

@@ -1,5 +1,6 @@
 -- What is kept of answers, with one answer more.
-use Rattle.std.proofs.Common.{◌≡◌, ◌≢◌, ◌∙◌, ◌<◌, ◌↔◌, ◌⊎◌, ℕ, zero, suc, List, refl, sym, ap, inl, inr, Some, None, Bool, true, false, IsTrue, length, get_or, nat_eq, arith}
+use Rattle.std.proofs.Common.{◌≡◌, ◌≢◌, ◌∙◌, ◌<◌, ◌↔◌, ◌⊎◌, ℕ, zero, suc, List, refl, sym, ap, inl, inr, Some, None}
+use Rattle.std.proofs.Common.{Bool, true, false, IsTrue, length, get_or, nat_eq, arith}
 use Rattle.std.specs.Prelude.{slice_get, nat_lt}
 use Rattle.std.specs.BTreeMap.{BTreeMap, get, Updates, IsEmpty}
 use Rattle.std.specs.Ordering.{nat_cmp, ordering_then, is_eq}
@@ -38,21 +39,28 @@ second_apart Equal p h = h
 second_apart Greater p h = refl
 
 -- of pairs, with one pair more
-pair_at : (Q : ℕ → ℕ → Type 0) (m n : BTreeMap (ℕ × ℕ) Bool) (k v l w : ℕ) (b a : Bool) → ((x y : ℕ) (c : Bool) → get pair_cmp m (x, y) ≡ Some c → IsTrue c ↔ Q x y) → Updates pair_cmp m n (k, v) (Some b) → IsTrue b ↔ Q k v
+pair_at : (Q : ℕ → ℕ → Type 0) (m n : BTreeMap (ℕ × ℕ) Bool) (k v l w : ℕ) (b a : Bool)
+    → ((x y : ℕ) (c : Bool) → get pair_cmp m (x, y) ≡ Some c → IsTrue c ↔ Q x y) → Updates pair_cmp m n (k, v) (Some b)
+    → IsTrue b ↔ Q k v
     → get pair_cmp n (l, w) ≡ Some a → (k ≡ l) ⊎ (k ≡ l → ⊥) → (v ≡ w) ⊎ (v ≡ w → ⊥) → IsTrue a ↔ Q l w
-pair_at Q m n k v l w b a old u new s (inr p) q = old l w a (sym (u.2 (l, w) (first_apart (nat_cmp k l) (nat_cmp v w) (apart k l p))) ∙ s)
-pair_at Q m n k v l w b a old u new s (inl p) (inr q) = old l w a (sym (u.2 (l, w) (second_apart (nat_cmp k l) (nat_cmp v w) (apart v w q))) ∙ s)
+pair_at Q m n k v l w b a old u new s (inr p) q =
+    old l w a (sym (u.2 (l, w) (first_apart (nat_cmp k l) (nat_cmp v w) (apart k l p))) ∙ s)
+pair_at Q m n k v l w b a old u new s (inl p) (inr q) =
+    old l w a (sym (u.2 (l, w) (second_apart (nat_cmp k l) (nat_cmp v w) (apart v w q))) ∙ s)
 pair_at Q m n k v l w b a old u new s (inl p) (inl q) =
     let s' : get pair_cmp n (k, v) ≡ Some a = rw (p, q) s in
     let t : b ≡ a = let x : Some b ≡ Some a = sym u.1 ∙ s' in cc in
     rw (← p, ← q, ← t) new
 
-pub pairs_more : (Q : ℕ → ℕ → Type 0) (m n : BTreeMap (ℕ × ℕ) Bool) (k v : ℕ) (b : Bool) → ((x y : ℕ) (c : Bool) → get pair_cmp m (x, y) ≡ Some c → IsTrue c ↔ Q x y) → Updates pair_cmp m n (k, v) (Some b) → IsTrue b ↔ Q k v
+pub pairs_more : (Q : ℕ → ℕ → Type 0) (m n : BTreeMap (ℕ × ℕ) Bool) (k v : ℕ) (b : Bool)
+    → ((x y : ℕ) (c : Bool) → get pair_cmp m (x, y) ≡ Some c → IsTrue c ↔ Q x y) → Updates pair_cmp m n (k, v) (Some b)
+    → IsTrue b ↔ Q k v
     → (x y : ℕ) (c : Bool) → get pair_cmp n (x, y) ≡ Some c → IsTrue c ↔ Q x y
 pairs_more Q m n k v b old u new x y c s = pair_at Q m n k v x y b c old u new s (cases_eq k x) (cases_eq v y)
 
 -- what was read of the list
-pub kept_at : (l : List Answer) (n : ℕ) (a v : Answer) → true ≡ nat_lt n (length l) → a ≡ get_or l n a → a ≡ v → slice_get l n ≡ Some v
+pub kept_at : (l : List Answer) (n : ℕ) (a v : Answer) → true ≡ nat_lt n (length l) → a ≡ get_or l n a → a ≡ v
+    → slice_get l n ≡ Some v
 kept_at l n a v t e s =
     let w : n < length l = ltb-true n (length l) (sym t) in
     slice_get_read l (length l) n a refl w e ∙ ap Some s
@@ -63,11 +71,14 @@ read zero o a h = absurd (let no : None ≡ Some a = h in cc)
 read (suc n) zero a h = cc
 read (suc n) (suc o) a h = read n o a h
 
-pub unknown_all : (Q R : ℕ → Type 0) (l : List Answer) (n : ℕ) → l ≡ replicate n Unknown → (o : ℕ) (a : Answer) → slice_get l o ≡ Some a → IsAnswer a (Q o) (R o)
+pub unknown_all : (Q R : ℕ → Type 0) (l : List Answer) (n : ℕ) → l ≡ replicate n Unknown → (o : ℕ) (a : Answer)
+    → slice_get l o ≡ Some a → IsAnswer a (Q o) (R o)
 unknown_all Q R l n e o a h = let s : Unknown ≡ a = read n o a (rw e at h) in rw (← s) tt
 
-pub no_pairs : (Q : ℕ → ℕ → Type 0) (m : BTreeMap (ℕ × ℕ) Bool) → IsEmpty m → (x y : ℕ) (c : Bool) → get pair_cmp m (x, y) ≡ Some c → IsTrue c ↔ Q x y
-no_pairs Q m e x y c h = let n : get pair_cmp m (x, y) ≡ None = rw e refl in absurd (let no : None ≡ Some c = sym n ∙ h in cc)
+pub no_pairs : (Q : ℕ → ℕ → Type 0) (m : BTreeMap (ℕ × ℕ) Bool) → IsEmpty m → (x y : ℕ) (c : Bool)
+    → get pair_cmp m (x, y) ≡ Some c → IsTrue c ↔ Q x y
+no_pairs Q m e x y c h = let n : get pair_cmp m (x, y) ≡ None = rw e refl in
+    absurd (let no : None ≡ Some c = sym n ∙ h in cc)
 
 pub no_recent : (P : Type 0) (n o : ℕ) (e : Enumerated) → slice_get (replicate n None) o ≡ Some (Some e) → P
 no_recent P zero o e h = absurd (let no : None ≡ Some (Some e) = h in cc)

@@ -1,5 +1,6 @@
 -- What the small modules of the worked examples have.
-use Rattle.std.proofs.Common.{◌≡◌, ◌≢◌, ◌∙◌, ◌⊎◌, ℕ, zero, suc, List, [], ◌∷◌, Option, Some, None, Contains, true, false, refl, ap, sym, subst, inl, inr, codes, option_and_then, arith}
+use Rattle.std.proofs.Common.{◌≡◌, ◌≢◌, ◌∙◌, ◌⊎◌, ℕ, zero, suc, List, [], ◌∷◌, Option, Some, None, Contains, true}
+use Rattle.std.proofs.Common.{false, refl, ap, sym, subst, inl, inr, codes, option_and_then, arith}
 use Rattle.std.specs.Prelude.{slice_get}
 use Rattle.spv_table.specs.declared.table.Enumerant.{Enumerant}
 use Rattle.spv_table.specs.Table.{enumerant_of}
@@ -36,22 +37,26 @@ seven_lists = record { enumerant = _; is = refl; name = _; listed = (0, omega ar
 
 by_seven : (a b : ℕ) → a ≡ 7 → Lists small a b → b ≡ 6
 by_seven a b e l =
-    let is : enumerant_of (capabilities_in small) 7 ≡ Some l.enumerant = subst (λ (n : ℕ). enumerant_of (capabilities_in small) n ≡ Some l.enumerant) e l.is in
+    let is : enumerant_of (capabilities_in small) 7 ≡ Some l.enumerant = subst
+    (λ (n : ℕ). enumerant_of (capabilities_in small) n ≡ Some l.enumerant) e l.is in
     let names : l.enumerant.capabilities ≡ codes "Kernel" ∷ [] = sym (ap names_of is) in
-    let same : codes "Kernel" ≡ l.name = one_of (codes "Kernel") l.name (subst (λ (ns : List (List ℕ)). Contains ns l.name) names l.listed) in
+    let same : codes "Kernel" ≡ l.name = one_of (codes "Kernel") l.name
+    (subst (λ (ns : List (List ℕ)). Contains ns l.name) names l.listed) in
     let six : Some 6 ≡ value_named (capabilities_in small) l.name = ap (value_named (capabilities_in small)) same in
     let b' : Some 6 ≡ Some b = six ∙ l.names in
     cc
 
 by_six : (a b : ℕ) → a ≡ 6 → Lists small a b → ⊥
 by_six a b e l =
-    let is : enumerant_of (capabilities_in small) 6 ≡ Some l.enumerant = subst (λ (n : ℕ). enumerant_of (capabilities_in small) n ≡ Some l.enumerant) e l.is in
+    let is : enumerant_of (capabilities_in small) 6 ≡ Some l.enumerant = subst
+    (λ (n : ℕ). enumerant_of (capabilities_in small) n ≡ Some l.enumerant) e l.is in
     let names : l.enumerant.capabilities ≡ [] = sym (ap names_of is) in
     none_of l.name (subst (λ (ns : List (List ℕ)). Contains ns l.name) names l.listed)
 
 by_five : (a b : ℕ) → a ≡ 5 → Lists small a b → ⊥
 by_five a b e l =
-    let is : enumerant_of (capabilities_in small) 5 ≡ Some l.enumerant = subst (λ (n : ℕ). enumerant_of (capabilities_in small) n ≡ Some l.enumerant) e l.is in
+    let is : enumerant_of (capabilities_in small) 5 ≡ Some l.enumerant = subst
+    (λ (n : ℕ). enumerant_of (capabilities_in small) n ≡ Some l.enumerant) e l.is in
     let names : l.enumerant.capabilities ≡ [] = sym (ap names_of is) in
     none_of l.name (subst (λ (ns : List (List ℕ)). Contains ns l.name) names l.listed)
 
@@ -68,13 +73,18 @@ from_five _ _ (CapabilityChain.here a) e = e
 from_five _ _ (CapabilityChain.step a b c l later) e = absurd (by_five a b e l)
 
 pub has_kernel : Has small vectors 6
-has_kernel = record { first = 7; declares = (0, omega arith, refl); chain = CapabilityChain.step 7 6 6 seven_lists (CapabilityChain.here 6) }
+has_kernel = record {
+  first = 7;
+  declares = (0, omega arith, refl);
+  chain = CapabilityChain.step 7 6 6 seven_lists (CapabilityChain.here 6);
+}
 
 pub has_vectors : Has small vectors 7
 has_vectors = record { first = 7; declares = (0, omega arith, refl); chain = CapabilityChain.here 7 }
 
 pub has_no_other : (c : ℕ) → c ≢ 7 → c ≢ 6 → ¬ (Has small vectors c)
-has_no_other c a b h = elim (from_seven h.first c h.chain (sym (one_of 7 h.first h.declares))) [ inl e ↦ a e | inr e ↦ b e ]
+has_no_other c a b h =
+    elim (from_seven h.first c h.chain (sym (one_of 7 h.first h.declares))) [ inl e ↦ a e | inr e ↦ b e ]
 
 pub has_linkage : Has small linked 5
 has_linkage = record { first = 5; declares = (0, omega arith, refl); chain = CapabilityChain.here 5 }
@@ -107,13 +117,15 @@ none_entered (suc zero) = refl
 none_entered (suc (suc zero)) = refl
 none_entered (suc (suc (suc p))) = refl
 
-none_imported : (p : ℕ) → option_and_then (imported_by (number_named small (codes "LinkageType"))) (slice_get (declaration 0) p) ≡ None
+none_imported : (p : ℕ)
+    → option_and_then (imported_by (number_named small (codes "LinkageType"))) (slice_get (declaration 0) p) ≡ None
 none_imported zero = refl
 none_imported (suc zero) = refl
 none_imported (suc (suc zero)) = refl
 none_imported (suc (suc (suc p))) = refl
 
-not_named : (names : PlainInst → Option ℕ) (is : List PlainInst) (f : ℕ) → ((p : ℕ) → option_and_then names (slice_get is p) ≡ None) → ¬ (IsNamed names is f)
+not_named : (names : PlainInst → Option ℕ) (is : List PlainInst) (f : ℕ)
+    → ((p : ℕ) → option_and_then names (slice_get is p) ≡ None) → ¬ (IsNamed names is f)
 not_named names is f none n =
     let e : option_and_then names (slice_get is n.place) ≡ Some n.id = ap (option_and_then names) n.there ∙ n.named in
     absurd (let no : None ≡ Some n.id = sym (none n.place) ∙ e in cc)
@@ -141,9 +153,13 @@ definition = record {
       within = omega arith;
       up_to = omega arith;
       there = refl;
-      last = λ k l u h. let e : k ≡ 3 = omega arith in let a : IsAt kernel 3 (Function ∷ []) = subst (λ (n : ℕ). IsAt kernel n (Function ∷ [])) e h in absurd (let no : false ≡ true = a in cc);
+      last = λ k l u h. let e : k ≡ 3 = omega arith in
+          let a : IsAt kernel 3 (Function ∷ []) = subst (λ (n : ℕ). IsAt kernel n (Function ∷ [])) e h in
+          absurd (let no : false ≡ true = a in cc);
     };
-    not_ended = λ k l u h. let e : k ≡ 2 = omega arith in let a : IsAt kernel 2 (FunctionEnd ∷ []) = subst (λ (n : ℕ). IsAt kernel n (FunctionEnd ∷ [])) e h in absurd (let no : false ≡ true = a in cc);
+    not_ended = λ k l u h. let e : k ≡ 2 = omega arith in
+        let a : IsAt kernel 2 (FunctionEnd ∷ []) = subst (λ (n : ℕ). IsAt kernel n (FunctionEnd ∷ [])) e h in
+        absurd (let no : false ≡ true = a in cc);
   };
 }
 
@@ -152,7 +168,16 @@ function = record {
   function = 2;
   defined = defined;
   definition = definition;
-  void = record { inst = _; there = refl; type = 1; returns = refl; place = 1; defined = record { inst = _; there = refl; result = refl }; void = record { inst = _; there = refl; same = refl } };
+  void = record {
+    inst = _;
+    there = refl;
+    type = 1;
+    returns = refl;
+    place = 1;
+    defined = record { inst = _; there = refl; result = refl };
+    void =
+        record { inst = _; there = refl; same = refl };
+  };
   uncalled = not_called 2;
 }
 

@@ -1,5 +1,6 @@
 -- What a command answers of what its file gave.
-use Rattle.std.proofs.Common.{◌≡◌, ◌≢◌, ◌⊎◌, ◌↔◌, ◌*◌, ◌++◌, length, ℕ, List, [], Bool, true, false, Option, Some, None, Result, Ok, Err, IfOk, IfErr, IsTrue, option_map, refl, arith, inl, inr}
+use Rattle.std.proofs.Common.{◌≡◌, ◌≢◌, ◌⊎◌, ◌↔◌, ◌*◌, ◌++◌, length, ℕ, List, [], Bool, true, false, Option, Some, None}
+use Rattle.std.proofs.Common.{Result, Ok, Err, IfOk, IfErr, IsTrue, option_map, refl, arith, inl, inr}
 use Rattle.std.specs.Prelude.{string_bytes}
 use Rattle.spv_words.specs.Header.{IsFirstBroken, IsModule}
 use Rattle.spv_words.specs.declared.words.Order.{Order}
@@ -10,10 +11,10 @@ use Rattle.spv_builtin.specs.Source.{IsTableOf, breaks}
 use Rattle.spv_grammar.specs.declared.error.GrammarError.{GrammarError}
 use Rattle.spv_grammar.specs.declared.error.GrammarError.TheVariants.{J1, J2, J3, J4, J5, J6, J7, J8}
 use Rattle.spv_module.specs.declared.fault.Rule.{Rule}
-use Rattle.spv_verdict.specs.Stream.{TellsVerdict}
-use Rattle.spv_verdict.specs.Text.{line_of}
-use Rattle.spv_verdict.specs.Verdict.{IsVerdict, fault_line, refused_line, valid_line}
-use Rattle.spv_verdict.proofs.Verdicts.{fault_is_not_valid, refused_is_not_valid}
+use Rattle.spv_check.specs.Stream.{TellsVerdict}
+use Rattle.spv_check.specs.Text.{line_of}
+use Rattle.spv_check.specs.Verdict.{IsVerdict, fault_line, refused_line, valid_line}
+use Rattle.spv_check.proofs.Verdicts.{fault_is_not_valid, refused_is_not_valid}
 use Rattle.spv_fault_lines.specs.declared.fact.Detail.{Detail}
 use Rattle.spv_explain.specs.Stream.{Explains, IsExplanation}
 use Rattle.spv_explain.specs.declared.stream.Explanation.{Explanation}
@@ -21,9 +22,11 @@ use Rattle.spv_views.specs.View.{IsViewing, Views}
 use Rattle.spv_views.specs.declared.view.View.{View}
 use Rattle.spv_views.proofs.Viewings.{no_words}
 use Rattle.spv_command_line.specs.declared.command_line.Command.{Command}
-use Rattle.spv_commands.specs.Answer.{Answers, IsRefusal, grammar, done, told, refused, no_text, no_entry, no_function, memory, unread}
+use Rattle.spv_commands.specs.Answer.{Answers, IsRefusal, grammar, done, told, refused, no_text, no_entry, no_function}
+use Rattle.spv_commands.specs.Answer.{memory, unread}
 use Rattle.spv_rules.specs.declared.errors.AnyCode.{AnyCode}
-use Rattle.spv_command_line.specs.declared.command_line.Command.TheVariants.{Judge, Show, Asm, Trace, Rules, Grammar as GrammarOf, Annotate, Graph}
+use Rattle.spv_command_line.specs.declared.command_line.Command.TheVariants.{Judge, Show, Asm, Trace, Rules}
+use Rattle.spv_command_line.specs.declared.command_line.Command.TheVariants.{Grammar as GrammarOf, Annotate, Graph}
 use Rattle.spv_words.specs.Streams.{HoldsBytes}
 use Rattle.spv_commands.specs.Assemble.{Assembles, IsFaultOf, IsImageOf}
 use Rattle.spv_commands.specs.Output.{is_done, made_of, out_of, status_of, written_err, written_made, written_out}
@@ -40,25 +43,41 @@ use Rattle.spv_commands.specs.declared.trouble.Trouble.{Trouble}
 use Rattle.spv_commands.specs.declared.trouble.Trouble.TheVariants.{Memory, NoEntry, NoFunction, NotText}
 
 -- what a writer that held nothing gets
-pub gives : (Whole : List ℕ → List ℕ → Option (List ℕ) → Bool → Type 0) (bytes line : List ℕ) (answer : Bool) (a : Reply) → out_of a ≡ line → is_done a ≡ answer → made_of a ≡ []
+pub gives : (Whole : List ℕ → List ℕ → Option (List ℕ) → Bool → Type 0) (bytes line : List ℕ) (answer : Bool)
+    (a : Reply) → out_of a ≡ line → is_done a ≡ answer → made_of a ≡ []
     → Whole bytes [] (Some line) answer → Gives Whole bytes a
 gives Whole bytes line answer a o d m h = (rw (o, d) h, m)
 
 -- the line of a verdict, told alone
-pub tells_refused : (G : Table) (reach : Reach) (bytes : List ℕ) (code : WordError) → IsFirstBroken code bytes → TellsVerdict G reach bytes [] (Some (refused_line code)) false
+pub tells_refused : (G : Table) (reach : Reach) (bytes : List ℕ) (code : WordError) → IsFirstBroken code bytes
+    → TellsVerdict G reach bytes [] (Some (refused_line code)) false
 tells_refused G reach bytes code h =
-    record { line = refused_line code; verdict = IsVerdict.refused code h; written = refl; answered = (λ t. cc, λ e. absurd (refused_is_not_valid code e)) }
+    record {
+      line = refused_line code;
+      verdict = IsVerdict.refused code h;
+      written = refl;
+      answered = (λ t. cc, λ e. absurd (refused_is_not_valid code e));
+    }
 
-pub tells_fault : (G : Table) (reach : Reach) (bytes : List ℕ) (r : Rule) (inst word : ℕ) → IsVerdict G reach bytes (fault_line r inst word)
+pub tells_fault : (G : Table) (reach : Reach) (bytes : List ℕ) (r : Rule) (inst word : ℕ)
+    → IsVerdict G reach bytes (fault_line r inst word)
     → TellsVerdict G reach bytes [] (Some (fault_line r inst word)) false
 tells_fault G reach bytes r inst word h =
-    record { line = fault_line r inst word; verdict = h; written = refl; answered = (λ t. cc, λ e. absurd (fault_is_not_valid r inst word e)) }
+    record {
+      line = fault_line r inst word;
+      verdict = h;
+      written = refl;
+      answered = (λ t. cc, λ e. absurd (fault_is_not_valid r inst word e));
+    }
 
-pub tells_valid : (G : Table) (reach : Reach) (bytes : List ℕ) → IsVerdict G reach bytes valid_line → TellsVerdict G reach bytes [] (Some valid_line) true
-tells_valid G reach bytes h = record { line = valid_line; verdict = h; written = refl; answered = (λ t. refl, λ e. refl) }
+pub tells_valid : (G : Table) (reach : Reach) (bytes : List ℕ) → IsVerdict G reach bytes valid_line
+    → TellsVerdict G reach bytes [] (Some valid_line) true
+tells_valid G reach bytes h =
+    record { line = valid_line; verdict = h; written = refl; answered = (λ t. refl, λ e. refl) }
 
 -- the lines that explain it
-pub explains : (d : Detail) (G : Table) (reach : Reach) (bytes : List ℕ) (e : Explanation) (a : Reply) → IsExplanation d G reach bytes e → out_of a ≡ line_of e.judgment ++ string_bytes e.lines
+pub explains : (d : Detail) (G : Table) (reach : Reach) (bytes : List ℕ) (e : Explanation) (a : Reply)
+    → IsExplanation d G reach bytes e → out_of a ≡ line_of e.judgment ++ string_bytes e.lines
     → made_of a ≡ [] → IsTrue (is_done a) ↔ (line_of e.judgment ≡ valid_line) → Gives (Explains d G reach) bytes a
 explains d G reach bytes e a h o m t = (
   rw o (record {
@@ -75,51 +94,63 @@ explains d G reach bytes e a h o m t = (
 )
 
 -- what is shown, traced and viewed
-pub shows_it : (G : Table) (bytes output : List ℕ) (answer : Bool) → IsShowing G bytes output answer → Shows G bytes [] (Some output) answer
+pub shows_it : (G : Table) (bytes output : List ℕ) (answer : Bool) → IsShowing G bytes output answer
+    → Shows G bytes [] (Some output) answer
 shows_it G bytes output answer h = record { output = output; showing = h; written = refl }
 
-pub traces_it : (G : Table) (reach : Reach) (function : ℕ) (choices : List ℕ) (limit : ℕ) (bytes output : List ℕ) (answer : Bool) → IsTracing G reach function choices limit bytes output answer
+pub traces_it : (G : Table) (reach : Reach) (function : ℕ) (choices : List ℕ) (limit : ℕ) (bytes output : List ℕ)
+    (answer : Bool) → IsTracing G reach function choices limit bytes output answer
     → Traces G reach function choices limit bytes [] (Some output) answer
 traces_it G reach function choices limit bytes output answer h = record { output = output; tracing = h; written = refl }
 
-pub traces_refused : (G : Table) (reach : Reach) (function : ℕ) (choices : List ℕ) (limit : ℕ) (bytes : List ℕ) (code : WordError) → IsFirstBroken code bytes
+pub traces_refused : (G : Table) (reach : Reach) (function : ℕ) (choices : List ℕ) (limit : ℕ) (bytes : List ℕ)
+    (code : WordError) → IsFirstBroken code bytes
     → Traces G reach function choices limit bytes [] (Some (refused_line code)) false
 traces_refused G reach function choices limit bytes code h =
-    traces_it G reach function choices limit bytes (refused_line code) false (IsTracing.judged (refused_line code) (IsVerdict.refused code h) (λ e. refused_is_not_valid code e))
+    traces_it G reach function choices limit bytes (refused_line code) false
+    (IsTracing.judged (refused_line code) (IsVerdict.refused code h) (λ e. refused_is_not_valid code e))
 
-pub views_it : (how : View) (G : Table) (function : Option ℕ) (bytes output : List ℕ) (answer : Bool) → IsViewing how G function bytes output answer → Views how G function bytes [] (Some output) answer
+pub views_it : (how : View) (G : Table) (function : Option ℕ) (bytes output : List ℕ) (answer : Bool)
+    → IsViewing how G function bytes output answer → Views how G function bytes [] (Some output) answer
 views_it how G function bytes output answer h = record { output = output; viewing = h; written = refl }
 
-pub views_refused : (how : View) (G : Table) (function : Option ℕ) (bytes : List ℕ) (code : WordError) → ((e : WordError) (o : Order) (bs ws : List ℕ) → IsModule o bs ws → ¬ IsFirstBroken e bs)
+pub views_refused : (how : View) (G : Table) (function : Option ℕ) (bytes : List ℕ) (code : WordError)
+    → ((e : WordError) (o : Order) (bs ws : List ℕ) → IsModule o bs ws → ¬ IsFirstBroken e bs)
     → IsFirstBroken code bytes → Views how G function bytes [] (Some (refused_line code)) false
 views_refused how G function bytes code never h =
-    views_it how G function bytes (refused_line code) false (IsViewing.judged (refused_line code) (no_words how G bytes code function never h) (IsVerdict.refused code h))
+    views_it how G function bytes (refused_line code) false
+    (IsViewing.judged (refused_line code) (no_words how G bytes code function never h) (IsVerdict.refused code h))
 
 -- memory is a reason for every command
-pub for_memory : (command : Command) (G : Table) (bytes : List ℕ) (r : Result Reply Trouble) → IfErr r (λ t. t ≡ Memory) → IfErr r (WhyNot command G bytes)
+pub for_memory : (command : Command) (G : Table) (bytes : List ℕ) (r : Result Reply Trouble) → IfErr r (λ t. t ≡ Memory)
+    → IfErr r (WhyNot command G bytes)
 for_memory command G bytes (Ok a) h = tt
 for_memory command G bytes (Err t) h = inr (inr (inr h))
 
-pub for_entry : (command : Command) (G : Table) (bytes : List ℕ) (P : Type 0) (r : Result Reply Trouble) → (P → LacksEntry command G (Some bytes))
+pub for_entry : (command : Command) (G : Table) (bytes : List ℕ) (P : Type 0) (r : Result Reply Trouble)
+    → (P → LacksEntry command G (Some bytes))
     → IfErr r (λ t. ((t ≡ NoEntry) × P) ⊎ (t ≡ Memory)) → IfErr r (WhyNot command G bytes)
 for_entry command G bytes P (Ok a) f h = tt
 for_entry command G bytes P (Err t) f (inl e) = inr (inl (e.0, f e.1))
 for_entry command G bytes P (Err t) f (inr e) = inr (inr (inr e))
 
-pub for_function : (command : Command) (G : Table) (bytes : List ℕ) (P : Type 0) (r : Result Reply Trouble) → (P → LacksAsked command G (Some bytes))
+pub for_function : (command : Command) (G : Table) (bytes : List ℕ) (P : Type 0) (r : Result Reply Trouble)
+    → (P → LacksAsked command G (Some bytes))
     → IfErr r (λ t. ((t ≡ NoFunction) × P) ⊎ (t ≡ Memory)) → IfErr r (WhyNot command G bytes)
 for_function command G bytes P (Ok a) f h = tt
 for_function command G bytes P (Err t) f (inl e) = inr (inr (inl (e.0, f e.1)))
 for_function command G bytes P (Err t) f (inr e) = inr (inr (inr e))
 
-pub for_text : (command : Command) (G : Table) (bytes : List ℕ) (P : Type 0) (r : Result Reply Trouble) → (P → IsNoText command (Some bytes))
+pub for_text : (command : Command) (G : Table) (bytes : List ℕ) (P : Type 0) (r : Result Reply Trouble)
+    → (P → IsNoText command (Some bytes))
     → IfErr r (λ t. ((t ≡ NotText) × P) ⊎ (t ≡ Memory)) → IfErr r (WhyNot command G bytes)
 for_text command G bytes P (Ok a) f h = tt
 for_text command G bytes P (Err t) f (inl e) = inl (e.0, f e.1)
 for_text command G bytes P (Err t) f (inr e) = inr (inr (inr e))
 
 -- a text is no module, and is taken as it is
-pub same_text : (command : Command) (known : Option (List ℕ)) → IsNoText command (option_map (taken_by command) known) → IsNoText command known
+pub same_text : (command : Command) (known : Option (List ℕ)) → IsNoText command (option_map (taken_by command) known)
+    → IsNoText command known
 same_text (Judge task g fs v e p q j) known h = absurd h
 same_text (Show g f v) known h = absurd h
 same_text (Asm g f o b x) None h = tt
@@ -131,15 +162,20 @@ same_text (Rules code j) known h = absurd h
 same_text (GrammarOf f) known h = absurd h
 
 -- why there is no answer, as a line
-why_not : (command : Command) (text : Option (List ℕ)) (G : Table) (bytes : List ℕ) (t : Trouble) → IsTableOf text G → WhyNot command G (taken_by command bytes) t
+why_not : (command : Command) (text : Option (List ℕ)) (G : Table) (bytes : List ℕ) (t : Trouble) → IsTableOf text G
+    → WhyNot command G (taken_by command bytes) t
     → IsRefusal command text (Some bytes) (trouble_text t)
-why_not command text G bytes t given (inl e) = rw (e.0) (no_text G bytes given refl (same_text command (Some bytes) e.1))
-why_not command text G bytes t given (inr (inl e)) = rw (e.0) (no_entry bytes refl (record { table = G; given = given; lacks = e.1 }))
-why_not command text G bytes t given (inr (inr (inl e))) = rw (e.0) (no_function bytes refl (record { table = G; given = given; lacks = e.1 }))
+why_not command text G bytes t given (inl e) =
+    rw (e.0) (no_text G bytes given refl (same_text command (Some bytes) e.1))
+why_not command text G bytes t given (inr (inl e)) =
+    rw (e.0) (no_entry bytes refl (record { table = G; given = given; lacks = e.1 }))
+why_not command text G bytes t given (inr (inr (inl e))) =
+    rw (e.0) (no_function bytes refl (record { table = G; given = given; lacks = e.1 }))
 why_not command text G bytes t given (inr (inr (inr e))) = rw e memory
 
 -- what is answered of the bytes of a file
-pub answers_bytes : (command : Command) (text : Option (List ℕ)) (G : Table) (bytes : List ℕ) (r : Result Reply Trouble) → IsTableOf text G
+pub answers_bytes : (command : Command) (text : Option (List ℕ)) (G : Table) (bytes : List ℕ) (r : Result Reply Trouble)
+    → IsTableOf text G
     → IfOk r (IsAnswerBy command G (taken_by command bytes)) → IfErr r (WhyNot command G (taken_by command bytes))
     → Answers command text (Some bytes) (written_out r) (written_made r) (written_err r) (status_of r)
 answers_bytes command text G bytes (Ok (Done output)) given h w =
@@ -157,26 +193,32 @@ answers_unread command text G why.File given = refused (unread G given refl) ref
 answers_unread command text G why.Memory given = refused memory refl refl refl
 
 -- what codes say
-pub answers_rules : (command : Command) (text file : Option (List ℕ)) (code : Option AnyCode) (json : Bool) (r : Result Reply Trouble) → command ≡ Rules code json
-    → IfOk r (IsUnreadAnswer (WritesRules code json)) → IfErr r (λ t. t ≡ Memory) → Answers command text file (written_out r) (written_made r) (written_err r) (status_of r)
+pub answers_rules : (command : Command) (text file : Option (List ℕ)) (code : Option AnyCode) (json : Bool)
+    (r : Result Reply Trouble) → command ≡ Rules code json
+    → IfOk r (IsUnreadAnswer (WritesRules code json)) → IfErr r (λ t. t ≡ Memory)
+    → Answers command text file (written_out r) (written_made r) (written_err r) (status_of r)
 answers_rules command text file code json (Ok (Done output)) e h w = rw e (told h.0 refl refl refl)
 answers_rules command text file code json (Ok (Fault output)) e h w = let f = h.1 in cc
 answers_rules command text file code json (Ok (Made made)) e h w = rw e (told h.0 h.2 refl refl)
 answers_rules command text file code json (Err t) e h w = rw w (refused memory refl refl refl)
 
 -- the module of a text, and what is told of its fault
-pub made_assembles : (G : Table) (o : Order) (explain : Bool) (text words : List ℕ) (r : Result Reply Trouble) → IsImageOf G text words
-    → IfOk r (λ a. HoldsBytes o words [] (Some (made_of a)) (4 * length words)) → IfOk r (λ a. out_of a ≡ []) → IfOk r (λ a. is_done a ≡ true)
+pub made_assembles : (G : Table) (o : Order) (explain : Bool) (text words : List ℕ) (r : Result Reply Trouble)
+    → IsImageOf G text words
+    → IfOk r (λ a. HoldsBytes o words [] (Some (made_of a)) (4 * length words)) → IfOk r (λ a. out_of a ≡ [])
+    → IfOk r (λ a. is_done a ≡ true)
     → IfOk r (λ a. Assembles G o explain text (Some []) (Some (out_of a)) (Some []) (Some (made_of a)) (is_done a))
 made_assembles G o explain text words (Ok a) h m e d = rw (e, d) (Assembles.made words h refl m)
 made_assembles G o explain text words (Err t) h m e d = tt
 
-pub failed_assembles : (G : Table) (o : Order) (explain : Bool) (text written out : List ℕ) → out ≡ written → IsFaultOf G explain text written
+pub failed_assembles : (G : Table) (o : Order) (explain : Bool) (text written out : List ℕ) → out ≡ written
+    → IsFaultOf G explain text written
     → Assembles G o explain text (Some []) (Some out) (Some []) (Some []) false
 failed_assembles G o explain text written out e h = Assembles.failed written h e refl
 
 -- a grammar file that is refused
-pub grammar_refused : (command : Command) (text file : Option (List ℕ)) (e : GrammarError) → (e ≢ J8 → breaks text e) → IsRefusal command text file (grammar_text e)
+pub grammar_refused : (command : Command) (text file : Option (List ℕ)) (e : GrammarError) → (e ≢ J8 → breaks text e)
+    → IsRefusal command text file (grammar_text e)
 grammar_refused command text file J8 h = memory
 grammar_refused command text file J1 h = grammar J1 (h (λ q. cc))
 grammar_refused command text file J2 h = grammar J2 (h (λ q. cc))

@@ -1,9 +1,12 @@
 -- What a writer has got, and how far a run on several files is.
-use Rattle.std.proofs.Common.{◌≡◌, ◌≢◌, ◌≤◌, ◌<◌, ◌↔◌, ◌⊎◌, inl, inr, ◌+◌, ◌-◌, ◌∙◌, ◌++◌, ◌∷◌, [], ℕ, List, Bool, true, false, IsTrue, Option, Some, None, IfSome, codes, length, max, take, drop, map, ap, sym, refl, subst, arith, append_assoc, append-nil, length-append, get_or, if◌then◌else◌}
+use Rattle.std.proofs.Common.{◌≡◌, ◌≢◌, ◌≤◌, ◌<◌, ◌↔◌, ◌⊎◌, inl, inr, ◌+◌, ◌-◌, ◌∙◌, ◌++◌, ◌∷◌, [], ℕ, List, Bool, true}
+use Rattle.std.proofs.Common.{false, IsTrue, Option, Some, None, IfSome, codes, length, max, take, drop, map, ap, sym}
+use Rattle.std.proofs.Common.{refl, subst, arith, append_assoc, append-nil, length-append, get_or, if◌then◌else◌}
 use Rattle.std.specs.Io.KnownBytes.{Appends}
 use Rattle.std.proofs.KnownBytes.{Appends-nil, Appends-trans}
 use Rattle.std.proofs.Math.Seq.{take-add, take-append-add}
-use Rattle.std.proofs.lemmas.List.{flat_map_more, length-drop, length-map, length-take-le, map_more, take-append-le, take-map, take_all, take_more}
+use Rattle.std.proofs.lemmas.List.{flat_map_more, length-drop, length-map, length-take-le, map_more, take-append-le}
+use Rattle.std.proofs.lemmas.List.{take-map, take_all, take_more}
 use Rattle.std.proofs.lemmas.Grind.{flat_map-append}
 use Rattle.std.specs.Borrow.{Bor}
 use Rattle.spv_table.specs.Table.{Table}
@@ -27,13 +30,15 @@ pub never : ¬ (IsTrue false)
 never e = cc
 
 -- a beginning of what comes behind a text is one of both
-pub begun_behind : (old middle new : Option (List ℕ)) (text next : List ℕ) → Appends old middle text → IfSome middle (λ xs. BeginsWith next xs new)
+pub begun_behind : (old middle new : Option (List ℕ)) (text next : List ℕ) → Appends old middle text
+    → IfSome middle (λ xs. BeginsWith next xs new)
     → IfSome old (λ xs. BeginsWith (text ++ next) xs new)
 begun_behind None middle new text next a b = tt
 begun_behind (Some xs) None new text next a b = absurd a
 begun_behind (Some xs) (Some ys) new text next a b =
     let fits = b.fits in
-    let front : take (length text + b.count) (text ++ next) ≡ text ++ take b.count next = take-append-add text next b.count in
+    let front : take (length text + b.count) (text ++ next) ≡ text
+    ++ take b.count next = take-append-add text next b.count in
     record {
       count = length text + b.count;
       fits = rw (length-append text next) (omega arith);
@@ -41,7 +46,8 @@ begun_behind (Some xs) (Some ys) new text next a b =
     }
 
 -- a beginning of a text is one of it with what would come behind it
-pub begun_before : (old new : Option (List ℕ)) (text next : List ℕ) → IfSome old (λ xs. BeginsWith text xs new) → IfSome old (λ xs. BeginsWith (text ++ next) xs new)
+pub begun_before : (old new : Option (List ℕ)) (text next : List ℕ) → IfSome old (λ xs. BeginsWith text xs new)
+    → IfSome old (λ xs. BeginsWith (text ++ next) xs new)
 begun_before None new text next b = tt
 begun_before (Some xs) new text next b =
     let fits = b.fits in
@@ -53,8 +59,10 @@ begun_before (Some xs) new text next b =
     }
 
 -- a writer that has got a text gets one more
-pub got_more : (sound : Bool) (text next : List ℕ) (old middle new : Option (List ℕ)) (before between after : ℕ) → HasGot true text old middle before between
-    → Writes next middle new between after → IsTrue sound ↔ (after ≡ between) → HasGot sound (text ++ next) old new before after
+pub got_more : (sound : Bool) (text next : List ℕ) (old middle new : Option (List ℕ)) (before between after : ℕ)
+    → HasGot true text old middle before between
+    → Writes next middle new between after → IsTrue sound ↔ (after ≡ between)
+    → HasGot sound (text ++ next) old new before after
 got_more sound text next old middle new before between after h w f =
     let same : between ≡ before = h.steady.0 refl in
     record {
@@ -66,7 +74,8 @@ got_more sound text next old middle new before between after h w f =
     }
 
 -- one that has failed gets no more
-pub got_no_more : (text next : List ℕ) (old new : Option (List ℕ)) (before after : ℕ) → HasGot false text old new before after
+pub got_no_more : (text next : List ℕ) (old new : Option (List ℕ)) (before after : ℕ)
+    → HasGot false text old new before after
     → HasGot false (text ++ next) old new before after
 got_no_more text next old new before after h = record {
   writes = record { whole = λ q. absurd (never (h.steady.1 q)); begun = begun_before old new text next h.writes.begun };
@@ -85,65 +94,87 @@ got_nothing old before = record {
     begun_nothing (Some xs) = record { count = 0; fits = omega arith; written = ap Some (sym (append-nil xs)) }
 
 -- one text and then another
-pub on_and_on : (sound between heard : Bool) (text next : List ℕ) (here middle there : Option (List ℕ)) (failed fails failing : ℕ)
+pub on_and_on : (sound between heard : Bool) (text next : List ℕ) (here middle there : Option (List ℕ))
+    (failed fails failing : ℕ)
     → WritesOn sound text between here middle failed fails → WritesOn between next heard middle there fails failing
     → WritesOn sound (text ++ next) heard here there failed failing
 on_and_on sound between heard text next here middle there failed fails failing v w = λ so_far old before h.
-    subst (λ (all : List ℕ). HasGot heard all old there before failing) (append_assoc so_far text next) (w (so_far ++ text) old before (v so_far old before h))
+    subst (λ (all : List ℕ). HasGot heard all old there before failing) (append_assoc so_far text next)
+    (w (so_far ++ text) old before (v so_far old before h))
 
 -- what a writer that held nothing has got, if no write failed
-pub got_whole : (sound : Bool) (text old new : List ℕ) (before after : ℕ) → sound ≡ true → old ≡ [] → HasGot sound text (Some old) (Some new) before after → new ≡ text
-got_whole sound text old new before after s e h = h.writes.whole (h.steady.0 s) ∙ ap (λ (front : List ℕ). front ++ text) e
+pub got_whole : (sound : Bool) (text old new : List ℕ) (before after : ℕ) → sound ≡ true → old ≡ []
+    → HasGot sound text (Some old) (Some new) before after → new ≡ text
+got_whole sound text old new before after s e h =
+    h.writes.whole (h.steady.0 s) ∙ ap (λ (front : List ℕ). front ++ text) e
 
 -- ---- a name from its front on
 
 -- a run of bytes that stand as they are
-pub run_on : (name rest : List ℕ) (at count : ℕ) (sound between heard : Bool) (here middle there : Option (List ℕ)) (failed fails failing : ℕ)
+pub run_on : (name rest : List ℕ) (at count : ℕ) (sound between heard : Bool) (here middle there : Option (List ℕ))
+    (failed fails failing : ℕ)
     → rest ≡ take (length name - at) (drop at name) → flat_map shown_byte (take count rest) ≡ take count rest
-    → WritesOn sound (flat_map shown_byte (take at name)) between here middle failed fails → WritesOn between (take count rest) heard middle there fails failing
+    → WritesOn sound (flat_map shown_byte (take at name)) between here middle failed fails
+    → WritesOn between (take count rest) heard middle there fails failing
     → WritesOn sound (flat_map shown_byte (take (at + count) name)) heard here there failed failing
 run_on name rest at count sound between heard here middle there failed fails failing r p v w =
-    let all : rest ≡ drop at name = r ∙ take_all (length name - at) (drop at name) (rw (length-drop at name) (omega arith)) in
-    let more_of : flat_map shown_byte (take at name) ++ flat_map shown_byte (take count (drop at name)) ≡ flat_map shown_byte (take (at + count) name) =
-    sym (ap (flat_map shown_byte) (take-add at count name) ∙ flat_map-append shown_byte (take at name) (take count (drop at name))) in
+    let all : rest ≡ drop at name = r ∙ take_all (length name - at) (drop at name)
+    (rw (length-drop at name) (omega arith)) in
+    let more_of : flat_map shown_byte (take at name)
+    ++ flat_map shown_byte (take count (drop at name)) ≡ flat_map shown_byte (take (at + count) name) =
+    sym (ap (flat_map shown_byte) (take-add at count name)
+    ∙ flat_map-append shown_byte (take at name) (take count (drop at name))) in
     let e : flat_map shown_byte (take at name) ++ take count rest ≡ flat_map shown_byte (take (at + count) name) =
-    ap (λ (run : List ℕ). flat_map shown_byte (take at name) ++ run) (sym p ∙ ap (λ (tail : List ℕ). flat_map shown_byte (take count tail)) all) ∙ more_of in
+    ap (λ (run : List ℕ). flat_map shown_byte (take at name) ++ run)
+    (sym p ∙ ap (λ (tail : List ℕ). flat_map shown_byte (take count tail)) all) ∙ more_of in
     subst (λ (text : List ℕ). WritesOn sound text heard here there failed failing) e
-    (on_and_on sound between heard (flat_map shown_byte (take at name)) (take count rest) here middle there failed fails failing v w)
+    (on_and_on sound between heard (flat_map shown_byte (take at name))
+    (take count rest) here middle there failed fails failing v w)
 
 -- one byte
-pub byte_on : (name : List ℕ) (at : ℕ) (sound between heard : Bool) (here middle there : Option (List ℕ)) (failed fails failing : ℕ) → at < length name
+pub byte_on : (name : List ℕ) (at : ℕ) (sound between heard : Bool) (here middle there : Option (List ℕ))
+    (failed fails failing : ℕ) → at < length name
     → WritesOn sound (flat_map shown_byte (take at name)) between here middle failed fails
     → WritesOn between (shown_byte (get_or name at 0)) heard middle there fails failing
     → WritesOn sound (flat_map shown_byte (take (at + 1) name)) heard here there failed failing
 byte_on name at sound between heard here middle there failed fails failing h v w =
-    let e : flat_map shown_byte (take at name) ++ shown_byte (get_or name at 0) ≡ flat_map shown_byte (take (at + 1) name) =
-    flat_map_more shown_byte [] (take at name) (get_or name at 0) ∙ ap (flat_map shown_byte) (sym (take_more name at 0 h)) in
+    let e : flat_map shown_byte (take at name)
+    ++ shown_byte (get_or name at 0) ≡ flat_map shown_byte (take (at + 1) name) =
+    flat_map_more shown_byte [] (take at name) (get_or name at 0)
+    ∙ ap (flat_map shown_byte) (sym (take_more name at 0 h)) in
     subst (λ (text : List ℕ). WritesOn sound text heard here there failed failing) e
-    (on_and_on sound between heard (flat_map shown_byte (take at name)) (shown_byte (get_or name at 0)) here middle there failed fails failing v w)
+    (on_and_on sound between heard (flat_map shown_byte (take at name))
+    (shown_byte (get_or name at 0)) here middle there failed fails failing v w)
 
 -- nothing is told of a file that was judged
 pub nothing_on : (sound : Bool) (here : Option (List ℕ)) (failed : ℕ) → WritesOn sound [] sound here here failed failed
-nothing_on sound here failed = λ so_far old before h. subst (λ (all : List ℕ). HasGot sound all old here before failed) (sym (append-nil so_far)) h
+nothing_on sound here failed =
+    λ so_far old before h. subst (λ (all : List ℕ). HasGot sound all old here before failed) (sym (append-nil so_far)) h
 
-begun_as : (old new : Option (List ℕ)) (text : List ℕ) → IfSome old (λ xs. (n : ℕ) × (n ≤ length text) × (new ≡ Some (xs ++ take n text)))
+begun_as : (old new : Option (List ℕ)) (text : List ℕ)
+    → IfSome old (λ xs. (n : ℕ) × (n ≤ length text) × (new ≡ Some (xs ++ take n text)))
     → IfSome old (λ xs. BeginsWith text xs new)
 begun_as None new text b = tt
 begun_as (Some xs) new text b = record { count = b.0; fits = b.1; written = b.2 }
 
 -- what a call that writes all of a text says
-pub written : {T : Type 0} (r : Result T WordError) (text : List ℕ) (old new : Option (List ℕ)) (before after : ℕ) → OnOk r (Appends old new text)
-    → IfSome old (λ xs. (n : ℕ) × (n ≤ length text) × (new ≡ Some (xs ++ take n text))) → IfErr r (λ e. e ≡ W1) → (after ≢ before) ↔ IsErrOf r W1
+pub written : {T : Type 0} (r : Result T WordError) (text : List ℕ) (old new : Option (List ℕ)) (before after : ℕ)
+    → OnOk r (Appends old new text)
+    → IfSome old (λ xs. (n : ℕ) × (n ≤ length text) × (new ≡ Some (xs ++ take n text))) → IfErr r (λ e. e ≡ W1)
+    → (after ≢ before) ↔ IsErrOf r W1
     → OnOk r (after ≡ before) → Writes text old new before after × (IsTrue (is_ok r) ↔ (after ≡ before))
 written (Ok u) text old new before after all begun only count steady =
     (record { whole = λ q. all; begun = begun_as old new text begun }, (λ y. steady, λ q. refl))
 written (Err e) text old new before after all begun only count steady =
-    let differ = count.1 (ap Err only) in
-    (record { whole = λ q. absurd (differ q); begun = begun_as old new text begun }, (λ y. absurd (never y), λ q. absurd (differ q)))
+    let differ = count.1 (ap Err only) in (
+      record { whole = λ q. absurd (differ q); begun = begun_as old new text begun },
+      (λ y. absurd (never y), λ q. absurd (differ q)),
+    )
 
 -- ---- the worked examples
 
-pub not_judged : (G : Table) (how : Judging) (name line : List ℕ) (status : ℕ) → status ≡ 0 → ¬ (IsPart G how name (Some None) line [] status)
+pub not_judged : (G : Table) (how : Judging) (name line : List ℕ) (status : ℕ) → status ≡ 0
+    → ¬ (IsPart G how name (Some None) line [] status)
 not_judged G how name line status z (IsPart.judged bytes valid k d e s) = cc
 not_judged G how name line status z (IsPart.unread k o e s) = let q : 0 ≡ 2 = sym z ∙ s in cc
 not_judged G how name line status z (IsPart.starved o e s) = let q : 0 ≡ 2 = sym z ∙ s in cc
@@ -154,10 +185,14 @@ first_byte xs = get_or xs 0 0
 apart : (a b : ℕ) → a < b → ¬ (a ≡ b)
 apart a b h e = omega (arith, h, e)
 
-pub always_named : (G : Table) (how : Judging) (known : Known) (out err : List ℕ) (status : ℕ) → err ≡ memory_line → ¬ (IsPart G how (codes "a") known out err status)
-always_named G how known out err status m (IsPart.judged bytes valid k d e s) = apart 0 101 (omega arith) (ap first_byte (sym e ∙ m))
-always_named G how known out err status m (IsPart.unread k o e s) = apart 97 101 (omega arith) (ap first_byte (sym e ∙ m))
-always_named G how known out err status m (IsPart.starved o e s) = apart 97 101 (omega arith) (ap first_byte (sym e ∙ m))
+pub always_named : (G : Table) (how : Judging) (known : Known) (out err : List ℕ) (status : ℕ) → err ≡ memory_line
+    → ¬ (IsPart G how (codes "a") known out err status)
+always_named G how known out err status m (IsPart.judged bytes valid k d e s) =
+    apart 0 101 (omega arith) (ap first_byte (sym e ∙ m))
+always_named G how known out err status m (IsPart.unread k o e s) =
+    apart 97 101 (omega arith) (ap first_byte (sym e ∙ m))
+always_named G how known out err status m (IsPart.starved o e s) =
+    apart 97 101 (omega arith) (ap first_byte (sym e ∙ m))
 
 -- ---- the status of a module
 

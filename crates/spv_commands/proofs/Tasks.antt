@@ -1,5 +1,6 @@
 -- What a command does with three bytes.
-use Rattle.std.proofs.Common.{ap, length, length-append, ◌≤◌, ◌+◌, ℕ, List, [], ◌∷◌, ◌++◌, Option, Some, None, Bool, true, false, ◌≡◌, codes, refl, sym, subst, arith, lit≤}
+use Rattle.std.proofs.Common.{ap, length, length-append, ◌≤◌, ◌+◌, ℕ, List, [], ◌∷◌, ◌++◌, Option, Some, None, Bool}
+use Rattle.std.proofs.Common.{true, false, ◌≡◌, codes, refl, sym, subst, arith, lit≤}
 use Rattle.spv_words.specs.Header.{IsFirstBroken, IsModule}
 use Rattle.spv_words.specs.declared.words.Order.{Order}
 use Rattle.spv_words.specs.declared.words.WordError.{WordError}
@@ -7,16 +8,18 @@ use Rattle.spv_words.specs.declared.words.WordError.TheVariants.{W2}
 use Rattle.spv_table.specs.Table.{Table}
 use Rattle.spv_extended.specs.declared.reach.Reach.{Reach}
 use Rattle.spv_command_line.specs.declared.command_line.Command.{Command}
-use Rattle.spv_command_line.specs.declared.command_line.Command.TheVariants.{Judge, Show, Asm, Trace, Rules, Grammar, Annotate, Graph}
+use Rattle.spv_command_line.specs.declared.command_line.Command.TheVariants.{Judge, Show, Asm, Trace, Rules, Grammar}
+use Rattle.spv_command_line.specs.declared.command_line.Command.TheVariants.{Annotate, Graph}
 use Rattle.spv_command_line.specs.declared.command_line.Task.TheVariants as tasks
 use Rattle.spv_commands.specs.Example.{answer_of, empty_grammar}
 use Rattle.spv_commands.specs.Show.{BeginsShowing, IsShowing, Shows}
 use Rattle.spv_explain.specs.Lines.{refused_text}
 use Rattle.spv_explain.specs.Stream.{BeginsExplaining, Explains}
-use Rattle.spv_verdict.specs.Stream.{Begins, TellsVerdict}
-use Rattle.spv_verdict.specs.Verdict.{IsVerdict}
-use Rattle.spv_verdict.proofs.Verdicts.{refused_is_not_valid}
-use Rattle.spv_commands.specs.Task.{DoesByText, MakesNothing, ReadsNoFile, WritesGrammar, detail_of, reach_of, taken, view_of}
+use Rattle.spv_check.specs.Stream.{Begins, TellsVerdict}
+use Rattle.spv_check.specs.Verdict.{IsVerdict}
+use Rattle.spv_check.proofs.Verdicts.{refused_is_not_valid}
+use Rattle.spv_commands.specs.Task.{DoesByText, MakesNothing, ReadsNoFile, WritesGrammar, detail_of, reach_of, taken}
+use Rattle.spv_commands.specs.Task.{view_of}
 use Rattle.spv_views.specs.View.{BeginsViewing, Views}
 use Rattle.spv_views.specs.declared.view.View.{View}
 use Rattle.spv_views.specs.declared.view.View.TheVariants as view
@@ -24,29 +27,45 @@ use Rattle.spv_fault_lines.specs.declared.fact.Detail.{Detail}
 use Rattle.spv_commands.specs.Trace.{BeginsTracing, Traces}
 use Rattle.spv_builtin.specs.Source.{IsTableOf}
 use Rattle.spv_builtin.specs.Text.{IsGrammarText}
-use Rattle.spv_verdict.specs.Verdict.{line_end, refused_line}
+use Rattle.spv_check.specs.Verdict.{line_end, refused_line}
 
-pub short_shown : (G : Table) → IsFirstBroken W2 (1 ∷ 2 ∷ 3 ∷ []) → Shows G (1 ∷ 2 ∷ 3 ∷ []) (9 ∷ []) (Some (9 ∷ codes "fault W2" ++ line_end)) false
+pub short_shown : (G : Table) → IsFirstBroken W2 (1 ∷ 2 ∷ 3 ∷ [])
+    → Shows G (1 ∷ 2 ∷ 3 ∷ []) (9 ∷ []) (Some (9 ∷ codes "fault W2" ++ line_end)) false
 short_shown G h = record { output = refused_line W2; showing = IsShowing.refused W2 h; written = refl }
 
-pub short_begun_showing : (G : Table) → IsFirstBroken W2 (1 ∷ 2 ∷ 3 ∷ []) → BeginsShowing G (1 ∷ 2 ∷ 3 ∷ []) (9 ∷ []) (Some (9 ∷ codes "fault"))
-short_begun_showing G h = record { output = refused_line W2; answer = false; showing = IsShowing.refused W2 h; count = 5; fits = lit≤ tt; written = refl }
+pub short_begun_showing : (G : Table) → IsFirstBroken W2 (1 ∷ 2 ∷ 3 ∷ [])
+    → BeginsShowing G (1 ∷ 2 ∷ 3 ∷ []) (9 ∷ []) (Some (9 ∷ codes "fault"))
+short_begun_showing G h =
+    record {
+      output = refused_line W2;
+      answer = false;
+      showing = IsShowing.refused W2 h;
+      count = 5;
+      fits = lit≤ tt;
+      written = refl;
+    }
 
-pub short_explained : (G : Table) (reach : Reach) (detail : Detail) → IsFirstBroken W2 (1 ∷ 2 ∷ 3 ∷ []) → ((o : Order) (ws : List ℕ) → ¬ (IsModule o (1 ∷ 2 ∷ 3 ∷ []) ws))
+pub short_explained : (G : Table) (reach : Reach) (detail : Detail) → IsFirstBroken W2 (1 ∷ 2 ∷ 3 ∷ [])
+    → ((o : Order) (ws : List ℕ) → ¬ (IsModule o (1 ∷ 2 ∷ 3 ∷ []) ws))
     → ((e : WordError) → IsFirstBroken e (1 ∷ 2 ∷ 3 ∷ []) → e ≡ W2)
-    → Explains detail G reach (1 ∷ 2 ∷ 3 ∷ []) (9 ∷ []) (Some (9 ∷ codes "fault W2" ++ (line_end ++ refused_text W2 (1 ∷ 2 ∷ 3 ∷ [])))) false
+    → Explains detail G reach (1 ∷ 2 ∷ 3 ∷ []) (9 ∷ [])
+    (Some (9 ∷ codes "fault W2" ++ (line_end ++ refused_text W2 (1 ∷ 2 ∷ 3 ∷ [])))) false
 short_explained G reach detail h never once = record {
   line = refused_line W2;
   lines = refused_text W2 (1 ∷ 2 ∷ 3 ∷ []);
   verdict = IsVerdict.refused W2 h;
   explain = λ words order is r n m listing first stage. absurd (never order words m);
   dead = λ words order r n word m d. absurd (never order words m);
-  others = record { valid = λ e. absurd (refused_is_not_valid W2 e); refused = λ code f. ap (λ (c : WordError). refused_text c (1 ∷ 2 ∷ 3 ∷ [])) (sym (once code f)) };
+  others = record {
+    valid = λ e. absurd (refused_is_not_valid W2 e);
+    refused = λ code f. ap (λ (c : WordError). refused_text c (1 ∷ 2 ∷ 3 ∷ [])) (sym (once code f));
+  };
   written = refl;
   answered = (λ t. cc, λ e. absurd (refused_is_not_valid W2 e));
 }
 
-pub short_begun_explaining : (G : Table) (reach : Reach) (detail : Detail) → IsFirstBroken W2 (1 ∷ 2 ∷ 3 ∷ []) → ((o : Order) (ws : List ℕ) → ¬ (IsModule o (1 ∷ 2 ∷ 3 ∷ []) ws))
+pub short_begun_explaining : (G : Table) (reach : Reach) (detail : Detail) → IsFirstBroken W2 (1 ∷ 2 ∷ 3 ∷ [])
+    → ((o : Order) (ws : List ℕ) → ¬ (IsModule o (1 ∷ 2 ∷ 3 ∷ []) ws))
     → ((e : WordError) → IsFirstBroken e (1 ∷ 2 ∷ 3 ∷ []) → e ≡ W2)
     → BeginsExplaining detail G reach (1 ∷ 2 ∷ 3 ∷ []) (9 ∷ []) (Some (9 ∷ codes "fault"))
 short_begun_explaining G reach detail h never once = record {
@@ -55,17 +74,22 @@ short_begun_explaining G reach detail h never once = record {
   verdict = IsVerdict.refused W2 h;
   explain = λ words order is r n m listing first stage. absurd (never order words m);
   dead = λ words order r n word m d. absurd (never order words m);
-  others = record { valid = λ e. absurd (refused_is_not_valid W2 e); refused = λ code f. ap (λ (c : WordError). refused_text c (1 ∷ 2 ∷ 3 ∷ [])) (sym (once code f)) };
+  others = record {
+    valid = λ e. absurd (refused_is_not_valid W2 e);
+    refused = λ code f. ap (λ (c : WordError). refused_text c (1 ∷ 2 ∷ 3 ∷ [])) (sym (once code f));
+  };
   count = 5;
   fits =
-      let l : length (refused_line W2 ++ refused_text W2 (1 ∷ 2 ∷ 3 ∷ [])) ≡ length (refused_line W2) + length (refused_text W2 (1 ∷ 2 ∷ 3 ∷ [])) = length-append (refused_line W2) (refused_text W2 (1 ∷ 2 ∷ 3 ∷ [])) in
+      let l : length (refused_line W2 ++ refused_text W2 (1 ∷ 2 ∷ 3 ∷ [])) ≡ length (refused_line W2) + length
+      (refused_text W2 (1 ∷ 2 ∷ 3 ∷ [])) = length-append (refused_line W2) (refused_text W2 (1 ∷ 2 ∷ 3 ∷ [])) in
       let f : 5 ≤ length (refused_line W2) = lit≤ tt in
       omega (arith, l, f);
   written = refl;
 }
 
 -- bytes that are no module have no text
-pub no_text : (G : Table) (bytes output : List ℕ) (answer : Bool) → answer ≡ true → ((o : Order) (ws : List ℕ) → ¬ (IsModule o bytes ws)) → ¬ (IsShowing G bytes output answer)
+pub no_text : (G : Table) (bytes output : List ℕ) (answer : Bool) → answer ≡ true
+    → ((o : Order) (ws : List ℕ) → ¬ (IsModule o bytes ws)) → ¬ (IsShowing G bytes output answer)
 no_text G bytes _ _ e never (IsShowing.refused code h) = cc
 no_text G bytes _ _ e never (IsShowing.dead words order broken inst at h d) = cc
 no_text G bytes _ _ e never (IsShowing.shown words order header is text h k l t) = never order words h
@@ -80,35 +104,62 @@ module _ (P : List ℕ → Type 0) where
   pub as_taken : (as_1_6 : Bool) → P (1 ∷ 2 ∷ 3 ∷ []) → P (taken as_1_6 (1 ∷ 2 ∷ 3 ∷ []))
   as_taken as_1_6 h = subst P (sym (short_taken as_1_6)) h
 
-pub does_short : (c : Command) (G : Table) → ¬ (ReadsNoFile c) → MakesNothing c → IsTableOf (Some empty_grammar) G → ((reach : Reach) → TellsVerdict G reach (1 ∷ 2 ∷ 3 ∷ []) (9 ∷ []) (Some (9 ∷ codes "fault W2" ++ line_end)) false)
-    → ((reach : Reach) (detail : Detail) → Explains detail G reach (1 ∷ 2 ∷ 3 ∷ []) (9 ∷ []) (Some (9 ∷ codes "fault W2" ++ (line_end ++ refused_text W2 (1 ∷ 2 ∷ 3 ∷ [])))) false)
+pub does_short : (c : Command) (G : Table) → ¬ (ReadsNoFile c) → MakesNothing c → IsTableOf (Some empty_grammar) G
+    → ((reach : Reach) → TellsVerdict G reach (1 ∷ 2 ∷ 3 ∷ []) (9 ∷ []) (Some (9 ∷ codes "fault W2" ++ line_end)) false)
+    → ((reach : Reach) (detail : Detail)
+    → Explains detail G reach (1 ∷ 2 ∷ 3 ∷ []) (9 ∷ [])
+    (Some (9 ∷ codes "fault W2" ++ (line_end ++ refused_text W2 (1 ∷ 2 ∷ 3 ∷ [])))) false)
     → Shows G (1 ∷ 2 ∷ 3 ∷ []) (9 ∷ []) (Some (9 ∷ codes "fault W2" ++ line_end)) false
-    → ((reach : Reach) (function : ℕ) (choices : List ℕ) (limit : ℕ) → Traces G reach function choices limit (1 ∷ 2 ∷ 3 ∷ []) (9 ∷ []) (Some (9 ∷ codes "fault W2" ++ line_end)) false)
-    → ((how : View) (function : Option ℕ) → Views how G function (1 ∷ 2 ∷ 3 ∷ []) (9 ∷ []) (Some (9 ∷ codes "fault W2" ++ line_end)) false)
+    → ((reach : Reach) (function : ℕ) (choices : List ℕ) (limit : ℕ)
+    → Traces G reach function choices limit (1 ∷ 2 ∷ 3 ∷ []) (9 ∷ [])
+    (Some (9 ∷ codes "fault W2" ++ line_end)) false)
+    → ((how : View) (function : Option ℕ)
+    → Views how G function (1 ∷ 2 ∷ 3 ∷ []) (9 ∷ []) (Some (9 ∷ codes "fault W2" ++ line_end)) false)
     → DoesByText c (Some empty_grammar) (1 ∷ 2 ∷ 3 ∷ []) (Some (9 ∷ [])) (Some (9 ∷ answer_of c)) None None false
 does_short (Judge tasks.Check g fs v e p q j) G r n given tells explains shows traces views =
-    record { table = G; given = given; does = as_taken (λ bytes. TellsVerdict G (reach_of e) bytes (9 ∷ []) (Some (9 ∷ codes "fault W2" ++ line_end)) false) v (tells (reach_of e)) }
+    record {
+      table = G;
+      given = given;
+      does = as_taken
+          (λ bytes. TellsVerdict G (reach_of e) bytes (9 ∷ []) (Some (9 ∷ codes "fault W2" ++ line_end)) false) v
+          (tells (reach_of e));
+    }
 does_short (Judge (tasks.Explain full) g fs v e p q j) G r n given tells explains shows traces views =
-    record { table = G; given = given; does = as_taken (λ bytes. Explains (detail_of full) G (reach_of e) bytes (9 ∷ []) (Some (9 ∷ codes "fault W2" ++ (line_end ++ refused_text W2 (1 ∷ 2 ∷ 3 ∷ [])))) false) v (explains (reach_of e) (detail_of full)) }
+    record {
+      table = G;
+      given = given;
+      does = as_taken
+          (λ bytes. Explains (detail_of full) G (reach_of e) bytes (9 ∷ [])
+          (Some (9 ∷ codes "fault W2" ++ (line_end ++ refused_text W2 (1 ∷ 2 ∷ 3 ∷ [])))) false) v
+          (explains (reach_of e) (detail_of full));
+    }
 does_short (Show g f v) G r n given tells explains shows traces views =
-    record { table = G; given = given; does = as_taken (λ bytes. Shows G bytes (9 ∷ []) (Some (9 ∷ codes "fault W2" ++ line_end)) false) v shows }
+    record {
+      table = G;
+      given = given;
+      does = as_taken
+          (λ bytes. Shows G bytes (9 ∷ []) (Some (9 ∷ codes "fault W2" ++ line_end)) false) v shows;
+    }
 does_short (Asm g f o b x) G r n given tells explains shows traces views = absurd n
 does_short (Trace g f function choices limit v e) G r n given tells explains shows traces views = record {
   table = G;
   given = given;
-  does = as_taken (λ bytes. Traces G (reach_of e) function choices.items limit bytes (9 ∷ []) (Some (9 ∷ codes "fault W2" ++ line_end)) false) v
+  does = as_taken (λ bytes. Traces G (reach_of e) function choices.items limit bytes (9 ∷ [])
+      (Some (9 ∷ codes "fault W2" ++ line_end)) false) v
       (traces (reach_of e) function choices.items limit);
 }
 does_short (Annotate g f v function form color) G r n given tells explains shows traces views = record {
   table = G;
   given = given;
-  does = as_taken (λ bytes. Views (view_of form color f) G function bytes (9 ∷ []) (Some (9 ∷ codes "fault W2" ++ line_end)) false) v
+  does = as_taken (λ bytes. Views (view_of form color f) G function bytes (9 ∷ [])
+      (Some (9 ∷ codes "fault W2" ++ line_end)) false) v
       (views (view_of form color f) function);
 }
 does_short (Graph g f v function) G r n given tells explains shows traces views = record {
   table = G;
   given = given;
-  does = as_taken (λ bytes. Views view.Graph G function bytes (9 ∷ []) (Some (9 ∷ codes "fault W2" ++ line_end)) false) v
+  does = as_taken (λ bytes. Views view.Graph G function bytes (9 ∷ []) (Some (9 ∷ codes "fault W2" ++ line_end)) false)
+      v
       (views view.Graph function);
 }
 does_short (Rules code j) G r n given tells explains shows traces views = absurd (r tt)
@@ -116,5 +167,6 @@ does_short (Grammar file) G r n given tells explains shows traces views = absurd
 
 -- ---- a grammar file
 
-pub grammar_written : (G : Table) (text : List ℕ) → IsGrammarText G text → WritesGrammar G (Some (9 ∷ [])) (Some (9 ∷ text))
+pub grammar_written : (G : Table) (text : List ℕ) → IsGrammarText G text
+    → WritesGrammar G (Some (9 ∷ [])) (Some (9 ∷ text))
 grammar_written G text t = record { text = text; is_text = t; written = refl }

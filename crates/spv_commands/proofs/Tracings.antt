@@ -1,5 +1,7 @@
 -- What is traced of bytes that were read.
-use Rattle.std.proofs.Common.{◌≡◌, ◌≢◌, ◌⊎◌, ◌↔◌, ◌≤◌, ◌++◌, ℕ, List, [], ◌∷◌, Option, Some, None, Result, Ok, Err, IfSome, IfOk, IfErr, IsErrOf, Bool, true, false, length, take, ap, refl, inl, inr, codes, lit≤}
+use Rattle.std.proofs.Common.{◌≡◌, ◌≢◌, ◌⊎◌, ◌↔◌, ◌≤◌, ◌++◌, ℕ, List, [], ◌∷◌, Option, Some, None, Result, Ok, Err}
+use Rattle.std.proofs.Common.{IfSome, IfOk, IfErr, IsErrOf, Bool, true, false, length, take, ap, refl, inl, inr, codes}
+use Rattle.std.proofs.Common.{lit≤}
 use Rattle.std.specs.Io.KnownBytes.{Appends}
 use Rattle.spv_words.specs.Header.{IsFirstBroken, IsModule, RefusesBytes}
 use Rattle.spv_words.specs.declared.words.Order.{Order}
@@ -9,47 +11,60 @@ use Rattle.spv_table.specs.Table.{Table}
 use Rattle.spv_module.specs.Operand.{PlainInst}
 use Rattle.spv_extended.specs.declared.reach.Reach.{Reach}
 use Rattle.spv_extended.specs.declared.reach.Reach.TheVariants.{Profile}
-use Rattle.spv_verdict.specs.run.Entry.{RefusesEntry}
-use Rattle.spv_verdict.specs.declared.run.parts.Trace.{Trace}
-use Rattle.spv_verdict.specs.declared.run.parts.TraceError.{TraceError}
-use Rattle.spv_verdict.specs.declared.run.parts.TraceError.TheVariants.{NoEntry, Memory}
-use Rattle.spv_verdict.specs.Answer.{IsAnswer}
-use Rattle.spv_verdict.specs.Broken.{Broken, IsSound}
-use Rattle.spv_verdict.specs.Checked.{IsChecked}
-use Rattle.spv_verdict.specs.Program.{Program}
-use Rattle.spv_verdict.specs.Tracing.{IsRunOf}
-use Rattle.spv_verdict.specs.Verdict.{IsVerdict, fault_line, line_end, refused_line}
-use Rattle.spv_verdict.specs.declared.checked.Verdict.{Verdict}
-use Rattle.spv_verdict.specs.declared.checked.Verdict.TheVariants.{Valid, Fault}
-use Rattle.spv_verdict.proofs.Checks.{fault_judged}
-use Rattle.spv_verdict.proofs.Miscalls.{not_asked}
-use Rattle.spv_verdict.proofs.Verdicts.{fault_is_not_valid, refused_is_not_valid}
+use Rattle.spv_run.specs.Entry.{RefusesEntry}
+use Rattle.spv_run.specs.declared.parts.Trace.{Trace}
+use Rattle.spv_run.specs.declared.parts.TraceError.{TraceError}
+use Rattle.spv_run.specs.declared.parts.TraceError.TheVariants.{NoEntry, Memory}
+use Rattle.spv_check.specs.Answer.{IsAnswer}
+use Rattle.spv_check.specs.Broken.{Broken, IsSound}
+use Rattle.spv_check.specs.Checked.{IsChecked}
+use Rattle.spv_check.specs.Program.{Program}
+use Rattle.spv_run.specs.Tracing.{IsRunOf}
+use Rattle.spv_check.specs.Verdict.{IsVerdict, fault_line, line_end, refused_line}
+use Rattle.spv_check.specs.declared.checked.Verdict.{Verdict}
+use Rattle.spv_check.specs.declared.checked.Verdict.TheVariants.{Valid, Fault}
+use Rattle.spv_check.proofs.Checks.{fault_judged}
+use Rattle.spv_check.proofs.Miscalls.{not_asked}
+use Rattle.spv_check.proofs.Verdicts.{fault_is_not_valid, refused_is_not_valid}
 use Rattle.spv_module.specs.declared.fault.Fault as fault
-use Rattle.spv_commands.specs.Trace.{BeginsTracing, HasNoEntry, IsProgram, IsTracing, Traces, judged, traced, trace_text}
+use Rattle.spv_commands.specs.Trace.{BeginsTracing, HasNoEntry, IsProgram, IsTracing, Traces, judged, traced}
+use Rattle.spv_commands.specs.Trace.{trace_text}
 use Rattle.spv_commands.specs.inner.Traced.{is_run, output_of, traced_refusal, traced_stop}
 use Rattle.spv_commands.specs.declared.trouble.Trouble.{Trouble}
 use Rattle.spv_commands.specs.declared.trouble.Trouble.TheVariants as trouble
 use Rattle.spv_commands.specs.declared.tracing.Traced.{Traced}
 
-refused_line_written : (G : Table) (reach : Reach) (function : ℕ) (choices : List ℕ) (limit : ℕ) (bytes : List ℕ) (code : WordError) → IsFirstBroken code bytes
+refused_line_written : (G : Table) (reach : Reach) (function : ℕ) (choices : List ℕ) (limit : ℕ) (bytes : List ℕ)
+    (code : WordError) → IsFirstBroken code bytes
     → IsTracing G reach function choices limit bytes (refused_line code) false
-refused_line_written G reach function choices limit bytes code h = judged (refused_line code) (IsVerdict.refused code h) (λ e. refused_is_not_valid code e)
+refused_line_written G reach function choices limit bytes code h =
+    judged (refused_line code) (IsVerdict.refused code h) (λ e. refused_is_not_valid code e)
 
 -- a code that was read
-pub refused_bytes : (G : Table) (reach : Reach) (function : ℕ) (choices : List ℕ) (limit : ℕ) (known : Option (List ℕ)) (code : WordError) → IfSome known (λ xs. RefusesBytes code xs)
-    → IfSome known (λ xs. IfOk (traced_refusal code) (λ t. IsTracing G reach function choices limit xs (output_of t) (is_run t)))
+pub refused_bytes : (G : Table) (reach : Reach) (function : ℕ) (choices : List ℕ) (limit : ℕ) (known : Option (List ℕ))
+    (code : WordError) → IfSome known (λ xs. RefusesBytes code xs)
+    → IfSome known (λ xs. IfOk (traced_refusal code)
+    (λ t. IsTracing G reach function choices limit xs (output_of t) (is_run t)))
 refused_bytes G reach function choices limit None code h = tt
 refused_bytes G reach function choices limit (Some xs) word.W1 h = tt
 refused_bytes G reach function choices limit (Some xs) word.W9 h = tt
-refused_bytes G reach function choices limit (Some xs) word.W2 h = refused_line_written G reach function choices limit xs word.W2 h
-refused_bytes G reach function choices limit (Some xs) word.W3 h = refused_line_written G reach function choices limit xs word.W3 h
-refused_bytes G reach function choices limit (Some xs) word.W4 h = refused_line_written G reach function choices limit xs word.W4 h
-refused_bytes G reach function choices limit (Some xs) word.W5 h = refused_line_written G reach function choices limit xs word.W5 h
-refused_bytes G reach function choices limit (Some xs) word.W6 h = refused_line_written G reach function choices limit xs word.W6 h
-refused_bytes G reach function choices limit (Some xs) word.W7 h = refused_line_written G reach function choices limit xs word.W7 h
-refused_bytes G reach function choices limit (Some xs) word.W8 h = refused_line_written G reach function choices limit xs word.W8 h
+refused_bytes G reach function choices limit (Some xs) word.W2 h =
+    refused_line_written G reach function choices limit xs word.W2 h
+refused_bytes G reach function choices limit (Some xs) word.W3 h =
+    refused_line_written G reach function choices limit xs word.W3 h
+refused_bytes G reach function choices limit (Some xs) word.W4 h =
+    refused_line_written G reach function choices limit xs word.W4 h
+refused_bytes G reach function choices limit (Some xs) word.W5 h =
+    refused_line_written G reach function choices limit xs word.W5 h
+refused_bytes G reach function choices limit (Some xs) word.W6 h =
+    refused_line_written G reach function choices limit xs word.W6 h
+refused_bytes G reach function choices limit (Some xs) word.W7 h =
+    refused_line_written G reach function choices limit xs word.W7 h
+refused_bytes G reach function choices limit (Some xs) word.W8 h =
+    refused_line_written G reach function choices limit xs word.W8 h
 
-pub refused_only : (P : Type 0) (code : WordError) → IfErr (traced_refusal code) (λ t. (t ≡ trouble.File) ⊎ ((t ≡ trouble.NoEntry) × P) ⊎ (t ≡ trouble.Memory))
+pub refused_only : (P : Type 0) (code : WordError)
+    → IfErr (traced_refusal code) (λ t. (t ≡ trouble.File) ⊎ ((t ≡ trouble.NoEntry) × P) ⊎ (t ≡ trouble.Memory))
 refused_only P word.W1 = inl refl
 refused_only P word.W9 = inr (inr refl)
 refused_only P word.W2 = tt
@@ -61,26 +76,33 @@ refused_only P word.W7 = tt
 refused_only P word.W8 = tt
 
 -- W1 is told where it was read
-pub refused_count : {X : Type 0} (P : Type 0) (code : WordError) (r : Result X WordError) → r ≡ Err code → (P ↔ IsErrOf r word.W1) → (P ↔ IsErrOf (traced_refusal code) trouble.File)
+pub refused_count : {X : Type 0} (P : Type 0) (code : WordError) (r : Result X WordError) → r ≡ Err code
+    → (P ↔ IsErrOf r word.W1) → (P ↔ IsErrOf (traced_refusal code) trouble.File)
 refused_count P word.W1 r q h = (λ p. refl, λ e. h.1 q)
 refused_count P word.W9 r q h = (λ p. let e = h.0 p in cc, λ e. cc)
 refused_count P code r q h = (λ p. let e = h.0 p in cc, λ e. cc)
 
 -- the line of words that are no valid module
-pub fault_traced : (G : Table) (reach : Reach) (function : ℕ) (choices : List ℕ) (limit : ℕ) (bytes words : List ℕ) (order : Order) (v : Verdict) (f : fault.Fault) → v ≡ Fault f
-    → IsModule order bytes words → IsAnswer G reach words v → IsTracing G reach function choices limit bytes (fault_line f.rule f.inst f.word) false
+pub fault_traced : (G : Table) (reach : Reach) (function : ℕ) (choices : List ℕ) (limit : ℕ) (bytes words : List ℕ)
+    (order : Order) (v : Verdict) (f : fault.Fault) → v ≡ Fault f
+    → IsModule order bytes words → IsAnswer G reach words v
+    → IsTracing G reach function choices limit bytes (fault_line f.rule f.inst f.word) false
 fault_traced G reach function choices limit bytes words order v f e h a =
-    judged (fault_line f.rule f.inst f.word) (fault_judged G reach bytes words order v f e h a) (λ q. fault_is_not_valid f.rule f.inst f.word q)
+    judged (fault_line f.rule f.inst f.word) (fault_judged G reach bytes words order v f e h a)
+    (λ q. fault_is_not_valid f.rule f.inst f.word q)
 
 -- a module that was checked
-pub checked_by : (G : Table) (reach : Reach) (words : List ℕ) (v : Verdict) (p : Program) → v ≡ Valid p → IsAnswer G reach words v → IsChecked G reach words p
+pub checked_by : (G : Table) (reach : Reach) (words : List ℕ) (v : Verdict) (p : Program) → v ≡ Valid p
+    → IsAnswer G reach words v → IsChecked G reach words p
 checked_by G reach words v p e a = rw e at a
 
-pub program_of : (G : Table) (reach : Reach) (bytes words : List ℕ) (order : Order) (p : Program) → IsModule order bytes words → IsChecked G reach words p → IsProgram G reach bytes p
+pub program_of : (G : Table) (reach : Reach) (bytes words : List ℕ) (order : Order) (p : Program)
+    → IsModule order bytes words → IsChecked G reach words p → IsProgram G reach bytes p
 program_of G reach bytes words order p h c = record { words = words; order = order; is_module = h; checked = c }
 
 -- what breaks no rule as far as it is looked at breaks none of the profile
-pub by_profile : (G : Table) (reach : Reach) (bound : ℕ) (is : List PlainInst) → IsSound G reach bound is → IsSound G Profile bound is
+pub by_profile : (G : Table) (reach : Reach) (bound : ℕ) (is : List PlainInst) → IsSound G reach bound is
+    → IsSound G Profile bound is
 by_profile G reach bound is s _ _ (Broken.of_layout r n b) = s r n (Broken.of_layout r n b)
 by_profile G reach bound is s _ _ (Broken.of_ids r n b) = s r n (Broken.of_ids r n b)
 by_profile G reach bound is s _ _ (Broken.of_types r n b) = s r n (Broken.of_types r n b)
@@ -89,70 +111,107 @@ by_profile G reach bound is s _ _ (Broken.of_calls r n b) = s r n (Broken.of_cal
 by_profile G reach bound is s _ _ (Broken.of_extended r n b) = absurd (not_asked is r n b)
 
 -- its run, and that there is none
-pub run_traced : (G : Table) (reach : Reach) (function : ℕ) (choices : List ℕ) (limit : ℕ) (bytes words : List ℕ) (order : Order) (p : Program) (t : Trace) → IsModule order bytes words → IsChecked G reach words p
-    → IsRunOf G p function choices limit t → IsTracing G reach function choices limit bytes (trace_text t.steps.items t.ending) true
-run_traced G reach function choices limit bytes words order p t h c r = traced p t (program_of G reach bytes words order p h c) r
+pub run_traced : (G : Table) (reach : Reach) (function : ℕ) (choices : List ℕ) (limit : ℕ) (bytes words : List ℕ)
+    (order : Order) (p : Program) (t : Trace) → IsModule order bytes words → IsChecked G reach words p
+    → IsRunOf G p function choices limit t
+    → IsTracing G reach function choices limit bytes (trace_text t.steps.items t.ending) true
+run_traced G reach function choices limit bytes words order p t h c r =
+    traced p t (program_of G reach bytes words order p h c) r
 
-pub lacks_entry : (G : Table) (reach : Reach) (function : ℕ) (bytes words : List ℕ) (order : Order) (p : Program) (e : TraceError) → IsModule order bytes words → IsChecked G reach words p
+pub lacks_entry : (G : Table) (reach : Reach) (function : ℕ) (bytes words : List ℕ) (order : Order) (p : Program)
+    (e : TraceError) → IsModule order bytes words → IsChecked G reach words p
     → RefusesEntry p.insts function e → traced_stop e ≡ trouble.NoEntry → HasNoEntry G reach bytes function
-lacks_entry G reach function bytes words order p NoEntry h c r q = record { program = p; valid = program_of G reach bytes words order p h c; none = r }
+lacks_entry G reach function bytes words order p NoEntry h c r q =
+    record { program = p; valid = program_of G reach bytes words order p h c; none = r }
 lacks_entry G reach function bytes words order p Memory h c r q = cc
 
 -- what is written of the words that were read
-pub known_tracing : (G : Table) (reach : Reach) (function : ℕ) (choices : List ℕ) (limit : ℕ) (known : Option (List ℕ)) (words : List ℕ) (order : Order) (r : Result Traced Trouble)
+pub known_tracing : (G : Table) (reach : Reach) (function : ℕ) (choices : List ℕ) (limit : ℕ) (known : Option (List ℕ))
+    (words : List ℕ) (order : Order) (r : Result Traced Trouble)
     → IfSome known (λ xs. IsModule order xs words)
-    → ((bytes : List ℕ) (o : Order) → IsModule o bytes words → IfOk r (λ t. IsTracing G reach function choices limit bytes (output_of t) (is_run t)))
+    → ((bytes : List ℕ) (o : Order) → IsModule o bytes words
+    → IfOk r (λ t. IsTracing G reach function choices limit bytes (output_of t) (is_run t)))
     → IfSome known (λ xs. IfOk r (λ t. IsTracing G reach function choices limit xs (output_of t) (is_run t)))
 known_tracing G reach function choices limit None words order r h v = tt
 known_tracing G reach function choices limit (Some xs) words order r h v = v xs order h
 
-pub known_stranger : (G : Table) (reach : Reach) (function : ℕ) (known : Option (List ℕ)) (words : List ℕ) (order : Order) (P : Type 0) → IfSome known (λ xs. IsModule order xs words)
-    → ((bytes : List ℕ) (o : Order) → IsModule o bytes words → P → HasNoEntry G reach bytes function) → P → IfSome known (λ bytes. HasNoEntry G reach bytes function)
+pub known_stranger : (G : Table) (reach : Reach) (function : ℕ) (known : Option (List ℕ)) (words : List ℕ)
+    (order : Order) (P : Type 0) → IfSome known (λ xs. IsModule order xs words)
+    → ((bytes : List ℕ) (o : Order) → IsModule o bytes words → P → HasNoEntry G reach bytes function) → P
+    → IfSome known (λ bytes. HasNoEntry G reach bytes function)
 known_stranger G reach function None words order P h v p = tt
 known_stranger G reach function (Some xs) words order P h v p = v xs order h p
 
 abbrev failing : Trouble → Result Traced Trouble
 failing t = Err t
 
-pub known_only : (G : Table) (reach : Reach) (function : ℕ) (known : Option (List ℕ)) (words : List ℕ) (order : Order) (r : Result Traced Trouble)
+pub known_only : (G : Table) (reach : Reach) (function : ℕ) (known : Option (List ℕ)) (words : List ℕ) (order : Order)
+    (r : Result Traced Trouble)
     → IfSome known (λ xs. IsModule order xs words)
-    → ((bytes : List ℕ) (o : Order) → IsModule o bytes words → IsErrOf r trouble.NoEntry → HasNoEntry G reach bytes function)
+    → ((bytes : List ℕ) (o : Order) → IsModule o bytes words → IsErrOf r trouble.NoEntry
+    → HasNoEntry G reach bytes function)
     → IfErr r (λ t. (t ≡ trouble.NoEntry) ⊎ (t ≡ trouble.Memory))
-    → IfErr r (λ t. (t ≡ trouble.File) ⊎ ((t ≡ trouble.NoEntry) × IfSome known (λ bytes. HasNoEntry G reach bytes function)) ⊎ (t ≡ trouble.Memory))
+    → IfErr r (λ t. (t ≡ trouble.File) ⊎ ((t ≡ trouble.NoEntry)
+    × IfSome known (λ bytes. HasNoEntry G reach bytes function)) ⊎ (t ≡ trouble.Memory))
 known_only G reach function known words order (Ok t) h v o = tt
 known_only G reach function known words order (Err t) h v (inl e) =
-    inr (inl (e, known_stranger G reach function known words order (IsErrOf (failing t) trouble.NoEntry) h v (ap failing e)))
+    inr (inl (
+      e,
+      known_stranger G reach function known words order (IsErrOf (failing t) trouble.NoEntry) h v
+          (ap failing e),
+    ))
 known_only G reach function known words order (Err t) h v (inr e) = inr (inr e)
 
 -- it was written whole
-pub traces : (G : Table) (reach : Reach) (function : ℕ) (choices : List ℕ) (limit : ℕ) (known kept new : Option (List ℕ)) (t : Traced) (answer : Bool)
-    → IfSome known (λ bs. IsTracing G reach function choices limit bs (output_of t) (is_run t)) → answer ≡ is_run t → Appends kept new (output_of t)
+pub traces : (G : Table) (reach : Reach) (function : ℕ) (choices : List ℕ) (limit : ℕ)
+    (known kept new : Option (List ℕ)) (t : Traced) (answer : Bool)
+    → IfSome known (λ bs. IsTracing G reach function choices limit bs (output_of t) (is_run t)) → answer ≡ is_run t
+    → Appends kept new (output_of t)
     → IfSome known (λ bs. IfSome kept (λ old. Traces G reach function choices limit bs old new answer))
 traces G reach function choices limit None kept new t answer h e w = tt
 traces G reach function choices limit (Some bs) None new t answer h e w = tt
 traces G reach function choices limit (Some bs) (Some old) None t answer h e w = absurd w
-traces G reach function choices limit (Some bs) (Some old) (Some xs) t answer h e w = record { output = output_of t; tracing = rw e h; written = ap Some w }
+traces G reach function choices limit (Some bs) (Some old) (Some xs) t answer h e w =
+    record { output = output_of t; tracing = rw e h; written = ap Some w }
 
 -- a beginning of it was
-pub begins_tracing : (G : Table) (reach : Reach) (function : ℕ) (choices : List ℕ) (limit : ℕ) (known kept new : Option (List ℕ)) (t : Traced)
+pub begins_tracing : (G : Table) (reach : Reach) (function : ℕ) (choices : List ℕ) (limit : ℕ)
+    (known kept new : Option (List ℕ)) (t : Traced)
     → IfSome known (λ bs. IsTracing G reach function choices limit bs (output_of t) (is_run t))
-    → IfSome kept (λ xs. (n : ℕ) × (n ≤ length (output_of t)) × (new ≡ Some (xs ++ take n (output_of t)))) → IfSome known (λ bs. IfSome kept (λ old. BeginsTracing G reach function choices limit bs old new))
+    → IfSome kept (λ xs. (n : ℕ) × (n ≤ length (output_of t)) × (new ≡ Some (xs ++ take n (output_of t))))
+    → IfSome known (λ bs. IfSome kept (λ old. BeginsTracing G reach function choices limit bs old new))
 begins_tracing G reach function choices limit None kept new t h w = tt
 begins_tracing G reach function choices limit (Some bs) None new t h w = tt
-begins_tracing G reach function choices limit (Some bs) (Some old) new t h w = record { output = output_of t; answer = is_run t; tracing = h; count = w.0; fits = w.1; written = w.2 }
+begins_tracing G reach function choices limit (Some bs) (Some old) new t h w =
+    record { output = output_of t; answer = is_run t; tracing = h; count = w.0; fits = w.1; written = w.2 }
 
 -- three bytes are no module, and have no run
-pub short_traced : (G : Table) (reach : Reach) (function : ℕ) (choices : List ℕ) (limit : ℕ) → IsFirstBroken word.W2 (1 ∷ 2 ∷ 3 ∷ [])
+pub short_traced : (G : Table) (reach : Reach) (function : ℕ) (choices : List ℕ) (limit : ℕ)
+    → IsFirstBroken word.W2 (1 ∷ 2 ∷ 3 ∷ [])
     → Traces G reach function choices limit (1 ∷ 2 ∷ 3 ∷ []) (9 ∷ []) (Some (9 ∷ codes "fault W2" ++ line_end)) false
 short_traced G reach function choices limit h =
-    record { output = refused_line word.W2; tracing = refused_line_written G reach function choices limit (1 ∷ 2 ∷ 3 ∷ []) word.W2 h; written = refl }
+    record {
+      output = refused_line word.W2;
+      tracing = refused_line_written G reach function choices limit (1 ∷ 2 ∷ 3 ∷ []) word.W2 h;
+      written = refl;
+    }
 
-pub short_begun_tracing : (G : Table) (reach : Reach) (function : ℕ) (choices : List ℕ) (limit : ℕ) → IsFirstBroken word.W2 (1 ∷ 2 ∷ 3 ∷ [])
+pub short_begun_tracing : (G : Table) (reach : Reach) (function : ℕ) (choices : List ℕ) (limit : ℕ)
+    → IsFirstBroken word.W2 (1 ∷ 2 ∷ 3 ∷ [])
     → BeginsTracing G reach function choices limit (1 ∷ 2 ∷ 3 ∷ []) (9 ∷ []) (Some (9 ∷ codes "fault"))
 short_begun_tracing G reach function choices limit h =
-    record { output = refused_line word.W2; answer = false; tracing = refused_line_written G reach function choices limit (1 ∷ 2 ∷ 3 ∷ []) word.W2 h; count = 5; fits = lit≤ tt; written = refl }
+    record {
+      output = refused_line word.W2;
+      answer = false;
+      tracing = refused_line_written G reach function choices limit (1 ∷ 2 ∷ 3 ∷ []) word.W2 h;
+      count = 5;
+      fits =
+          lit≤ tt;
+      written = refl;
+    }
 
-pub no_run : (G : Table) (reach : Reach) (function : ℕ) (choices : List ℕ) (limit : ℕ) (bytes output : List ℕ) (answer : Bool) → answer ≡ true → ((o : Order) (ws : List ℕ) → ¬ (IsModule o bytes ws))
+pub no_run : (G : Table) (reach : Reach) (function : ℕ) (choices : List ℕ) (limit : ℕ) (bytes output : List ℕ)
+    (answer : Bool) → answer ≡ true → ((o : Order) (ws : List ℕ) → ¬ (IsModule o bytes ws))
     → ¬ (IsTracing G reach function choices limit bytes output answer)
 no_run G reach function choices limit bytes _ _ e never (IsTracing.judged line v n) = cc
 no_run G reach function choices limit bytes _ _ e never (IsTracing.traced p t h r) = never h.order h.words h.is_module

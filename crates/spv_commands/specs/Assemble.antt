@@ -16,7 +16,7 @@ use Rattle.spv_lines.specs.declared.asm_error.AsmCode.{AsmCode}
 use Rattle.spv_lines.specs.declared.asm_error.AsmCode.TheVariants.{S1, S2, S3, S4, S5, S6}
 use Rattle.spv_views.specs.text_fault.Lines.{Tells}
 use Rattle.spv_commands.specs.Trouble.{BeginsWith}
-use Rattle.spv_verdict.specs.Verdict.{line_end}
+use Rattle.spv_check.specs.Verdict.{line_end}
 
 -- the code of a text's fault, as text
 abbrev pub asm_code_text : AsmCode → List ℕ

@@ -1,7 +1,7 @@
 -- A grammar file and streams for the worked examples.
 use Rattle.std.specs.Prelude.{◌++◌, ◌∷◌, ℕ, List, [], Some, codes}
 use Rattle.spv_words.specs.declared.words.WordError.TheVariants.{W2}
-use Rattle.spv_verdict.specs.Verdict.{line_end}
+use Rattle.spv_check.specs.Verdict.{line_end}
 use Rattle.spv_explain.specs.Lines.{refused_text}
 use Rattle.spv_command_line.specs.declared.command_line.Command.{Command}
 use Rattle.spv_command_line.specs.declared.command_line.Command.TheVariants.{Judge}

@@ -2,7 +2,7 @@
 use Rattle.std.specs.Prelude.{ℕ, List, [], Option, Some, None, Bool, true, false, Result, Ok, Err}
 use Rattle.std.specs.Prelude.{Vec}
 use Rattle.std.specs.Global.{Global}
-use Rattle.spv_verdict.specs.Text.{text_of}
+use Rattle.spv_check.specs.Text.{text_of}
 use Rattle.spv_commands.specs.Trace.{trace_text}
 use Rattle.spv_commands.specs.Trouble.{trouble_text}
 use Rattle.spv_commands.specs.declared.answering.Reply.{Reply}

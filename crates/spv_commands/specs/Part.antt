@@ -7,7 +7,7 @@ use Rattle.spv_commands.specs.Task.{DoesTask, reach_of, taken}
 use Rattle.spv_commands.specs.Trouble.{file_line, memory_line}
 use Rattle.spv_command_line.specs.declared.command_line.Task.{Task}
 use Rattle.spv_command_line.specs.declared.command_line.Task.TheVariants as tasks
-use Rattle.spv_verdict.specs.declared.verdict_line.Judgment.TheVariants.{Valid}
+use Rattle.spv_check.specs.declared.verdict_line.Judgment.TheVariants.{Valid}
 use Rattle.spv_explain.specs.Json.{IsCheckAnswer, IsExplainAnswer, error_object, json_line}
 use Rattle.spv_explain.specs.declared.answers.Answer.{Answer}
 use Rattle.spv_explain.specs.declared.answers.Unread.{Unread}

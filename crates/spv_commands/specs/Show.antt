@@ -12,7 +12,7 @@ use Rattle.spv_inst.specs.Outcome.{IsHeaderOf}
 use Rattle.spv_module.specs.Malformed.{IsMalformedAt}
 use Rattle.spv_module.specs.declared.fault.Rule.{Rule}
 use Rattle.spv_lines.specs.Text.{IsShownText}
-use Rattle.spv_verdict.specs.Verdict.{fault_line, refused_line}
+use Rattle.spv_check.specs.Verdict.{fault_line, refused_line}
 
 -- This is what is shown of all of these bytes, under the grammar table, and whether it is the text of a module.
 pub data IsShowing (G : Table) (bytes : List ℕ) : List ℕ → Bool → Type 0 where

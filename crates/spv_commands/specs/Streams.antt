@@ -1,6 +1,6 @@
 -- What became of the streams of a command in a call. (Own.)
 use Rattle.std.specs.Prelude.{◌⊎◌, ◌↔◌, ℕ, List, Option, Bool, Result, IfOk, IfSome, IsErr, IsErrOf}
-use Rattle.spv_verdict.specs.Outcome.{HasFailed, IsUntouched, OfKnown}
+use Rattle.spv_check.specs.Outcome.{HasFailed, IsUntouched, OfKnown}
 
 -- A reader in a call: the bytes that it still gave, where they are known, and whether a read of it failed.
 pub record Reading : Type 1 where

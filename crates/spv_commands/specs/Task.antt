@@ -20,7 +20,7 @@ use Rattle.spv_commands.specs.Assemble.{Assembles, order_of}
 use Rattle.spv_commands.specs.Show.{Shows}
 use Rattle.spv_commands.specs.Trace.{HasNoEntry, Traces}
 use Rattle.spv_words.specs.Version.{as_1_6 as version_1_6}
-use Rattle.spv_verdict.specs.Stream.{TellsVerdict}
+use Rattle.spv_check.specs.Stream.{TellsVerdict}
 use Rattle.spv_rules.specs.Codes.{told_text}
 use Rattle.spv_rules.specs.declared.errors.AnyCode.{AnyCode}
 use Rattle.spv_explain.specs.Json.{told_json}

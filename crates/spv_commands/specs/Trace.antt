@@ -5,15 +5,15 @@ use Rattle.spv_words.specs.Header.{IsModule}
 use Rattle.spv_words.specs.declared.words.Order.{Order}
 use Rattle.spv_table.specs.Table.{Table}
 use Rattle.spv_extended.specs.declared.reach.Reach.{Reach}
-use Rattle.spv_verdict.specs.run.Entry.{IsEntryId}
-use Rattle.spv_verdict.specs.declared.run.parts.Ending.{Ending}
-use Rattle.spv_verdict.specs.declared.run.parts.Ending.TheVariants.{Finished, Unreachable, Limit, NoChoice, BadChoice}
-use Rattle.spv_verdict.specs.declared.run.parts.Step.{Step}
-use Rattle.spv_verdict.specs.declared.run.parts.Trace.{Trace}
-use Rattle.spv_verdict.specs.Checked.{IsChecked}
-use Rattle.spv_verdict.specs.Program.{Program}
-use Rattle.spv_verdict.specs.Tracing.{IsRunOf}
-use Rattle.spv_verdict.specs.Verdict.{IsVerdict, line_end, valid_line}
+use Rattle.spv_run.specs.Entry.{IsEntryId}
+use Rattle.spv_run.specs.declared.parts.Ending.{Ending}
+use Rattle.spv_run.specs.declared.parts.Ending.TheVariants.{Finished, Unreachable, Limit, NoChoice, BadChoice}
+use Rattle.spv_run.specs.declared.parts.Step.{Step}
+use Rattle.spv_run.specs.declared.parts.Trace.{Trace}
+use Rattle.spv_check.specs.Checked.{IsChecked}
+use Rattle.spv_check.specs.Program.{Program}
+use Rattle.spv_run.specs.Tracing.{IsRunOf}
+use Rattle.spv_check.specs.Verdict.{IsVerdict, line_end, valid_line}
 
 -- `0 12` as an example: how many frames are below the step's own, and its instruction, both from 0
 abbrev pub step_line : Step → List ℕ

@@ -6,7 +6,7 @@ use Rattle.spv_grammar.specs.declared.error.GrammarError.{GrammarError}
 use Rattle.spv_grammar.specs.declared.error.GrammarError.TheVariants as grammar
 use Rattle.spv_commands.specs.declared.trouble.Trouble.{Trouble}
 use Rattle.spv_commands.specs.declared.trouble.Trouble.TheVariants as trouble
-use Rattle.spv_verdict.specs.Verdict.{line_end}
+use Rattle.spv_check.specs.Verdict.{line_end}
 use Rattle.spv_explain.specs.declared.answers.Unread.{Unread}
 use Rattle.spv_explain.specs.declared.answers.Unread.TheVariants as unread
 

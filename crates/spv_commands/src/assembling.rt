@@ -1,7 +1,7 @@
 //! What `asm` makes of the text of a stream.
 ghost use Rattle.std.specs.Prelude.{◌≡◌, ◌⊎◌, ◌↔◌, IfOk, IfErr, IfSome, IsErrOf};
 ghost use Rattle.std.specs.Prelude.{IsUtf8, true};
-ghost use Rattle.spv_verdict.specs.Outcome.{HasFailed};
+ghost use Rattle.spv_check.specs.Outcome.{HasFailed};
 ghost use Rattle.spv_commands.specs.Streams.{IsDone, reading, writing};
 ghost use Rattle.spv_lines.specs.Fault.{IsFailure};
 ghost use Rattle.spv_commands.specs.Assemble.{Assembles, BeginsAssembling, TellsFault};

@@ -1,6 +1,6 @@
 //! What is written of one file.
 ghost use Rattle.std.specs.Prelude.{◌≡◌, ◌⊎◌, ◌↔◌, ◌≤◌, [], Some, None, IfErr, IfOk, IsErrOf, IsTrue};
-ghost use Rattle.spv_verdict.specs.declared.verdict_line.Judgment.TheVariants.{Valid};
+ghost use Rattle.spv_check.specs.declared.verdict_line.Judgment.TheVariants.{Valid};
 ghost use Rattle.spv_commands.specs.Task.{DoesTask, reach_of, taken};
 ghost use Rattle.spv_commands.specs.Part.{IsAnswerOf, IsPart, IsUnread, Judges, heading, told_line, unread_line};
 ghost use Rattle.spv_commands.specs.Part.{unread_text};

@@ -17,7 +17,7 @@ ghost use Rattle.spv_words.specs.declared.words.WordError.TheVariants.{W2};
 ghost use Rattle.spv_commands.specs.Show.{BeginsShowing, IsShowing, Shows};
 ghost use Rattle.spv_commands.specs.Assemble.{Assembles, BeginsAssembling};
 ghost use Rattle.spv_commands.specs.Trace.{BeginsTracing, HasNoEntry, Traces, step_line, trace_text};
-ghost use Rattle.spv_verdict.specs.declared.run.parts.Ending.TheVariants.{Finished, Limit};
+ghost use Rattle.spv_run.specs.declared.parts.Ending.TheVariants.{Finished, Limit};
 ghost use Rattle.spv_commands.specs.Task.{DoesByText, MakesNothing, ReadsNoFile};
 ghost use Rattle.spv_commands.specs.Task.{AreRules, WritesGrammar, taken};
 ghost use Rattle.spv_rules.specs.declared.errors.AnyCode.{AnyCode};
@@ -37,7 +37,7 @@ ghost use Rattle.spv_command_line.specs.declared.command_line.Command.{Command};
 ghost use Rattle.spv_command_line.specs.declared.command_line.Command.TheVariants.{Show};
 ghost use Rattle.std.specs.Borrow.{Bor};
 ghost use Rattle.spv_commands.specs.declared.judging.Judging.{Judging};
-ghost use Rattle.spv_verdict.specs.Verdict.{line_end};
+ghost use Rattle.spv_check.specs.Verdict.{line_end};
 
 use spv_inst::{listed_or_dead, one_death, one_listing};
 use spv_lines::one_shown;

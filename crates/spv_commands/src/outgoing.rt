@@ -2,7 +2,7 @@
 ghost use Rattle.std.specs.Prelude.{◌≡◌, ◌≤◌, ◌↔◌, ◌++◌, ℕ, Some, IfErr, IfSome, IsErrOf, OnOk, length, take};
 ghost use Rattle.std.specs.Io.KnownBytes.{Appends};
 ghost use Rattle.spv_words.specs.declared.words.WordError.TheVariants.{W1};
-ghost use Rattle.spv_verdict.specs.Outcome.{HasFailed};
+ghost use Rattle.spv_check.specs.Outcome.{HasFailed};
 ghost use Rattle.spv_commands.specs.Output.{output_of};
 
 use crate::trace_lines::write_trace;

@@ -5,7 +5,7 @@ ghost use Rattle.std.specs.Io.KnownBytes.{Appends};
 ghost use Rattle.spv_words.specs.Header.{IsModule};
 ghost use Rattle.spv_words.specs.declared.words.Order.{Order};
 ghost use Rattle.spv_words.specs.declared.words.WordError.TheVariants.{W1, W9};
-ghost use Rattle.spv_verdict.specs.Outcome.{HasFailed};
+ghost use Rattle.spv_check.specs.Outcome.{HasFailed};
 ghost use Rattle.spv_commands.specs.Show.{BeginsShowing, IsShowing, Shows};
 ghost use Rattle.spv_commands.specs.Streams.{IsAnswered, reading, writing};
 ghost use Rattle.spv_commands.specs.inner.Shown.{is_text, output_of, shown_refusal, shown_stop};

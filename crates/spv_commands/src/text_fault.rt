@@ -1,7 +1,7 @@
 //! The line that tells where a text fails.
 ghost use Rattle.std.specs.Prelude.{◌≡◌, ◌≤◌, length};
 ghost use Rattle.spv_commands.specs.Assemble.{asm_code_text, text_fault_line};
-ghost use Rattle.spv_verdict.specs.Text.{text_of};
+ghost use Rattle.spv_check.specs.Text.{text_of};
 
 use spv_parser::{AsmCode, AsmError};
 use spv_verdict::Line;

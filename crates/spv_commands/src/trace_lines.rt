@@ -3,7 +3,7 @@ ghost use Rattle.std.specs.Prelude.{◌≡◌, ◌≤◌, ◌↔◌, ◌+◌, �
 ghost use Rattle.std.specs.Prelude.{length, take, drop, flat_map, IfErr, IfSome, IsErrOf, OnOk};
 ghost use Rattle.std.specs.Io.KnownBytes.{Appends};
 ghost use Rattle.spv_words.specs.declared.words.WordError.TheVariants.{W1};
-ghost use Rattle.spv_verdict.specs.Outcome.{HasFailed};
+ghost use Rattle.spv_check.specs.Outcome.{HasFailed};
 ghost use Rattle.spv_commands.specs.Trace.{ending_line, step_line, trace_text};
 
 use itoa::write_digits;

@@ -29,30 +29,41 @@ use Rattle.spv_flow_evidence.specs.calls.Evidence as calls
 use Rattle.spv_explain.specs.Evidence.{IsEvidence}
 use Rattle.spv_explain.specs.inner.Shown.{IsShownAt}
 
-pub role_shown : (G : Table) (reach : Reach) (bound : ℕ) (is : List PlainInst) (f : Fault) (e : Evidence) → f.rule ≡ rule.Y1 → roles.IsEvidence G is rule.Y1 f.inst e → IsShownAt G reach bound is f e
-role_shown G reach bound is f e one h = λ s. IsEvidence.of_roles f.rule f.inst e (subst (λ r. roles.IsEvidence G is r f.inst e) (sym one) h)
+pub role_shown : (G : Table) (reach : Reach) (bound : ℕ) (is : List PlainInst) (f : Fault) (e : Evidence)
+    → f.rule ≡ rule.Y1 → roles.IsEvidence G is rule.Y1 f.inst e → IsShownAt G reach bound is f e
+role_shown G reach bound is f e one h =
+    λ s. IsEvidence.of_roles f.rule f.inst e (subst (λ r. roles.IsEvidence G is r f.inst e) (sym one) h)
 
-pub capability_shown : {E : Type 0} (G : Table) (reach : Reach) (bound : ℕ) (is : List PlainInst) (f : Fault) (r : Answer Evidence E) → IfOk r (λ e. capabilities.IsEvidence G is f.rule f.inst e)
+pub capability_shown : {E : Type 0} (G : Table) (reach : Reach) (bound : ℕ) (is : List PlainInst) (f : Fault)
+    (r : Answer Evidence E) → IfOk r (λ e. capabilities.IsEvidence G is f.rule f.inst e)
     → IfOk r (λ e. IsShownAt G reach bound is f e)
 capability_shown G reach bound is f (Ok e) h = λ s. IsEvidence.of_capabilities f.rule f.inst e h
 capability_shown G reach bound is f (Err _) h = tt
 
-pub type_shown : (G : Table) (reach : Reach) (bound : ℕ) (is : List PlainInst) (f : Fault) (e : Evidence) → types.IsEvidence G is f.rule f.inst e → IsShownAt G reach bound is f e
+pub type_shown : (G : Table) (reach : Reach) (bound : ℕ) (is : List PlainInst) (f : Fault) (e : Evidence)
+    → types.IsEvidence G is f.rule f.inst e → IsShownAt G reach bound is f e
 type_shown G reach bound is f e h = λ s. IsEvidence.of_types f.rule f.inst e h
 
-pub operation_shown : (G : Table) (reach : Reach) (bound : ℕ) (is : List PlainInst) (f : Fault) (e : Evidence) → f.rule ≡ rule.Y5 → operations.IsEvidence G is rule.Y5 f.inst e → IsShownAt G reach bound is f e
-operation_shown G reach bound is f e one h = λ s. IsEvidence.of_operations f.rule f.inst e (subst (λ r. operations.IsEvidence G is r f.inst e) (sym one) h)
+pub operation_shown : (G : Table) (reach : Reach) (bound : ℕ) (is : List PlainInst) (f : Fault) (e : Evidence)
+    → f.rule ≡ rule.Y5 → operations.IsEvidence G is rule.Y5 f.inst e → IsShownAt G reach bound is f e
+operation_shown G reach bound is f e one h =
+    λ s. IsEvidence.of_operations f.rule f.inst e (subst (λ r. operations.IsEvidence G is r f.inst e) (sym one) h)
 
-pub walk_shown : (G : Table) (reach : Reach) (bound : ℕ) (is : List PlainInst) (f : Fault) (e : Evidence) → walks.IsEvidence G is f.rule f.inst e → IsShownAt G reach bound is f e
+pub walk_shown : (G : Table) (reach : Reach) (bound : ℕ) (is : List PlainInst) (f : Fault) (e : Evidence)
+    → walks.IsEvidence G is f.rule f.inst e → IsShownAt G reach bound is f e
 walk_shown G reach bound is f e h = λ s. IsEvidence.of_walks f.rule f.inst e h
 
-pub branch_shown : (G : Table) (reach : Reach) (bound : ℕ) (is : List PlainInst) (f : Fault) (e : Evidence) → branches.IsEvidence G is f.rule f.inst e → IsShownAt G reach bound is f e
+pub branch_shown : (G : Table) (reach : Reach) (bound : ℕ) (is : List PlainInst) (f : Fault) (e : Evidence)
+    → branches.IsEvidence G is f.rule f.inst e → IsShownAt G reach bound is f e
 branch_shown G reach bound is f e h = λ s. IsEvidence.of_branches f.rule f.inst e h
 
-pub call_shown : (G : Table) (reach : Reach) (bound : ℕ) (is : List PlainInst) (f : Fault) (e : Evidence) → f.rule ≡ rule.G1 → calls.IsEvidence is rule.G1 f.inst e → IsShownAt G reach bound is f e
-call_shown G reach bound is f e one h = λ s. IsEvidence.of_calls f.rule f.inst e (subst (λ r. calls.IsEvidence is r f.inst e) (sym one) h)
+pub call_shown : (G : Table) (reach : Reach) (bound : ℕ) (is : List PlainInst) (f : Fault) (e : Evidence)
+    → f.rule ≡ rule.G1 → calls.IsEvidence is rule.G1 f.inst e → IsShownAt G reach bound is f e
+call_shown G reach bound is f e one h =
+    λ s. IsEvidence.of_calls f.rule f.inst e (subst (λ r. calls.IsEvidence is r f.inst e) (sym one) h)
 
-pub id_shown : (G : Table) (reach : Reach) (bound : ℕ) (is : List PlainInst) (f : Fault) (e : Evidence) → ids.IsEvidence G bound is f.rule f.inst e → IsShownAt G reach bound is f e
+pub id_shown : (G : Table) (reach : Reach) (bound : ℕ) (is : List PlainInst) (f : Fault) (e : Evidence)
+    → ids.IsEvidence G bound is f.rule f.inst e → IsShownAt G reach bound is f e
 id_shown G reach bound is f e h = λ s. IsEvidence.of_ids f.rule f.inst e h
 
 -- a refusal of the shapes or of the layout
@@ -72,7 +83,8 @@ pub the_miscall : (reach : Reach) (is : List PlainInst) (r : Rule) (n : ℕ) →
 the_miscall reach is _ _ (extended_rule.miscalled n on m) = (refl, on, m)
 
 pub extended_shown : (G : Table) (reach : Reach) (bound : ℕ) (is : List PlainInst) (f : Fault) (e : Evidence)
-    → extended_rule.Broken reach is f.rule f.inst → extended.IsEvidence is rule.Y9 f.inst e → IsShownAt G reach bound is f e
+    → extended_rule.Broken reach is f.rule f.inst → extended.IsEvidence is rule.Y9 f.inst e
+    → IsShownAt G reach bound is f e
 extended_shown G reach bound is f e b h =
     let m = the_miscall reach is f.rule f.inst b in
     λ s. IsEvidence.of_extended f.rule f.inst e m.1 (subst (λ r. extended.IsEvidence is r f.inst e) (sym m.0) h)

@@ -7,8 +7,8 @@ use Rattle.spv_module.specs.declared.fault.Rule.{Rule}
 use Rattle.spv_module.specs.declared.fault.Rule.TheVariants as rule
 use Rattle.spv_ops.specs.Typed.{IsTyped}
 use Rattle.spv_type_rules.specs.Keeps.{Keeps}
-use Rattle.spv_verdict.specs.types.Broken as types
-use Rattle.spv_verdict.specs.Broken.{Broken}
+use Rattle.spv_check.specs.types.Broken as types
+use Rattle.spv_check.specs.Broken.{Broken}
 use Rattle.spv_evidence.specs.declared.evidence.Evidence.{Evidence}
 use Rattle.spv_extended.specs.declared.reach.Reach.{Reach}
 use Rattle.spv_extended.specs.declared.reach.Reach.TheVariants.{Extended}
@@ -16,8 +16,8 @@ use Rattle.spv_extended.specs.Broken as extended
 use Rattle.spv_form_evidence.specs.extended.Evidence as by_extended
 use Rattle.spv_layout.specs.First.{stage_of}
 use Rattle.spv_layout.specs.Stage as stages
-use Rattle.spv_verdict.proofs.Firsts.{calls_stage, extended_stage, flow_stage, ids_stage, layout_stage}
-use Rattle.spv_verdict.proofs.Stages.{types_stage}
+use Rattle.spv_check.proofs.Firsts.{calls_stage, extended_stage, flow_stage, ids_stage, layout_stage}
+use Rattle.spv_check.proofs.Stages.{types_stage}
 use Rattle.spv_form_evidence.specs.layout.Evidence as by_layout
 use Rattle.spv_form_evidence.specs.ids.Roles as roles
 use Rattle.spv_type_evidence.specs.types.Evidence as by_types
@@ -64,7 +64,8 @@ extended_broken : (reach : Reach) (is : List PlainInst) (r : Rule) (n : ℕ) (e 
 extended_broken reach is r n e on h = subst (λ q. extended.Broken q is r n) (sym on) (extended_law.suffices is r n e h)
 
 -- what is kept, but for what Y5 demands of operations
-unasked : (G : Table) (is : List PlainInst) (r : Rule) (n : ℕ) (i : PlainInst) → Keeps (IsTyped G is) is r n i → Keeps (λ m j. Unit {0}) is r n i
+unasked : (G : Table) (is : List PlainInst) (r : Rule) (n : ℕ) (i : PlainInst) → Keeps (IsTyped G is) is r n i
+    → Keeps (λ m j. Unit {0}) is r n i
 unasked G is rule.Y2 n i h = h
 unasked G is rule.Y3 n i h = h
 unasked G is rule.Y4 n i h = h
@@ -76,24 +77,31 @@ unasked G is _ n i h = tt
 
 pub types_broken : (G : Table) (is : List PlainInst) (r : Rule) (n : ℕ) (e : Evidence)
     → by_types.IsEvidence G is r n e → types.Broken G is r n
-types_broken G is r n e h = types.Broken.of_types r n h.inst h.there (λ k. types_law.suffices G is r n e h h.inst h.there (unasked G is r n h.inst k))
+types_broken G is r n e h =
+    types.Broken.of_types r n h.inst h.there
+    (λ k. types_law.suffices G is r n e h h.inst h.there (unasked G is r n h.inst k))
 
 pub operations_broken : (G : Table) (is : List PlainInst) (r : Rule) (n : ℕ) (e : Evidence)
     → by_operations.IsEvidence G is r n e → types.Broken G is r n
-operations_broken G is r n e h = types.Broken.of_types r n h.inst h.there (operations_law.suffices G is r n e h h.inst h.there)
+operations_broken G is r n e h =
+    types.Broken.of_types r n h.inst h.there (operations_law.suffices G is r n e h h.inst h.there)
 
 pub suffices : (G : Table) (reach : Reach) (bound : ℕ) (is : List PlainInst) (r : Rule) (n : ℕ) (e : Evidence)
     → IsEvidence G reach bound is r n e → Broken G reach bound is r n
 suffices G reach bound is _ _ _ (IsEvidence.of_layout r n e h) = Broken.of_layout r n (layout_law.suffices G is r n e h)
 suffices G reach bound is _ _ _ (IsEvidence.of_ids r n e h) = Broken.of_ids r n (ids_suffice G bound is r n e h)
 suffices G reach bound is _ _ _ (IsEvidence.of_roles r n e h) = Broken.of_types r n (roles_broken G is r n e h)
-suffices G reach bound is _ _ _ (IsEvidence.of_capabilities r n e h) = Broken.of_types r n (capabilities_broken G is r n e h)
+suffices G reach bound is _ _ _ (IsEvidence.of_capabilities r n e h) =
+    Broken.of_types r n (capabilities_broken G is r n e h)
 suffices G reach bound is _ _ _ (IsEvidence.of_types r n e h) = Broken.of_types r n (types_broken G is r n e h)
-suffices G reach bound is _ _ _ (IsEvidence.of_operations r n e h) = Broken.of_types r n (operations_broken G is r n e h)
-suffices G reach bound is _ _ _ (IsEvidence.of_branches r n e h) = Broken.of_flow r n (branches_law.suffices G is r n e h)
+suffices G reach bound is _ _ _ (IsEvidence.of_operations r n e h) =
+    Broken.of_types r n (operations_broken G is r n e h)
+suffices G reach bound is _ _ _ (IsEvidence.of_branches r n e h) =
+    Broken.of_flow r n (branches_law.suffices G is r n e h)
 suffices G reach bound is _ _ _ (IsEvidence.of_walks r n e h) = Broken.of_flow r n (walks_law.suffices G is r n e h)
 suffices G reach bound is _ _ _ (IsEvidence.of_calls r n e h) = Broken.of_calls r n (sufficient is r n e h)
-suffices G reach bound is _ _ _ (IsEvidence.of_extended r n e on h) = Broken.of_extended r n (extended_broken reach is r n e on h)
+suffices G reach bound is _ _ _ (IsEvidence.of_extended r n e on h) =
+    Broken.of_extended r n (extended_broken reach is r n e on h)
 
 -- evidence of a stage before D is that of the shapes and the layout
 apart : (r : Rule) (a b : ℕ) → stage_of r < stages.of_ids → (stage_of r ≡ a) ⊎ (stage_of r ≡ b) → 3 ≤ a → 3 ≤ b → ⊥
@@ -120,7 +128,8 @@ of_layout_alone G reach bound is _ _ _ (IsEvidence.of_walks r n e h) s =
 of_layout_alone G reach bound is _ _ _ (IsEvidence.of_calls r n e h) s =
     absurd (apart r 8 8 s (inl (calls_stage is r n (sufficient is r n e h))) (omega arith) (omega arith))
 of_layout_alone G reach bound is _ _ _ (IsEvidence.of_extended r n e on h) s =
-    absurd (apart r 9 9 s (inl (extended_stage reach is r n (extended_broken reach is r n e on h))) (omega arith) (omega arith))
+    absurd (apart r 9 9 s (inl (extended_stage reach is r n (extended_broken reach is r n e on h))) (omega arith)
+    (omega arith))
 
 -- evidence of the last stage is that of calls of extended instructions
 below : (r : Rule) (a b : ℕ) → stage_of r ≡ stages.of_extended → (stage_of r ≡ a) ⊎ (stage_of r ≡ b) → a ≤ 8 → b ≤ 8 → ⊥

@@ -1,6 +1,7 @@
 -- Lines that tell what bytes come to.
 use Rattle.std.proofs.Common.{◌≡◌, ◌≤◌, ◌↔◌, ◌++◌, ◌-◌, ◌∙◌, ℕ, List, [], Bool, Option, Some, None, IfSome, IsTrue}
-use Rattle.std.proofs.Common.{◌∷◌, ◌+◌, ◌<◌, append-nil, arith, drop, length, sum_by, take, ap, refl, sym, subst, string_bytes}
+use Rattle.std.proofs.Common.{◌∷◌, ◌+◌, ◌<◌, append-nil, arith, drop, length, sum_by, take, ap, refl, sym, subst}
+use Rattle.std.proofs.Common.{string_bytes}
 use Rattle.std.proofs.lemmas.List.Sums.{sum_by-cons}
 use Rattle.std.specs.Io.KnownBytes.{Appends, Consumes, IsAtEnd}
 use Rattle.std.specs.Prelude.{IfOk, IsSomeAnd, Ok, Err}
@@ -23,15 +24,15 @@ use Rattle.spv_module.specs.declared.fault.Stop.TheVariants as stop
 use Rattle.spv_module.specs.declared.module.Module.{Module}
 use Rattle.spv_inst.specs.Outcome.{IsDecodeFault, IsHeaderOf}
 use Rattle.spv_evidence.specs.declared.evidence.Evidence.{Evidence}
-use Rattle.spv_verdict.specs.Answer.{IsFault}
-use Rattle.spv_verdict.specs.Checked.{IsChecked}
-use Rattle.spv_verdict.specs.Program.{Program}
-use Rattle.spv_verdict.specs.Reading.{IsReading}
-use Rattle.spv_verdict.specs.Text.{line_of, refusal_of}
-use Rattle.spv_verdict.specs.Verdict.{IsVerdict, refused, valid_line}
-use Rattle.spv_verdict.specs.declared.verdict_line.Judgment.{Judgment}
-use Rattle.spv_verdict.specs.declared.verdict_line.Judgment.TheVariants as judgments
-use Rattle.spv_verdict.proofs.Verdicts.{Laws, fault_is_not_valid, fault_verdict, valid_verdict}
+use Rattle.spv_check.specs.Answer.{IsFault}
+use Rattle.spv_check.specs.Checked.{IsChecked}
+use Rattle.spv_check.specs.Program.{Program}
+use Rattle.spv_check.specs.Reading.{IsReading}
+use Rattle.spv_check.specs.Text.{line_of, refusal_of}
+use Rattle.spv_check.specs.Verdict.{IsVerdict, refused, valid_line}
+use Rattle.spv_check.specs.declared.verdict_line.Judgment.{Judgment}
+use Rattle.spv_check.specs.declared.verdict_line.Judgment.TheVariants as judgments
+use Rattle.spv_check.proofs.Verdicts.{Laws, fault_is_not_valid, fault_verdict, valid_verdict}
 use Rattle.spv_form_evidence.specs.words.Evidence as instructions
 use Rattle.spv_lines.specs.Text.{ShownLines}
 use Rattle.spv_fault_lines.specs.declared.fact.Detail.{Detail}
@@ -52,14 +53,17 @@ counted (i ∷ is) =
     let e : sum_by word_count (i ∷ is) ≡ word_count i + sum_by word_count is = sum_by-cons word_count i is in
     omega (arith, h, w, e)
 
-pub few_insts : (is : List PlainInst) (ws : List ℕ) → length ws ≡ sum_by word_count is → length ws ≤ greatest_length → AreFew is
+pub few_insts : (is : List PlainInst) (ws : List ℕ) → length ws ≡ sum_by word_count is → length ws ≤ greatest_length
+    → AreFew is
 few_insts is ws e l = let h = counted is in omega (arith, h, e, l)
 
 -- a fault's line is not `valid`
-fault_others : Laws → (bytes words : List ℕ) (order : Order) (f : Fault) (j : Judgment) (lines : List ℕ) → IsModule order bytes words
+fault_others : Laws → (bytes words : List ℕ) (order : Order) (f : Fault) (j : Judgment) (lines : List ℕ)
+    → IsModule order bytes words
     → j ≡ judgments.Broken f → AreOthers bytes (line_of j) lines
 fault_others laws bytes words order f j lines h e = record {
-  valid = λ v. let w : line_of (judgments.Broken f) ≡ valid_line = subst (λ x. line_of x ≡ valid_line) e v in absurd (fault_is_not_valid f.rule f.inst f.word w);
+  valid = λ v. let w : line_of (judgments.Broken f) ≡ valid_line = subst (λ x. line_of x ≡ valid_line) e v in
+      absurd (fault_is_not_valid f.rule f.inst f.word w);
   refused = λ code b. absurd (laws.never code order bytes words h b);
 }
 
@@ -73,10 +77,12 @@ valid_told laws z G reach bytes words order p t h c e l = record {
   others = record { valid = λ v. l; refused = λ code b. absurd (laws.never code order bytes words h b) };
 }
 
-pub dead_told : {E : Type 0} → Laws → (z : Detail) (G : Table) (reach : Reach) (bytes words : List ℕ) (order : Order) (f : Fault) (e : Evidence)
+pub dead_told : {E : Type 0} → Laws
+    → (z : Detail) (G : Table) (reach : Reach) (bytes words : List ℕ) (order : Order) (f : Fault) (e : Evidence)
     (r : Answer Explanation E) → IsModule order bytes words → IsDecodeFault G words (stop.Fault f)
     → instructions.IsEvidence G (drop 5 words) f.rule f.inst (f.word - 5) e
-    → IfOk r (λ t. t.judgment ≡ judgments.Broken f) → IfOk r (λ t. string_bytes t.lines ≡ malformed_text z G (drop 5 words) f.rule f.inst (f.word - 5) e)
+    → IfOk r (λ t. t.judgment ≡ judgments.Broken f)
+    → IfOk r (λ t. string_bytes t.lines ≡ malformed_text z G (drop 5 words) f.rule f.inst (f.word - 5) e)
     → IfOk r (λ t. IsExplanation z G reach bytes t)
 dead_told laws z G reach bytes words order f e (Ok t) h d shown j l = record {
   verdict = subst (λ x. IsVerdict G reach bytes (line_of x)) (sym j)
@@ -87,13 +93,16 @@ dead_told laws z G reach bytes words order f e (Ok t) h d shown j l = record {
 }
 dead_told laws z G reach bytes words order f e (Err _) h d shown j l = tt
 
-pub broken_told : {E : Type 0} → Laws → (z : Detail) (G : Table) (reach : Reach) (bytes words : List ℕ) (order : Order) (f : Fault) (e : Evidence)
-    (m : Module) (shown : List (List ℕ)) (r : Answer Explanation E) → IsModule order bytes words → IsBrokenModule G reach words f e m
+pub broken_told : {E : Type 0} → Laws
+    → (z : Detail) (G : Table) (reach : Reach) (bytes words : List ℕ) (order : Order) (f : Fault) (e : Evidence)
+    (m : Module) (shown : List (List ℕ)) (r : Answer Explanation E) → IsModule order bytes words
+    → IsBrokenModule G reach words f e m
     → ShownLines G [] (plain_insts m) shown → IfOk r (λ t. t.judgment ≡ judgments.Broken f)
     → IfOk r (λ t. string_bytes t.lines ≡ fault_text z G m.header.bound (plain_insts m) shown f.rule f.inst e)
     → IfOk r (λ t. IsExplanation z G reach bytes t)
 broken_told laws z G reach bytes words order f e m shown (Ok t) h b s j l = record {
-  verdict = subst (λ x. IsVerdict G reach bytes (line_of x)) (sym j) (fault_verdict G reach bytes words order f h (broken_fault G reach words f e m b));
+  verdict = subst (λ x. IsVerdict G reach bytes (line_of x)) (sym j)
+      (fault_verdict G reach bytes words order f h (broken_fault G reach words f e m b));
   explain = explains laws z G reach bytes words order f e m shown (string_bytes t.lines) h b s l;
   dead = listed_explains laws z G bytes words order (plain_insts m) (string_bytes t.lines) h b.listing;
   others = fault_others laws bytes words order f t.judgment (string_bytes t.lines) h j;
@@ -101,13 +110,17 @@ broken_told laws z G reach bytes words order f e m shown (Ok t) h b s j l = reco
 broken_told laws z G reach bytes words order f e m shown (Err _) h b s j l = tt
 
 -- bytes that gave no image
-refused_line_only : (bytes : List ℕ) (code : WordError) (j : Judgment) → judgments.Refused code ≡ j → ¬ (line_of j ≡ valid_line)
-refused_line_only bytes code j e v = let w : line_of (judgments.Refused code) ≡ valid_line = subst (λ x. line_of x ≡ valid_line) (sym e) v in absurd cc
+refused_line_only : (bytes : List ℕ) (code : WordError) (j : Judgment) → judgments.Refused code ≡ j
+    → ¬ (line_of j ≡ valid_line)
+refused_line_only bytes code j e v =
+    let w : line_of (judgments.Refused code) ≡ valid_line = subst (λ x. line_of x ≡ valid_line) (sym e) v in absurd cc
 
 refused_one : ((d e : WordError) (bs : List ℕ) → IsFirstBroken d bs → IsFirstBroken e bs → d ≡ e)
     → ((e : WordError) (o : Order) (bs ws : List ℕ) → IsModule o bs ws → ¬ IsFirstBroken e bs)
-    → (z : Detail) (G : Table) (reach : Reach) (bytes : List ℕ) (code : WordError) (t : Explanation) → IsFirstBroken code bytes
-    → judgments.Refused code ≡ t.judgment → string_bytes t.lines ≡ refused_text code bytes → IsExplanation z G reach bytes t
+    → (z : Detail) (G : Table) (reach : Reach) (bytes : List ℕ) (code : WordError) (t : Explanation)
+    → IsFirstBroken code bytes
+    → judgments.Refused code ≡ t.judgment → string_bytes t.lines ≡ refused_text code bytes
+    → IsExplanation z G reach bytes t
 refused_one once never z G reach bytes code t b j l =
     record {
       verdict = subst (λ x. IsVerdict G reach bytes (line_of x)) j (refused code b);
@@ -128,13 +141,20 @@ pub refused_told : ((d e : WordError) (bs : List ℕ) → IsFirstBroken d bs →
 refused_told once never z G reach bytes code (Err _) h e l = tt
 refused_told once never z G reach bytes word.W1 (Ok t) h e l = absurd cc
 refused_told once never z G reach bytes word.W9 (Ok t) h e l = absurd cc
-refused_told once never z G reach bytes word.W2 (Ok t) h e l = (let j : judgments.Refused word.W2 ≡ t.judgment = cc in refused_one once never z G reach bytes word.W2 t h j l)
-refused_told once never z G reach bytes word.W3 (Ok t) h e l = (let j : judgments.Refused word.W3 ≡ t.judgment = cc in refused_one once never z G reach bytes word.W3 t h j l)
-refused_told once never z G reach bytes word.W4 (Ok t) h e l = (let j : judgments.Refused word.W4 ≡ t.judgment = cc in refused_one once never z G reach bytes word.W4 t h j l)
-refused_told once never z G reach bytes word.W5 (Ok t) h e l = (let j : judgments.Refused word.W5 ≡ t.judgment = cc in refused_one once never z G reach bytes word.W5 t h j l)
-refused_told once never z G reach bytes word.W6 (Ok t) h e l = (let j : judgments.Refused word.W6 ≡ t.judgment = cc in refused_one once never z G reach bytes word.W6 t h j l)
-refused_told once never z G reach bytes word.W7 (Ok t) h e l = (let j : judgments.Refused word.W7 ≡ t.judgment = cc in refused_one once never z G reach bytes word.W7 t h j l)
-refused_told once never z G reach bytes word.W8 (Ok t) h e l = (let j : judgments.Refused word.W8 ≡ t.judgment = cc in refused_one once never z G reach bytes word.W8 t h j l)
+refused_told once never z G reach bytes word.W2 (Ok t) h e l =
+    (let j : judgments.Refused word.W2 ≡ t.judgment = cc in refused_one once never z G reach bytes word.W2 t h j l)
+refused_told once never z G reach bytes word.W3 (Ok t) h e l =
+    (let j : judgments.Refused word.W3 ≡ t.judgment = cc in refused_one once never z G reach bytes word.W3 t h j l)
+refused_told once never z G reach bytes word.W4 (Ok t) h e l =
+    (let j : judgments.Refused word.W4 ≡ t.judgment = cc in refused_one once never z G reach bytes word.W4 t h j l)
+refused_told once never z G reach bytes word.W5 (Ok t) h e l =
+    (let j : judgments.Refused word.W5 ≡ t.judgment = cc in refused_one once never z G reach bytes word.W5 t h j l)
+refused_told once never z G reach bytes word.W6 (Ok t) h e l =
+    (let j : judgments.Refused word.W6 ≡ t.judgment = cc in refused_one once never z G reach bytes word.W6 t h j l)
+refused_told once never z G reach bytes word.W7 (Ok t) h e l =
+    (let j : judgments.Refused word.W7 ≡ t.judgment = cc in refused_one once never z G reach bytes word.W7 t h j l)
+refused_told once never z G reach bytes word.W8 (Ok t) h e l =
+    (let j : judgments.Refused word.W8 ≡ t.judgment = cc in refused_one once never z G reach bytes word.W8 t h j l)
 
 -- bytes that are no image break the code first
 pub refuses : (code : WordError) (bytes : List ℕ) → IsFirstBroken code bytes → RefusesBytes code bytes
@@ -165,14 +185,18 @@ too_large bytes l = record { broken = λ h. absurd (omega (arith, l, h)); before
 
 pub stopped_told : ((d e : WordError) (bs : List ℕ) → IsFirstBroken d bs → IsFirstBroken e bs → d ≡ e)
     → ((e : WordError) (o : Order) (bs ws : List ℕ) → IsModule o bs ws → ¬ IsFirstBroken e bs)
-    → (z : Detail) (G : Table) (reach : Reach) (known : Option (List ℕ)) (code : WordError) (front : Front) (r : Answer Explanation WordError)
+    → (z : Detail) (G : Table) (reach : Reach) (known : Option (List ℕ)) (code : WordError) (front : Front)
+    (r : Answer Explanation WordError)
     → IsStop code → (code ≡ word.W8 → IfSome known (λ xs. 16777216 < length xs))
     → IfOk r (λ t. refusal_of code ≡ Ok t.judgment) → IfOk r (λ t. string_bytes t.lines ≡ refused_by code front)
     → IfSome known (λ xs. IfOk r (λ t. IsExplanation z G reach xs t))
 stopped_told once never z G reach None code front r s o e l = tt
-stopped_told once never z G reach (Some xs) word.W8 front r s o e l = refused_told once never z G reach xs word.W8 r (too_large xs (o refl)) e l
-stopped_told once never z G reach (Some xs) word.W1 front r s o e l = refused_told once never z G reach xs word.W1 r tt e l
-stopped_told once never z G reach (Some xs) word.W9 front r s o e l = refused_told once never z G reach xs word.W9 r tt e l
+stopped_told once never z G reach (Some xs) word.W8 front r s o e l =
+    refused_told once never z G reach xs word.W8 r (too_large xs (o refl)) e l
+stopped_told once never z G reach (Some xs) word.W1 front r s o e l =
+    refused_told once never z G reach xs word.W1 r tt e l
+stopped_told once never z G reach (Some xs) word.W9 front r s o e l =
+    refused_told once never z G reach xs word.W9 r tt e l
 stopped_told once never z G reach (Some xs) word.W2 front r s o e l = absurd s
 stopped_told once never z G reach (Some xs) word.W3 front r s o e l = absurd s
 stopped_told once never z G reach (Some xs) word.W4 front r s o e l = absurd s
@@ -181,7 +205,8 @@ stopped_told once never z G reach (Some xs) word.W6 front r s o e l = absurd s
 stopped_told once never z G reach (Some xs) word.W7 front r s o e l = absurd s
 
 -- all the bytes of a reader
-pub octets_known : (z : Detail) (G : Table) (reach : Reach) (known after : Option (List ℕ)) (octets : List ℕ) (r : Answer Explanation WordError)
+pub octets_known : (z : Detail) (G : Table) (reach : Reach) (known after : Option (List ℕ)) (octets : List ℕ)
+    (r : Answer Explanation WordError)
     → Consumes known after octets → IsAtEnd after → IfOk r (λ t. IsExplanation z G reach octets t)
     → IfSome known (λ xs. IfOk r (λ t. IsExplanation z G reach xs t))
 octets_known z G reach None after octets r c e h = tt
@@ -190,14 +215,17 @@ octets_known z G reach (Some xs) (Some ys) octets r c e h =
     subst (λ b. IfOk r (λ t. IsExplanation z G reach b t)) (sym (c ∙ (ap (λ q. octets ++ q) e ∙ append-nil octets))) h
 
 -- words that gave an image
-pub image_told : (z : Detail) (G : Table) (reach : Reach) (bytes words : List ℕ) (order : Order) (t : Explanation) → IsModule order bytes words
+pub image_told : (z : Detail) (G : Table) (reach : Reach) (bytes words : List ℕ) (order : Order) (t : Explanation)
+    → IsModule order bytes words
     → ((bs : List ℕ) (o : Order) → IsModule o bs words → IsExplanation z G reach bs t) → IsExplanation z G reach bytes t
 image_told z G reach bytes words order t h v = v bytes order h
 
 -- the lines were written whole, or a beginning of them
-pub told_whole : (z : Detail) (G : Table) (reach : Reach) (known kept new : Option (List ℕ)) (t : Explanation) (bytes : List ℕ) (answer : Bool)
+pub told_whole : (z : Detail) (G : Table) (reach : Reach) (known kept new : Option (List ℕ)) (t : Explanation)
+    (bytes : List ℕ) (answer : Bool)
     → IfSome known (λ bs. IsExplanation z G reach bs t) → bytes ≡ line_of t.judgment ++ string_bytes t.lines
-    → Appends kept new bytes → (IsTrue answer ↔ (line_of t.judgment ≡ valid_line)) → IfSome known (λ bs. IfSome kept (λ old. Explains z G reach bs old new answer))
+    → Appends kept new bytes → (IsTrue answer ↔ (line_of t.judgment ≡ valid_line))
+    → IfSome known (λ bs. IfSome kept (λ old. Explains z G reach bs old new answer))
 told_whole z G reach None kept new t bytes answer h e w a = tt
 told_whole z G reach (Some bs) None new t bytes answer h e w a = tt
 told_whole z G reach (Some bs) (Some old) None t bytes answer h e w a = absurd w
@@ -213,9 +241,11 @@ told_whole z G reach (Some bs) (Some old) (Some xs) t bytes answer h e w a =
       answered = a;
     }
 
-pub told_begun : (z : Detail) (G : Table) (reach : Reach) (known kept new : Option (List ℕ)) (t : Explanation) (bytes : List ℕ)
+pub told_begun : (z : Detail) (G : Table) (reach : Reach) (known kept new : Option (List ℕ)) (t : Explanation)
+    (bytes : List ℕ)
     → IfSome known (λ bs. IsExplanation z G reach bs t) → bytes ≡ line_of t.judgment ++ string_bytes t.lines
-    → IfSome kept (λ xs. (n : ℕ) × (n ≤ length bytes) × (new ≡ Some (xs ++ take n bytes))) → IfSome known (λ bs. IfSome kept (λ old. BeginsExplaining z G reach bs old new))
+    → IfSome kept (λ xs. (n : ℕ) × (n ≤ length bytes) × (new ≡ Some (xs ++ take n bytes)))
+    → IfSome known (λ bs. IfSome kept (λ old. BeginsExplaining z G reach bs old new))
 told_begun z G reach None kept new t bytes h e w = tt
 told_begun z G reach (Some bs) None new t bytes h e w = tt
 told_begun z G reach (Some bs) (Some old) new t bytes h e w =
@@ -232,13 +262,16 @@ told_begun z G reach (Some bs) (Some old) new t bytes h e w =
     }
 
 -- under the profile a list is looked at as it is spelled
-pub as_spelled : (G : Table) (reach : Reach) (is : List PlainInst) (ws : List ℕ) → reach ≡ Profile → IsReading G reach is ws → IsListing G is ws
+pub as_spelled : (G : Table) (reach : Reach) (is : List PlainInst) (ws : List ℕ) → reach ≡ Profile
+    → IsReading G reach is ws → IsListing G is ws
 as_spelled G reach is ws e d =
     let same : is ≡ d.spelled = subst (λ r. is ≡ looked_at r d.spelled) e d.seen in
     subst (λ js. IsListing G js ws) (sym same) d.listing
 
 -- a module that is handed out
-pub some_module : (G : Table) (words : List ℕ) (is : List PlainInst) (o : Option Module) → IsSomeAnd o (λ m. (plain_insts m ≡ is) × IsHeaderOf words m.header)
+pub some_module : (G : Table) (words : List ℕ) (is : List PlainInst) (o : Option Module)
+    → IsSomeAnd o (λ m. (plain_insts m ≡ is) × IsHeaderOf words m.header)
     → IsListing G is (drop 5 words) → IsModuleIn G words o
 some_module G words is None h l = absurd h
-some_module G words is (Some m) h l = record { listing = subst (λ x. IsListing G x (drop 5 words)) (sym h.0) l; header = h.1 }
+some_module G words is (Some m) h l =
+    record { listing = subst (λ x. IsListing G x (drop 5 words)) (sym h.0) l; header = h.1 }

@@ -29,10 +29,10 @@ use Rattle.spv_module.specs.Module.{plain_insts}
 use Rattle.spv_module.specs.declared.module.Module.{Module}
 use Rattle.spv_inst.proofs.Lists.{listing_same}
 use Rattle.spv_inst.proofs.Worked.{string_listed}
-use Rattle.spv_verdict.specs.Broken.{Broken}
-use Rattle.spv_verdict.specs.Verdict.{line_end}
-use Rattle.spv_verdict.proofs.Firsts.{calls_stage, extended_stage, flow_stage, layout_stage}
-use Rattle.spv_verdict.proofs.Stages.{types_stage}
+use Rattle.spv_check.specs.Broken.{Broken}
+use Rattle.spv_check.specs.Verdict.{line_end}
+use Rattle.spv_check.proofs.Firsts.{calls_stage, extended_stage, flow_stage, layout_stage}
+use Rattle.spv_check.proofs.Stages.{types_stage}
 use Rattle.spv_evidence.specs.declared.evidence.Evidence.{Evidence}
 use Rattle.spv_evidence.specs.declared.evidence.Evidence.TheVariants.{MayCome, NoEntry}
 use Rattle.spv_form_evidence.specs.layout.Evidence as layout
@@ -60,12 +60,15 @@ use Rattle.spv_explain.specs.Stream.{AreLinesOf, IsModuleOf}
 use Rattle.spv_explain.proofs.Sufficing.{of_layout_alone, suffices}
 
 -- lines
-pub earlier_told : line_of Short small twice_void (codes "%1 = OpTypeVoid" ∷ []) (fact.Earlier 0) ≡ codes "earlier: inst 0, %1 = OpTypeVoid" ++ line_end
+pub earlier_told : line_of Short small twice_void (codes "%1 = OpTypeVoid" ∷ [])
+    (fact.Earlier 0) ≡ codes "earlier: inst 0, %1 = OpTypeVoid" ++ line_end
 earlier_told = rw (decimal_digit 0 (omega arith)) refl
 
-pub not_later_told : ¬ (line_of Short small twice_void (codes "%1 = OpTypeVoid" ∷ []) (fact.Earlier 0) ≡ codes "earlier: inst 1, %1 = OpTypeVoid" ++ line_end)
+pub not_later_told : ¬ (line_of Short small twice_void (codes "%1 = OpTypeVoid" ∷ [])
+    (fact.Earlier 0) ≡ codes "earlier: inst 1, %1 = OpTypeVoid" ++ line_end)
 not_later_told h =
-    let e : codes "earlier: inst 0, %1 = OpTypeVoid" ++ line_end ≡ codes "earlier: inst 1, %1 = OpTypeVoid" ++ line_end = sym earlier_told ∙ h in
+    let e : codes "earlier: inst 0, %1 = OpTypeVoid" ++ line_end ≡ codes "earlier: inst 1, %1 = OpTypeVoid"
+    ++ line_end = sym earlier_told ∙ h in
     let f : 48 ≡ 49 = ap (λ (t : List ℕ). slice_index t 14) e in
     absurd (omega (arith, f))
 
@@ -77,7 +80,8 @@ pub classes_told : line_of Short small [] [] (fact.MayCome many_opcodes true)
 unfolding rows
 classes_told = refl
 
-pub names_told : line_of Full small [] [] (fact.MayCome many_opcodes true) ≡ codes "may come: OpString OpTypeInt end of module" ++ line_end
+pub names_told : line_of Full small [] [] (fact.MayCome many_opcodes
+    true) ≡ codes "may come: OpString OpTypeInt end of module" ++ line_end
 names_told = refl
 
 pub escape_told : plain_of (97 ∷ 27 ∷ 92 ∷ []) ≡ codes "a\\x1b\\"
@@ -109,7 +113,8 @@ unended_told = rw (decimal_digit 1 (omega arith)) refl
 pub no_block_told : ¬ (line_of Short small twice_void [] (fact.Unended (record { function = Some 0; block = None }))
     ≡ codes "missing: the end of block %1" ++ line_end)
 no_block_told h =
-    let e : codes "missing: the end of function %1" ++ line_end ≡ codes "missing: the end of block %1" ++ line_end = sym unended_told ∙ h in
+    let e : codes "missing: the end of function %1" ++ line_end ≡ codes "missing: the end of block %1"
+    ++ line_end = sym unended_told ∙ h in
     let f : 102 ≡ 98 = ap (λ (t : List ℕ). slice_index t 20) e in
     absurd (omega (arith, f))
 
@@ -117,7 +122,8 @@ no_block_told h =
 found_few : found_lines word.W2 (front_of (1 ∷ 2 ∷ 3 ∷ [])) ≡ codes "found: 3 bytes" ++ line_end
 found_few = rw (decimal_digit 3 (omega arith)) refl
 
-pub few_told : refused_text word.W2 (1 ∷ 2 ∷ 3 ∷ []) ≡ rule_line (Code.Word word.W2) ++ (codes "found: 3 bytes" ++ line_end)
+pub few_told : refused_text word.W2 (1 ∷ 2 ∷ 3 ∷ []) ≡ rule_line (Code.Word word.W2)
+    ++ (codes "found: 3 bytes" ++ line_end)
 few_told = ap (λ (z : List ℕ). rule_line (Code.Word word.W2) ++ z) found_few
 
 pub one_told : found_lines word.W2 (front_of (1 ∷ [])) ≡ codes "found: 1 byte" ++ line_end
@@ -127,17 +133,20 @@ pub no_magic_told : found_lines word.W4 (front_of (127 ∷ 69 ∷ 76 ∷ 70 ∷ 
 unfolding hex_digits
 no_magic_told = refl
 
-pub not_turned_told : ¬ (found_lines word.W4 (front_of (127 ∷ 69 ∷ 76 ∷ 70 ∷ [])) ≡ codes "found: 0x7f454c46" ++ line_end)
+pub not_turned_told : ¬ (found_lines word.W4 (front_of (127 ∷ 69 ∷ 76 ∷ 70 ∷ [])) ≡ codes "found: 0x7f454c46"
+    ++ line_end)
 not_turned_told h =
     let e : codes "found: 0x464c457f" ++ line_end ≡ codes "found: 0x7f454c46" ++ line_end = sym no_magic_told ∙ h in
     let f : 52 ≡ 55 = ap (λ (t : List ℕ). slice_index t 9) e in
     absurd (omega (arith, f))
 
 pub earlier_version_told : found_lines word.W5 (front_of (7 ∷ 35 ∷ 2 ∷ 3 ∷ 0 ∷ 1 ∷ 4 ∷ 0 ∷ []))
-    ≡ codes "found: version 1.4" ++ (line_end ++ (codes "help: --as-1.6 reads it as a module of version 1.6" ++ line_end))
+    ≡ codes "found: version 1.4" ++ (line_end
+    ++ (codes "help: --as-1.6 reads it as a module of version 1.6" ++ line_end))
 earlier_version_told = rw (decimal_digit 1 (omega arith), decimal_digit 4 (omega arith)) refl
 
-pub later_version_told : found_lines word.W5 (front_of (3 ∷ 2 ∷ 35 ∷ 7 ∷ 0 ∷ 0 ∷ 2 ∷ 0 ∷ [])) ≡ codes "found: version 2.0" ++ line_end
+pub later_version_told : found_lines word.W5
+    (front_of (3 ∷ 2 ∷ 35 ∷ 7 ∷ 0 ∷ 0 ∷ 2 ∷ 0 ∷ [])) ≡ codes "found: version 2.0" ++ line_end
 later_version_told = rw (decimal_digit 2 (omega arith), decimal_digit 0 (omega arith)) refl
 
 no_second : (r : Rule) (n : ℕ) → ids.Broken small 5 twice_void r n → r ≡ D2 → n ≡ 0 → ⊥
@@ -153,14 +162,26 @@ no_second _ _ (ids.Broken.not_in_scope n k x r u o l i) e z = cc
 no_broken : (r : Rule) (n : ℕ) → Broken small Profile 5 twice_void r n → r ≡ D2 → n ≡ 0 → ⊥
 no_broken _ _ (Broken.of_layout r n b) e z =
     let s : stage_of r ≡ stages.of_ids = subst (λ q. stage_of q ≡ stages.of_ids) (sym e) refl in
-    elim (layout_stage small twice_void r n b) [ inl t ↦ absurd (omega (arith, s, t)) | inr t ↦ absurd (omega (arith, s, t)) ]
+    elim (layout_stage small twice_void r n b) [
+      | inl t ↦ absurd (omega (arith, s, t))
+      | inr t ↦
+          absurd (omega (arith, s, t))
+    ]
 no_broken _ _ (Broken.of_ids r n b) e z = no_second r n b e z
 no_broken _ _ (Broken.of_types r n b) e z =
     let s : stage_of r ≡ stages.of_ids = subst (λ q. stage_of q ≡ stages.of_ids) (sym e) refl in
-    elim (types_stage small twice_void r n b) [ inl t ↦ absurd (omega (arith, s, t)) | inr t ↦ absurd (omega (arith, s, t)) ]
+    elim (types_stage small twice_void r n b) [
+      | inl t ↦ absurd (omega (arith, s, t))
+      | inr t ↦
+          absurd (omega (arith, s, t))
+    ]
 no_broken _ _ (Broken.of_flow r n b) e z =
     let s : stage_of r ≡ stages.of_ids = subst (λ q. stage_of q ≡ stages.of_ids) (sym e) refl in
-    elim (flow_stage small twice_void r n b) [ inl t ↦ absurd (omega (arith, s, t)) | inr t ↦ absurd (omega (arith, s, t)) ]
+    elim (flow_stage small twice_void r n b) [
+      | inl t ↦ absurd (omega (arith, s, t))
+      | inr t ↦
+          absurd (omega (arith, s, t))
+    ]
 no_broken _ _ (Broken.of_calls r n b) e z =
     let s : stage_of r ≡ stages.of_ids = subst (λ q. stage_of q ≡ stages.of_ids) (sym e) refl in
     let t = calls_stage twice_void r n b in
@@ -193,29 +214,45 @@ not_string c = by c.0 c.1 c.2
 
 string_shows : IsEvidence small Profile 9 (string ∷ []) L1 0 (MayCome (10 ∷ 11 ∷ 14 ∷ 17 ∷ []) false)
 string_shows =
-    IsEvidence.of_layout L1 0 _ (layout.IsEvidence.misplaced string 0 (10 ∷ 11 ∷ 14 ∷ 17 ∷ []) false refl first_to_come not_string)
+    IsEvidence.of_layout L1 0 _ (layout.IsEvidence.misplaced string 0
+    (10 ∷ 11 ∷ 14 ∷ 17 ∷ []) false refl first_to_come not_string)
 
 -- its line
 abc : HoldsText (6513249 ∷ []) (codes "abc") []
-abc = record { words = (omega arith, tt); octets = refl; no_zero = (λ e. omega arith, (λ e. omega arith, (λ e. omega arith, tt))); short = omega arith }
+abc = record {
+  words = (omega arith, tt);
+  octets = refl;
+  no_zero = (λ e. omega arith, (λ e. omega arith, (λ e. omega arith, tt)));
+  short = omega arith;
+}
 
 abc_text : IsUtf8 (codes "abc")
 unfolding lib.Utf8.encode
 abc_text = (codes "abc", (refl, refl))
 
-string_operands : Written (Shown small) small (Some 5) (start [] 7) (map due (pattern_of string_entry)) string.operands (5 ∷ 6513249 ∷ []) (codes " \"abc\"")
+string_operands : Written (Shown small) small (Some 5) (start [] 7) (map due (pattern_of string_entry)) string.operands
+    (5 ∷ 6513249 ∷ []) (codes " \"abc\"")
 unfolding shape_of
 string_operands =
     Written.take _ _ _ (Result 5) (5 ∷ []) [] [] _ _ _ (Takes.result 5) (Piece.result 5 refl refl) (
-    Written.take _ _ _ (Text (codes "abc")) (6513249 ∷ []) [] (codes " \"abc\"") _ _ _ (Takes.text (codes "abc") (6513249 ∷ []) [] abc tt abc_text) (Piece.other (Text (codes "abc")) (codes "\"abc\"") refl refl) (
+    Written.take _ _ _ (Text (codes "abc")) (6513249 ∷ []) [] (codes " \"abc\"") _ _ _
+    (Takes.text (codes "abc") (6513249 ∷ []) [] abc tt abc_text)
+    (Piece.other (Text (codes "abc")) (codes "\"abc\"") refl refl) (
     Written.end _))
 
 string_line : IsShownLine small [] string (5 ∷ 6513249 ∷ []) (codes "%5 = OpString \"abc\"")
 unfolding digits
-string_line = record { entry = string_entry; operands = codes " \"abc\""; known = refl; written = string_operands; all = refl }
+string_line = record {
+  entry = string_entry;
+  operands = codes " \"abc\"";
+  known = refl;
+  written = string_operands;
+  all = refl;
+}
 
 facts_told : (codes "at: %5 = OpString \"abc\"" ++ line_end) ++ (codes "may come:" ++ line_end)
-    ≡ text_of Short small (string ∷ []) (codes "%5 = OpString \"abc\"" ∷ []) (facts_of 9 (string ∷ []) L1 0 (MayCome (10 ∷ 11 ∷ 14 ∷ 17 ∷ []) false))
+    ≡ text_of Short small (string ∷ []) (codes "%5 = OpString \"abc\"" ∷ [])
+    (facts_of 9 (string ∷ []) L1 0 (MayCome (10 ∷ 11 ∷ 14 ∷ 17 ∷ []) false))
 facts_told = refl
 
 pub string_lines : AreLinesOf Short small Profile 9 (string ∷ []) L1 0
@@ -225,15 +262,19 @@ string_lines = record {
   evidence = MayCome (10 ∷ 11 ∷ 14 ∷ 17 ∷ []) false;
   shows = string_shows;
   shown = codes "%5 = OpString \"abc\"" ∷ [];
-  are_shown = ShownLines.more [] string [] (5 ∷ 6513249 ∷ []) (codes "%5 = OpString \"abc\"") [] string_line (ShownLines.end _);
+  are_shown = ShownLines.more [] string [] (5 ∷ 6513249 ∷ []) (codes "%5 = OpString \"abc\"") [] string_line
+      (ShownLines.end _);
   told = ap (λ (z : List ℕ). rule_line (Code.Rule L1) ++ z) facts_told;
 }
 
 the_string : (is : List PlainInst) → IsListing small is (drop 5 string_words) → string ∷ [] ≡ is
-the_string is l = listing_same small [] (string ∷ []) is (drop 5 string_words) (drop 5 string_words) string_listed l refl
+the_string is l = listing_same small [] (string ∷ []) is (drop 5 string_words)
+    (drop 5 string_words) string_listed l refl
 
 pub string_shown : IsShownBy small Profile string_words string_fault (MayCome (10 ∷ 11 ∷ 14 ∷ 17 ∷ []) false)
-string_shown is l s = subst (λ js. IsEvidence small Profile 9 js L1 0 (MayCome (10 ∷ 11 ∷ 14 ∷ 17 ∷ []) false)) (the_string is l) string_shows
+string_shown is l s =
+    subst (λ js. IsEvidence small Profile 9 js L1 0 (MayCome (10 ∷ 11 ∷ 14 ∷ 17 ∷ []) false))
+    (the_string is l) string_shows
 
 no_entry_shows : (r : Rule) (n : ℕ) (e : Evidence) → layout.IsEvidence small (string ∷ []) r n e → e ≡ NoEntry → ⊥
 no_entry_shows _ _ _ (layout.IsEvidence.misfit i n known h k f) e = cc
@@ -245,8 +286,10 @@ string_not_shown h =
     let e = h (string ∷ []) string_listed (omega arith) in
     no_entry_shows L1 0 NoEntry (of_layout_alone small Profile 9 (string ∷ []) L1 0 NoEntry e (omega arith)) refl
 
-pub string_spelled : (m : Module) → plain_insts m ≡ string ∷ [] → IsHeaderOf string_words m.header → IsModuleOf small string_words m
-string_spelled m e h = record { listing = subst (λ is. IsListing small is (drop 5 string_words)) (sym e) string_listed; header = h }
+pub string_spelled : (m : Module) → plain_insts m ≡ string ∷ [] → IsHeaderOf string_words m.header
+    → IsModuleOf small string_words m
+string_spelled m e h =
+    record { listing = subst (λ is. IsListing small is (drop 5 string_words)) (sym e) string_listed; header = h }
 
 pub string_not_spelled : (m : Module) → plain_insts m ≡ [] → ¬ (IsModuleOf small string_words m)
 string_not_spelled m e h = (let s : string ∷ [] ≡ plain_insts m = the_string (plain_insts m) h.listing in absurd cc)

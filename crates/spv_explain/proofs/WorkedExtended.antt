@@ -25,11 +25,15 @@ called : call_at (looked_at Extended short_call) 2 ≡ Some (call_with 171 2)
 unfolding facts_of
 called = refl
 
-pub short_shown : (G : Table) (bound : ℕ) → IsEvidence G Extended bound (looked_at Extended short_call) Y9 2 (Miscalled 171 2 (Some 3) (Some 3))
+pub short_shown : (G : Table) (bound : ℕ)
+    → IsEvidence G Extended bound (looked_at Extended short_call) Y9 2 (Miscalled 171 2 (Some 3) (Some 3))
 unfolding facts_of
-short_shown G bound = IsEvidence.of_extended Y9 2 _ refl (extended.IsEvidence.miscalled 2 171 2 called (IsOutside.fewer 3 (Some 3) (omega arith)))
+short_shown G bound =
+    IsEvidence.of_extended Y9 2 _ refl (extended.IsEvidence.miscalled 2 171 2 called
+    (IsOutside.fewer 3 (Some 3) (omega arith)))
 
-counted : (r : Rule) (n : ℕ) (e : Evidence) → extended.IsEvidence (looked_at Extended short_call) r n e → n ≡ 2 → e ≡ Miscalled 171 1 (Some 3) (Some 3) → ⊥
+counted : (r : Rule) (n : ℕ) (e : Evidence) → extended.IsEvidence (looked_at Extended short_call) r n e → n ≡ 2
+    → e ≡ Miscalled 171 1 (Some 3) (Some 3) → ⊥
 counted _ _ _ (extended.IsEvidence.miscalled n number count at out) k m =
     let there : call_at (looked_at Extended short_call) 2 ≡ Some (call_with number count) = rw k at at in
     let same : Some (call_with number count) ≡ Some (call_with 171 2) = sym there ∙ called in
@@ -37,11 +41,13 @@ counted _ _ _ (extended.IsEvidence.miscalled n number count at out) k m =
     let one : count ≡ 1 = cc in
     omega (arith, one, two)
 
-pub other_count_not_shown : (G : Table) (bound : ℕ) → ¬ (IsEvidence G Extended bound (looked_at Extended short_call) Y9 2 (Miscalled 171 1 (Some 3) (Some 3)))
+pub other_count_not_shown : (G : Table) (bound : ℕ)
+    → ¬ (IsEvidence G Extended bound (looked_at Extended short_call) Y9 2 (Miscalled 171 1 (Some 3) (Some 3)))
 other_count_not_shown G bound h =
     counted Y9 2 _ (of_extended_alone G Extended bound (looked_at Extended short_call) Y9 2 _ h refl).shows refl refl
 
-pub by_profile_not_shown : (G : Table) (bound : ℕ) (e : Evidence) → ¬ (IsEvidence G Profile bound (looked_at Profile short_call) Y9 2 e)
+pub by_profile_not_shown : (G : Table) (bound : ℕ) (e : Evidence)
+    → ¬ (IsEvidence G Profile bound (looked_at Profile short_call) Y9 2 e)
 by_profile_not_shown G bound e h =
     let on : Profile ≡ Extended = (of_extended_alone G Profile bound (looked_at Profile short_call) Y9 2 e h refl).on in
     absurd cc

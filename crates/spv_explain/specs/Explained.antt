@@ -9,8 +9,8 @@ use Rattle.spv_extended.specs.Reach.{looked_at}
 use Rattle.spv_layout.specs.First.{stage_of}
 use Rattle.spv_evidence.specs.declared.evidence.Evidence.{Evidence}
 use Rattle.spv_layout.specs.Stage as stages
-use Rattle.spv_verdict.specs.declared.checked.Verdict.{Verdict}
-use Rattle.spv_verdict.specs.declared.checked.Verdict.TheVariants as verdict
+use Rattle.spv_check.specs.declared.checked.Verdict.{Verdict}
+use Rattle.spv_check.specs.declared.checked.Verdict.TheVariants as verdict
 use Rattle.spv_explain.specs.declared.reading.Explained.{Explained}
 use Rattle.spv_explain.specs.declared.reading.Explained.TheVariants.{Valid, Malformed, Broken}
 use Rattle.spv_explain.specs.Evidence.{IsEvidence}

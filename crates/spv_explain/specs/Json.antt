@@ -20,10 +20,10 @@ use Rattle.spv_rules.specs.Rules.{name_of, section_of, sentence_of}
 use Rattle.spv_rules.specs.declared.errors.AnyCode.{AnyCode}
 use Rattle.spv_rules.specs.declared.rules.Code.{Code}
 use Rattle.spv_rules.specs.declared.rules.Code.TheVariants.{Word, Rule}
-use Rattle.spv_verdict.specs.Text.{line_of}
-use Rattle.spv_verdict.specs.Verdict.{IsVerdict}
-use Rattle.spv_verdict.specs.declared.verdict_line.Judgment.{Judgment}
-use Rattle.spv_verdict.specs.declared.verdict_line.Judgment.TheVariants.{Valid, Refused, Broken}
+use Rattle.spv_check.specs.Text.{line_of}
+use Rattle.spv_check.specs.Verdict.{IsVerdict}
+use Rattle.spv_check.specs.declared.verdict_line.Judgment.{Judgment}
+use Rattle.spv_check.specs.declared.verdict_line.Judgment.TheVariants.{Valid, Refused, Broken}
 use Rattle.spv_evidence.specs.declared.evidence.Evidence.{Evidence}
 use Rattle.spv_form_evidence.specs.words.Evidence as instructions
 use Rattle.spv_fault_lines.specs.Facts.{facts_of}

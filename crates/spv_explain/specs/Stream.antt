@@ -17,9 +17,9 @@ use Rattle.spv_extended.specs.declared.reach.Reach.{Reach}
 use Rattle.spv_extended.specs.Reach.{looked_at}
 use Rattle.spv_layout.specs.First.{stage_of}
 use Rattle.spv_layout.specs.Stage as stages
-use Rattle.spv_verdict.specs.Broken.{IsFirstOfAll}
-use Rattle.spv_verdict.specs.Verdict.{IsVerdict, valid_line}
-use Rattle.spv_verdict.specs.Text.{line_of}
+use Rattle.spv_check.specs.Broken.{IsFirstOfAll}
+use Rattle.spv_check.specs.Verdict.{IsVerdict, valid_line}
+use Rattle.spv_check.specs.Text.{line_of}
 use Rattle.spv_evidence.specs.declared.evidence.Evidence.{Evidence}
 use Rattle.spv_fault_lines.specs.declared.fact.Detail.{Detail}
 use Rattle.spv_explain.specs.Evidence.{IsEvidence}

@@ -7,12 +7,13 @@ ghost use Rattle.spv_extended.specs.declared.reach.Reach.{Reach};
 ghost use Rattle.spv_layout.specs.Place.{IsShort};
 ghost use Rattle.spv_layout.specs.Plan.{IsPlan};
 ghost use Rattle.spv_ids.specs.Outcome.{AreIds};
-ghost use Rattle.spv_verdict.specs.Judged.{IsRefusedAt};
-ghost use Rattle.spv_verdict.specs.flow.Outcome as flow_outcome;
-ghost use Rattle.spv_verdict.specs.types.Outcome as type_outcome;
+ghost use Rattle.spv_check.specs.Judged.{IsRefusedAt};
+ghost use Rattle.spv_check.specs.flow.Outcome as flow_outcome;
+ghost use Rattle.spv_check.specs.types.Outcome as type_outcome;
 ghost use Rattle.spv_explain.specs.inner.Shown.{IsShownAt};
 
 use crate::kinds::{is_of_calls, is_of_capabilities, is_of_operations, is_of_roles, is_of_values};
+use spv_check::Reached;
 use spv_evidence::Evidence;
 use spv_flow_evidence::{branch_evidence, call_evidence, walk_evidence};
 use spv_form_evidence::{
@@ -24,7 +25,6 @@ use spv_module::{Fault, Module};
 use spv_operation_evidence::operation_evidence;
 use spv_table::{Memory, Table};
 use spv_type_evidence::type_evidence;
-use spv_verdict::Reached;
 use std::alloc::Global;
 
 /// What shows that a rule on roles, capabilities, entry points or types is broken at an instruction.

@@ -29,8 +29,8 @@ ghost use Rattle.spv_evidence.specs.declared.evidence.Evidence.TheVariants.{MayC
 ghost use Rattle.spv_inst.specs.Outcome.{IsHeaderOf};
 ghost use Rattle.spv_rules.specs.declared.errors.AnyCode.TheVariants.{Error};
 ghost use Rattle.spv_rules.specs.declared.errors.ErrorCode.TheVariants.{J5};
-ghost use Rattle.spv_verdict.specs.Broken.{Broken};
-ghost use Rattle.spv_verdict.specs.Verdict.{line_end};
+ghost use Rattle.spv_check.specs.Broken.{Broken};
+ghost use Rattle.spv_check.specs.Verdict.{line_end};
 ghost use Rattle.spv_explain.specs.Evidence.{IsEvidence};
 ghost use Rattle.spv_explain.specs.Example.{labels, many_opcodes, short_call, string_fault, string_words, twice_void};
 ghost use Rattle.spv_explain.specs.Explained.{IsShown, IsSpelled};
@@ -42,7 +42,7 @@ ghost use Rattle.spv_fault_lines.specs.declared.fact.Detail.TheVariants.{Full, S
 ghost use Rattle.spv_fault_lines.specs.declared.fact.Fact.TheVariants as fact;
 ghost use Rattle.spv_rules.specs.declared.rules.Code.TheVariants.{Rule, Word};
 ghost use Rattle.spv_fault_lines.specs.json_members.Members.{refused_members};
-ghost use Rattle.spv_verdict.specs.declared.verdict_line.Judgment.TheVariants as verdicts;
+ghost use Rattle.spv_check.specs.declared.verdict_line.Judgment.TheVariants as verdicts;
 ghost use Rattle.spv_explain.specs.Json.{AreMembers, code_line, error_object, json_line, object_of};
 ghost use Rattle.spv_explain.specs.Lines.{refused_text, rule_line};
 ghost use Rattle.spv_explain.specs.Stream.{AreLinesOf};

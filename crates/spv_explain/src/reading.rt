@@ -3,19 +3,19 @@ ghost use Rattle.std.specs.Prelude.{◌≡◌, IfOk, drop};
 ghost use Rattle.spv_inst.specs.Outcome.{IsHeaderOf};
 ghost use Rattle.spv_module.specs.Instruction.{IsListing};
 ghost use Rattle.spv_module.specs.Module.{plain_insts};
-ghost use Rattle.spv_verdict.specs.Answer.{IsAnswer};
-ghost use Rattle.spv_verdict.specs.Judged.{AreWordsOf};
+ghost use Rattle.spv_check.specs.Answer.{IsAnswer};
+ghost use Rattle.spv_check.specs.Judged.{AreWordsOf};
 ghost use Rattle.spv_explain.specs.Explained.{IsShown, IsShownDead, IsSpelled, verdict_in};
 ghost use Rattle.spv_explain.specs.inner.Reading.{IsExplained};
 
 use crate::evidence::evidence_of;
+use spv_check::{Checked, Judged, judge, read};
 use spv_evidence::Evidence;
 use spv_extended::Reach;
 use spv_form_evidence::word_evidence;
 use spv_inst::{decode, listed_or_dead, one_listing};
 use spv_module::{Fault, Module, Stop};
 use spv_table::{Memory, Table};
-use spv_verdict::{Checked, Judged, judge, read};
 use spv_words::Image;
 use std::alloc::Global;
 

@@ -21,4 +21,5 @@ unfolding rows
 unknown_told = refl
 
 pub not_other_told : ¬ (row_text opcode.RETURN ≡ codes "value")
-not_other_told h = (let f : 110 ≡ 118 = ap (λ (t : List ℕ). slice_index t 0) (sym bare_told ∙ h) in absurd (omega (arith, f)))
+not_other_told h = (let f : 110 ≡ 118 = ap (λ (t : List ℕ). slice_index t 0) (sym bare_told ∙ h) in
+    absurd (omega (arith, f)))

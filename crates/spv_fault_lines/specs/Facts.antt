@@ -1,9 +1,8 @@
 -- What the lines that explain a fault tell, in order: facts of its evidence, in numbers. (Own.)
-use Rattle.std.specs.Prelude.{◌++◌, ◌+◌, ℕ, List, [], ◌∷◌, Option, Some, None, Bool, true, false, nat_eq}
+use Rattle.std.specs.Prelude.{◌++◌, ℕ, List, [], ◌∷◌, Option, Some, None, Bool, true, false, nat_eq}
 use Rattle.std.specs.Prelude.{if◌then◌else◌, slice_get}
 use Rattle.std.specs.List.{list_any}
-use Rattle.spv_table.specs.Lookups.{is_number}
-use Rattle.spv_module.specs.Operand.{PlainInst, result_in}
+use Rattle.spv_module.specs.Operand.{PlainInst}
 use Rattle.spv_module.specs.declared.opcode.TheConstants.{TYPE_VECTOR}
 use Rattle.spv_module.specs.declared.fault.Rule.{Rule}
 use Rattle.spv_module.specs.declared.fault.Rule.TheVariants.{D1, L1, L2}
@@ -19,13 +18,9 @@ use Rattle.spv_fault_lines.specs.declared.fact.Fact.TheVariants as fact
 use Rattle.spv_fault_lines.specs.declared.fact.Place.{Place}
 use Rattle.spv_fault_lines.specs.declared.fact.Thing.{Thing}
 use Rattle.spv_fault_lines.specs.declared.fact.Thing.TheVariants as thing
+use Rattle.spv_fault_lines.specs.Definition.{definition_from}
+use Rattle.spv_fault_lines.specs.Owners.{own_place, places_in, size_of, tells_size, types_at, without}
 use Rattle.spv_fault_lines.specs.Place.{comes_early, open_before, place_of}
-
--- the first instruction whose result is x, if the first of these has this number
-abbrev pub definition_from : ℕ → ℕ → List PlainInst → Option ℕ
-definition_from x at [] = None
-definition_from x at (i ∷ is) =
-    if is_number x (result_in i.operands) then Some at else definition_from x (at + 1) is
 
 -- an instruction in full, or an id that none defines
 abbrev pub thing_at : Option ℕ → ℕ → Thing
@@ -51,11 +46,7 @@ abbrev pub types_facts : List Thing → List Fact
 types_facts [] = []
 types_facts (t ∷ ts) = fact.Types (t ∷ ts) ∷ []
 
-abbrev pub type_facts : List PlainInst → List ℕ → List Fact
-type_facts is xs = types_facts (type_things is [] xs)
-
--- operand k of instruction n, the instruction that defines its id, and the types that are compared, where there are
--- such
+-- operand k of instruction n, and the instruction that defines its id, where there are such
 abbrev pub operand_facts : ℕ → Option ℕ → List Fact
 operand_facts n None = []
 operand_facts n (Some k) = fact.Operand n k ∷ []
@@ -64,20 +55,44 @@ abbrev pub defined_facts : Option ℕ → List Fact
 defined_facts None = []
 defined_facts (Some m) = fact.Defined m ∷ []
 
-abbrev pub wanted_facts : List PlainInst → Option ℕ → List Fact
-wanted_facts is None = []
-wanted_facts is (Some t) = fact.Wanted (thing_of is t) ∷ []
-
-abbrev pub found_facts : List PlainInst → Option ℕ → List Fact
-found_facts is None = []
-found_facts is (Some t) = fact.Found (thing_of is t) ∷ []
-
--- a condition that fails at instruction n, and where it does; the types that are compared
+-- a condition that fails at instruction n, and where it does
 abbrev pub failing_facts : ℕ → Condition → Option ℕ → Option ℕ → List Fact
 failing_facts n c k m = fact.Condition c ∷ operand_facts n k ++ defined_facts m
 
-abbrev pub compared_facts : List PlainInst → Option ℕ → Option ℕ → List Fact
-compared_facts is wanted found = wanted_facts is wanted ++ found_facts is found
+-- the types that it reads, where there are some, with those of the operands of instruction n
+abbrev pub read_facts_by : ℕ → List (Option ℕ) → List Thing → List Fact
+read_facts_by n us [] = []
+read_facts_by n us (t ∷ ts) = fact.ReadTypes n us (t ∷ ts) ∷ []
+
+abbrev pub read_facts : List PlainInst → ℕ → List ℕ → List Fact
+read_facts is n xs = read_facts_by n (types_at is n) (type_things is [] xs)
+
+-- the type that is wanted, and the other operands that are of it: others than the one at which the condition fails
+abbrev pub wanted_facts : List PlainInst → ℕ → Option ℕ → Option ℕ → List Fact
+wanted_facts is n k None = []
+wanted_facts is n k (Some t) = fact.WantedOf n (thing_of is t) (places_in (Some t) (without k (types_at is n))) ∷ []
+
+-- the type that is found, and that operand, if it is of it
+abbrev pub found_facts : List PlainInst → ℕ → Option ℕ → Option ℕ → List Fact
+found_facts is n k None = []
+found_facts is n k (Some t) = fact.FoundOf n (thing_of is t) (own_place t k (types_at is n)) ∷ []
+
+abbrev pub compared_facts : List PlainInst → ℕ → Option ℕ → Option ℕ → Option ℕ → List Fact
+compared_facts is n k wanted found = wanted_facts is n k wanted ++ found_facts is n k found
+
+-- how many parts the type has that is found, where a condition asks for that
+abbrev pub size_by : Option ℕ → List Fact
+size_by None = []
+size_by (Some n) = fact.Size n ∷ []
+
+abbrev pub size_facts : List PlainInst → Condition → Option ℕ → List Fact
+size_facts is c None = []
+size_facts is c (Some t) = if tells_size c then size_by (size_of is t) else []
+
+-- the types of a condition: those that it reads, and those that it compares
+abbrev pub condition_facts : List PlainInst → ℕ → Condition → Option ℕ → Option ℕ → Option ℕ → List ℕ → List Fact
+condition_facts is n c k wanted found xs =
+    read_facts is n xs ++ (compared_facts is n k wanted found ++ size_facts is c found)
 
 -- the function type that is asked, if one is
 abbrev pub asked_facts : List PlainInst → Option ℕ → List Fact
@@ -118,7 +133,7 @@ evidence_facts is n (evidence.Needs l) = lister_facts is n l ++ (fact.NeedsOneOf
 evidence_facts is n evidence.NoEntry = fact.NoEntry ∷ []
 evidence_facts is n (evidence.Entry part) = fact.Part part ∷ []
 evidence_facts is n (evidence.Condition c k m wanted found types) =
-    failing_facts n c k m ++ (type_facts is types ++ compared_facts is wanted found)
+    failing_facts n c k m ++ condition_facts is n c k wanted found types
 evidence_facts is n (evidence.Mismatch s wanted found of) = fact.Differs s ∷ asked_facts is of
     ++ (fact.Wanted (side_thing is s wanted) ∷ fact.Found (side_thing is s found) ∷ [])
 evidence_facts is n (evidence.MissingParent b ps) = fact.MissingParent b ∷ fact.Predecessors ps ∷ []

@@ -1,8 +1,10 @@
 pub mod Classes
 pub mod Conditions
+pub mod Definition
 pub mod Facts
 pub mod Keys
 pub mod Lines
+pub mod Owners
 pub mod Place
 pub mod Refused
 pub mod Shapes

@@ -25,9 +25,11 @@ use Rattle.spv_fault_lines.specs.declared.fact.Thing.{Thing}
 use Rattle.spv_fault_lines.specs.declared.fact.Thing.TheVariants as thing
 use Rattle.spv_fault_lines.specs.declared.key.Key.{Key}
 use Rattle.spv_fault_lines.specs.declared.key.Key.TheVariants as key
+use Rattle.spv_names.specs.Names.{function_name}
 use Rattle.spv_fault_lines.specs.Classes.{classes_text}
 use Rattle.spv_fault_lines.specs.Conditions.{condition_text}
 use Rattle.spv_fault_lines.specs.Keys.{line_name}
+use Rattle.spv_fault_lines.specs.Owners.{places_in}
 use Rattle.spv_lines.specs.Plain.{plain_of}
 use Rattle.spv_fault_lines.specs.Shapes.{role_text, row_text}
 
@@ -105,9 +107,18 @@ abbrev pub function_part : List PlainInst → Option ℕ → List ℕ
 function_part is None = []
 function_part is (Some n) = result_part is n
 
--- ` function %10, block %16`
+-- the name of the function that an OpFunction of that number begins, and it after a space
+abbrev pub name_at : List PlainInst → Option ℕ → Option (List ℕ)
+name_at is n = option_and_then (function_name is) (option_and_then (result_of is) n)
+
+abbrev pub named_part : Option (List ℕ) → List ℕ
+named_part None = []
+named_part (Some name) = name_part name
+
+-- ` function %10 main, block %16`
 abbrev pub place_part : List PlainInst → Place → List ℕ
-place_part is p = codes " function" ++ function_part is p.function ++ block_part is p.block
+place_part is p =
+    codes " function" ++ function_part is p.function ++ named_part (name_at is p.function) ++ block_part is p.block
 
 -- ` 128 OpIAdd`, by the name of the grammar if it has one
 abbrev pub opcode_part : Table → ℕ → List ℕ
@@ -308,6 +319,10 @@ key_of (fact.Types ts) = key.Type
 key_of (fact.Differs s) = side_key s
 key_of (fact.Wanted t) = key.Wanted
 key_of (fact.Found t) = key.Found
+key_of (fact.ReadTypes n us ts) = key.Type
+key_of (fact.WantedOf n t ks) = key.Wanted
+key_of (fact.FoundOf n t ks) = key.Found
+key_of (fact.Size n) = key.Size
 key_of (fact.MissingParent b) = key.MissingParent
 key_of (fact.NoPredecessor n k) = key.NoPredecessor
 key_of (fact.Twice n k) = key.Twice
@@ -319,6 +334,33 @@ key_of (fact.Number n) = key.Number
 key_of (fact.Operands n) = key.Operands
 key_of (fact.Least n) = key.Least
 key_of (fact.Most n) = key.Most
+
+-- `, of operand 1 %17`: operands of instruction n
+abbrev pub owner_part : Table → List PlainInst → ℕ → ℕ → List ℕ
+owner_part G is n k = codes ", of operand" ++ numbered_part G is n k
+
+abbrev pub owners_part : Table → List PlainInst → ℕ → List ℕ → List ℕ
+owners_part G is n ks = flat_map (owner_part G is n) ks
+
+-- `%5 = OpTypeInt 32 0, of operand 1 %17`
+abbrev pub owned_text : Table → List PlainInst → List (List ℕ) → ℕ → Thing → List ℕ → List ℕ
+owned_text G is lines n t ks = thing_text lines t ++ owners_part G is n ks
+
+-- the id of a type that is told, if it is one
+abbrev pub thing_id : List PlainInst → Thing → Option ℕ
+thing_id is thing.Nothing = None
+thing_id is (thing.Count n) = None
+thing_id is (thing.Inst n) = result_of is n
+thing_id is (thing.Id x) = Some x
+
+-- the operands of instruction n that are of a type that is told, where these are their types; of one that none is of
+-- that it is a part of another that is told
+abbrev pub whose_part : Table → List PlainInst → ℕ → List ℕ → List ℕ
+whose_part G is n [] = codes ", part of a type above"
+whose_part G is n (k ∷ ks) = owners_part G is n (k ∷ ks)
+
+abbrev pub read_text : Table → List PlainInst → List (List ℕ) → ℕ → List (Option ℕ) → Thing → List ℕ
+read_text G is lines n us t = thing_text lines t ++ whose_part G is n (places_in (thing_id is t) us)
 
 -- What is told behind the key and its colon, in short or in full: under the table, of these instructions and their
 -- shown lines. Nothing of types, each of which has a line of its own.
@@ -350,6 +392,10 @@ rest_of d G is lines (fact.Types ts) = []
 rest_of d G is lines (fact.Differs s) = side_rest s
 rest_of d G is lines (fact.Wanted t) = name_part (thing_text lines t)
 rest_of d G is lines (fact.Found t) = name_part (thing_text lines t)
+rest_of d G is lines (fact.ReadTypes n us ts) = []
+rest_of d G is lines (fact.WantedOf n t ks) = name_part (owned_text G is lines n t ks)
+rest_of d G is lines (fact.FoundOf n t ks) = name_part (owned_text G is lines n t ks)
+rest_of d G is lines (fact.Size n) = number_part n
 rest_of d G is lines (fact.MissingParent b) = results_part is (b ∷ [])
 rest_of d G is lines (fact.NoPredecessor n k) = operand_part G (operand_at is n k)
 rest_of d G is lines (fact.Twice n k) = operand_part G (operand_at is n k)
@@ -378,9 +424,14 @@ plain_line raw = plain_of raw ++ (10 ∷ [])
 abbrev pub type_line : List (List ℕ) → Thing → List ℕ
 type_line lines t = plain_line (keyed key.Type (name_part (thing_text lines t)))
 
+-- `type: %5 = OpTypeInt 32 0, of operand 1 %17`
+abbrev pub read_line : Table → List PlainInst → List (List ℕ) → ℕ → List (Option ℕ) → Thing → List ℕ
+read_line G is lines n us t = plain_line (keyed key.Type (name_part (read_text G is lines n us t)))
+
 -- the line of a fact, or the lines of its types
 abbrev pub line_of : Detail → Table → List PlainInst → List (List ℕ) → Fact → List ℕ
 line_of d G is lines (fact.Types ts) = flat_map (type_line lines) ts
+line_of d G is lines (fact.ReadTypes n us ts) = flat_map (read_line G is lines n us) ts
 line_of d G is lines f = plain_line (raw_of d G is lines f)
 
 -- the lines of facts, in order

@@ -151,6 +151,28 @@ pub enum Fact {
     Found {
         thing: Thing,
     },
+    /// `type`: types that a condition reads, each on a line, and the types of the operands of an instruction.
+    ReadTypes {
+        inst: u32,
+        operands: Listed<Option<u32>>,
+        things: Listed<Thing>,
+    },
+    /// `wanted`: the type that is to stand there, and the operands of an instruction that are of it.
+    WantedOf {
+        inst: u32,
+        thing: Thing,
+        operands: Listed<u32>,
+    },
+    /// `found`: the type that stands there, and the operand of an instruction, if it is of it.
+    FoundOf {
+        inst: u32,
+        thing: Thing,
+        operands: Listed<u32>,
+    },
+    /// `size`: how many parts the type has that stands there.
+    Size {
+        count: u32,
+    },
     /// `missing parent`: a predecessor that no pair names.
     MissingParent {
         block: u32,

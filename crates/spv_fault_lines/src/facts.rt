@@ -9,6 +9,7 @@ ghost use Rattle.spv_fault_lines.specs.declared.fact.Fact.TheVariants as kinds;
 
 use crate::about::About;
 use crate::fact::{Fact, Place};
+use crate::owners::{leave_out, own_place, places_in, tells_size};
 use crate::place::comes_early;
 use spv_evidence::{Condition, Evidence, Listed, Lister};
 use spv_module::{Inst, Rule, opcode};
@@ -278,53 +279,99 @@ impl<'m, 'a> About<'m, 'a> {
         push_one(facts, Fact::NeedsOneOf { inst, lister })
     }
 
-    /// Adds the type that is wanted, if there is one.
-    fn push_wanted(&self, facts: &mut Vec<Fact>, wanted: Option<u32>) -> Result<(), AllocError>
+    /// Adds the type that is wanted at an operand of an instruction, if there is one, and the other operands of it.
+    fn push_wanted(
+        &self,
+        facts: &mut Vec<Fact>,
+        inst: u32,
+        operand: Option<u32>,
+        wanted: Option<u32>,
+    ) -> Result<(), AllocError>
         requires few { AreFew (plain_insts self.now.«module».now) }
         ensures { OnOk result (facts.new.items ≡ facts.old.items ++ lists.wanted_facts
-            (plain_insts self.now.«module».now) wanted) }
+            (plain_insts self.now.«module».now) inst operand wanted) }
     {
-        match wanted {
-            Some(id) => push_one(
-                facts,
-                Fact::Wanted {
-                    thing: self.thing_of(id),
-                },
-            ),
-            None => Ok(()),
-        }
+        let Some(id) = wanted else {
+            return Ok(());
+        };
+        let mut types = self.types_at(inst)?;
+        leave_out(&mut types, operand);
+        let operands = places_in(self.alloc, Some(id), &types)?;
+        push_one(
+            facts,
+            Fact::WantedOf {
+                inst,
+                thing: self.thing_of(id),
+                operands: Listed::from_vec(operands),
+            },
+        )
     }
 
-    /// Adds the type that is found, if there is one.
-    fn push_found(&self, facts: &mut Vec<Fact>, found: Option<u32>) -> Result<(), AllocError>
+    /// Adds the type that is found at an operand of an instruction, if there is one, and that operand, if it is of it.
+    fn push_found(
+        &self,
+        facts: &mut Vec<Fact>,
+        inst: u32,
+        operand: Option<u32>,
+        found: Option<u32>,
+    ) -> Result<(), AllocError>
         requires few { AreFew (plain_insts self.now.«module».now) }
         ensures { OnOk result (facts.new.items ≡ facts.old.items ++ lists.found_facts
-            (plain_insts self.now.«module».now) found) }
+            (plain_insts self.now.«module».now) inst operand found) }
     {
-        match found {
-            Some(id) => push_one(
-                facts,
-                Fact::Found {
-                    thing: self.thing_of(id),
-                },
-            ),
-            None => Ok(()),
-        }
+        let Some(id) = found else {
+            return Ok(());
+        };
+        let types = self.types_at(inst)?;
+        let operands = own_place(self.alloc, id, operand, &types)?;
+        push_one(
+            facts,
+            Fact::FoundOf {
+                inst,
+                thing: self.thing_of(id),
+                operands: Listed::from_vec(operands),
+            },
+        )
     }
 
-    /// Adds the types that are compared.
+    /// Adds the types that are compared at an operand of an instruction.
     fn push_compared(
         &self,
         facts: &mut Vec<Fact>,
+        inst: u32,
+        operand: Option<u32>,
         wanted: Option<u32>,
         found: Option<u32>,
     ) -> Result<(), AllocError>
         requires few { AreFew (plain_insts self.now.«module».now) }
         ensures { OnOk result (facts.new.items ≡ facts.old.items ++ lists.compared_facts
-            (plain_insts self.now.«module».now) wanted found) }
+            (plain_insts self.now.«module».now) inst operand wanted found) }
     {
-        self.push_wanted(facts, wanted)?;
-        self.push_found(facts, found)
+        self.push_wanted(facts, inst, operand, wanted)?;
+        self.push_found(facts, inst, operand, found)
+    }
+
+    /// Adds how many parts the type has that is found, where the condition asks for that.
+    fn push_size(
+        &self,
+        facts: &mut Vec<Fact>,
+        condition: Condition,
+        found: Option<u32>,
+    ) -> Result<(), AllocError>
+        requires few { AreFew (plain_insts self.now.«module».now) }
+        ensures { OnOk result (facts.new.items ≡ facts.old.items ++ lists.size_facts
+            (plain_insts self.now.«module».now) condition found) }
+    {
+        let Some(id) = found else {
+            return Ok(());
+        };
+        if !tells_size(condition) {
+            return Ok(());
+        }
+        match self.size_of(id) {
+            Some(count) => push_one(facts, Fact::Size { count }),
+            None => Ok(()),
+        }
     }
 
     /// Adds the function type that is asked, if one is.
@@ -361,8 +408,9 @@ impl<'m, 'a> About<'m, 'a> {
                 types,
             } => {
                 push_failing(facts, inst, *condition, *operand, *defined)?;
-                self.push_types(facts, types.as_slice())?;
-                self.push_compared(facts, *wanted, *found)
+                self.push_read(facts, inst, types.as_slice())?;
+                self.push_compared(facts, inst, *operand, *wanted, *found)?;
+                self.push_size(facts, *condition, *found)
             }
             Evidence::Mismatch {
                 side,

@@ -12,6 +12,7 @@ mod key;
 pub mod laws;
 mod lines;
 mod needs;
+mod owners;
 mod place;
 mod refused;
 mod shapes;

@@ -7,7 +7,9 @@ ghost use Rattle.spv_lines.specs.Text.{ShownLines};
 ghost use Rattle.spv_fault_lines.specs.Lines as lines;
 ghost use Rattle.spv_fault_lines.specs.Keys.{line_name};
 ghost use Rattle.spv_fault_lines.specs.Lines.{bit_name, keyed, key_of, line_of, name_part, needed_part, number_part};
-ghost use Rattle.spv_fault_lines.specs.Lines.{operand_at, plain_line, raw_of, rest_of, text_of, thing_text, type_line};
+ghost use Rattle.spv_fault_lines.specs.Lines.{operand_at, plain_line, raw_of, read_line, rest_of, text_of, thing_text};
+ghost use Rattle.spv_fault_lines.specs.Lines.{type_line};
+ghost use Rattle.spv_fault_lines.specs.Owners.{places_in};
 ghost use Rattle.spv_fault_lines.specs.inner.Parts.{named_text};
 
 use crate::about::{
@@ -19,10 +21,12 @@ use crate::conditions::condition_words;
 use crate::fact::{Detail, Fact, Place, Thing};
 use crate::key::Key;
 use crate::needs::needs_of;
+use crate::owners;
 use crate::shapes::{push_row_of, role_name};
 use spv_evidence::{EntryPart, Lister, Side};
 use spv_lines::{push_hex, push_plain};
 use spv_module::{Inst, Operand};
+use spv_names::function_name;
 use spv_table::{NameList, Table};
 use std::alloc::AllocError;
 
@@ -184,13 +188,33 @@ impl<'m, 'a> About<'m, 'a> {
         }
     }
 
-    /// Adds a function and a block.
+    /// The name of the function that an OpFunction of that number begins, if it has one.
+    pub fn name_at(&self, inst: Option<u32>) -> Option<&'a str>
+        ensures { option_map (λ t. t.now) result ≡ lines.name_at (plain_insts self.now.«module».now) inst }
+    {
+        let id = self.result_of(inst?)?;
+        function_name(self.module.insts.as_slice(), id)
+    }
+
+    /// Adds a space and the name of a function, if it has one.
+    fn push_function_name(&self, out: &mut String, inst: Option<u32>) -> Result<(), AllocError>
+        ensures { OnOk result (string_bytes out.new ≡ string_bytes out.old ++ lines.named_part (lines.name_at
+            (plain_insts self.now.«module».now) inst)) }
+    {
+        match self.name_at(inst) {
+            Some(name) => push_name(out, name),
+            None => Ok(()),
+        }
+    }
+
+    /// Adds a function, its name and a block.
     fn push_place(&self, out: &mut String, place: Place) -> Result<(), AllocError>
         ensures { OnOk result (string_bytes out.new ≡ string_bytes out.old ++ lines.place_part
             (plain_insts self.now.«module».now) place) }
     {
         out.push_str(" function")?;
         self.push_function(out, place.function)?;
+        self.push_function_name(out, place.function)?;
         self.push_block(out, place.block)
     }
 
@@ -305,6 +329,85 @@ impl<'m, 'a> About<'m, 'a> {
         self.push_thing_text(out, thing)
     }
 
+    /// Adds an operand that is of a type.
+    fn push_owner(&self, out: &mut String, inst: u32, operand: u32) -> Result<(), AllocError>
+        ensures { OnOk result (string_bytes out.new ≡ string_bytes out.old ++ lines.owner_part self.now.table.now
+            (plain_insts self.now.«module».now) inst operand) }
+    {
+        out.push_str(", of operand")?;
+        self.push_operand_text(out, inst, operand)
+    }
+
+    /// Adds the operands of an instruction that are of a type.
+    fn push_owners(&self, out: &mut String, inst: u32, operands: &[u32]) -> Result<(), AllocError>
+        ensures { OnOk result (string_bytes out.new ≡ string_bytes out.old ++ lines.owners_part self.now.table.now
+            (plain_insts self.now.«module».now) inst operands.now) }
+    {
+        for operand in operands {
+            self.push_owner(out, inst, *operand)?;
+        }
+        Ok(())
+    }
+
+    /// Adds a space and a type, and the operands of an instruction that are of it.
+    fn push_owned(
+        &self,
+        out: &mut String,
+        inst: u32,
+        thing: Thing,
+        operands: &[u32],
+    ) -> Result<(), AllocError>
+        ensures { (shown : List (List ℕ)) → ShownLines self.now.table.now [] (plain_insts self.now.«module».now) shown
+            → OnOk result (string_bytes out.new ≡ string_bytes out.old ++ name_part (lines.owned_text
+            self.now.table.now (plain_insts self.now.«module».now) shown inst thing operands.now)) }
+    {
+        self.push_thing(out, thing)?;
+        self.push_owners(out, inst, operands)
+    }
+
+    /// The id of a type that is told, if it is one.
+    pub fn thing_id(&self, thing: Thing) -> Option<u32>
+        ensures { result ≡ lines.thing_id (plain_insts self.now.«module».now) thing }
+    {
+        match thing {
+            Thing::Nothing | Thing::Count { .. } => None,
+            Thing::Inst { inst } => self.result_of(inst),
+            Thing::Id { id } => Some(id),
+        }
+    }
+
+    /// Adds the operands of an instruction that are of a type, or that none is.
+    fn push_owners_or_none(
+        &self,
+        out: &mut String,
+        inst: u32,
+        operands: &[u32],
+    ) -> Result<(), AllocError>
+        ensures { OnOk result (string_bytes out.new ≡ string_bytes out.old ++ lines.whose_part self.now.table.now
+            (plain_insts self.now.«module».now) inst operands.now) }
+    {
+        match operands {
+            [_, ..] => self.push_owners(out, inst, operands),
+            _ => out.push_str(", part of a type above"),
+        }
+    }
+
+    /// Adds the operands of an instruction that are of a type, where these are their types, or that none is.
+    fn push_whose(
+        &self,
+        out: &mut String,
+        inst: u32,
+        operands: &[Option<u32>],
+        thing: Thing,
+    ) -> Result<(), AllocError>
+        ensures { OnOk result (string_bytes out.new ≡ string_bytes out.old ++ lines.whose_part self.now.table.now
+            (plain_insts self.now.«module».now) inst (places_in (lines.thing_id (plain_insts self.now.«module».now)
+            thing) operands.now)) }
+    {
+        let places = owners::places_in(self.alloc, self.thing_id(thing), operands)?;
+        self.push_owners_or_none(out, inst, places.as_slice())
+    }
+
     /// Adds the functions of a cycle, and before them the last of them, the caller.
     fn push_cycle(&self, out: &mut String, cycle: &[u32]) -> Result<(), AllocError>
         ensures { OnOk result (string_bytes out.new ≡ string_bytes out.old ++ lines.cycle_part
@@ -328,7 +431,8 @@ impl<'m, 'a> About<'m, 'a> {
             Fact::Failing { operand: number }
             | Fact::Bound { bound: number }
             | Fact::Number { number }
-            | Fact::Operands { count: number } => push_number(out, *number),
+            | Fact::Operands { count: number }
+            | Fact::Size { count: number } => push_number(out, *number),
             Fact::Due { kind } => push_due(out, self.table, *kind),
             Fact::Role { role } => out.push_str(role_name(*role)),
             Fact::Capability { capability, .. } => push_capability(out, self.table, *capability),
@@ -363,7 +467,17 @@ impl<'m, 'a> About<'m, 'a> {
             }
             Fact::NeedsOneOf { inst, lister } => self.push_needed_of(out, *inst, *lister),
             Fact::Part { part } => self.push_part(out, *part),
-            Fact::Types { .. } => Ok(()),
+            Fact::Types { .. } | Fact::ReadTypes { .. } => Ok(()),
+            Fact::WantedOf {
+                inst,
+                thing,
+                operands,
+            }
+            | Fact::FoundOf {
+                inst,
+                thing,
+                operands,
+            } => self.push_owned(out, *inst, *thing, operands.as_slice()),
             Fact::Differs { side } => push_side(out, *side),
             Fact::NoPredecessor { inst, operand } | Fact::Twice { inst, operand } => {
                 self.push_operand_of(out, *inst, *operand)
@@ -414,6 +528,43 @@ impl<'m, 'a> About<'m, 'a> {
         Ok(())
     }
 
+    /// Adds the line of a type that is read at an instruction, whose operands are of these types.
+    fn push_read_line(
+        &self,
+        out: &mut String,
+        inst: u32,
+        operands: &[Option<u32>],
+        thing: Thing,
+    ) -> Result<(), AllocError>
+        ensures { (shown : List (List ℕ)) → ShownLines self.now.table.now [] (plain_insts self.now.«module».now) shown
+            → OnOk result (string_bytes out.new ≡ string_bytes out.old ++ read_line self.now.table.now
+            (plain_insts self.now.«module».now) shown inst operands.now thing) }
+    {
+        let mut raw = String::new(self.alloc);
+        push_key(&mut raw, Key::Type)?;
+        self.push_thing(&mut raw, thing)?;
+        self.push_whose(&mut raw, inst, operands, thing)?;
+        push_raw(out, raw.as_str())
+    }
+
+    /// Adds the lines of types that are read, one each.
+    fn push_read_lines(
+        &self,
+        out: &mut String,
+        inst: u32,
+        operands: &[Option<u32>],
+        things: &[Thing],
+    ) -> Result<(), AllocError>
+        ensures { (shown : List (List ℕ)) → ShownLines self.now.table.now [] (plain_insts self.now.«module».now) shown
+            → OnOk result (string_bytes out.new ≡ string_bytes out.old ++ flat_map (read_line self.now.table.now
+            (plain_insts self.now.«module».now) shown inst operands.now) things.now) }
+    {
+        for thing in things {
+            self.push_read_line(out, inst, operands, *thing)?;
+        }
+        Ok(())
+    }
+
     /// Adds the line of a fact, or the lines of its types.
     pub fn push_line(&self, out: &mut String, fact: &Fact) -> Result<(), AllocError>
         ensures { (shown : List (List ℕ)) → ShownLines self.now.table.now [] (plain_insts self.now.«module».now) shown
@@ -422,6 +573,11 @@ impl<'m, 'a> About<'m, 'a> {
     {
         match fact {
             Fact::Types { things } => self.push_type_lines(out, things.as_slice()),
+            Fact::ReadTypes {
+                inst,
+                operands,
+                things,
+            } => self.push_read_lines(out, *inst, operands.as_slice(), things.as_slice()),
             _ => self.push_one_line(out, fact),
         }
     }
@@ -571,6 +727,10 @@ impl Fact {
             Fact::Differs { side } => side_key(*side),
             Fact::Wanted { .. } => Key::Wanted,
             Fact::Found { .. } => Key::Found,
+            Fact::ReadTypes { .. } => Key::Type,
+            Fact::WantedOf { .. } => Key::Wanted,
+            Fact::FoundOf { .. } => Key::Found,
+            Fact::Size { .. } => Key::Size,
             Fact::MissingParent { .. } => Key::MissingParent,
             Fact::NoPredecessor { .. } => Key::NoPredecessor,
             Fact::Twice { .. } => Key::Twice,

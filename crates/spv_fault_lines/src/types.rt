@@ -5,7 +5,8 @@ ghost use Rattle.spv_module.specs.Operand.{result_in};
 ghost use Rattle.spv_module.specs.Module.{plain_inst, plain_insts};
 ghost use Rattle.spv_layout.specs.Place.{AreFew};
 ghost use Rattle.spv_fault_lines.specs.Facts as things;
-ghost use Rattle.spv_fault_lines.specs.Facts.{definition_from, type_facts, type_things, types_facts};
+ghost use Rattle.spv_fault_lines.specs.Definition.{definition_from};
+ghost use Rattle.spv_fault_lines.specs.Facts.{read_facts, read_facts_by, type_things, types_facts};
 ghost use Rattle.spv_fault_lines.specs.inner.Parts.{kept};
 
 use crate::about::About;
@@ -92,9 +93,31 @@ fn push_types_fact(facts: &mut Vec<Fact>, told: Vec<Thing>) -> Result<(), AllocE
     )
 }
 
+/// Adds the fact of types that are read, with those of the operands of an instruction, where there are some.
+fn push_read_fact(
+    facts: &mut Vec<Fact>,
+    inst: u32,
+    operands: Vec<Option<u32>>,
+    told: Vec<Thing>,
+) -> Result<(), AllocError>
+    ensures { OnOk result (facts.new.items ≡ facts.old.items ++ read_facts_by inst operands.items told.items) }
+{
+    if told.is_empty() {
+        return Ok(());
+    }
+    push_one(
+        facts,
+        Fact::ReadTypes {
+            inst,
+            operands: Listed::from_vec(operands),
+            things: Listed::from_vec(told),
+        },
+    )
+}
+
 impl<'m, 'a> About<'m, 'a> {
     /// The first instruction that defines an id.
-    fn definition_of(&self, id: u32) -> Option<u32>
+    pub fn definition_of(&self, id: u32) -> Option<u32>
         requires few { AreFew (plain_insts self.now.«module».now) }
         ensures { result ≡ definition_from id 0 (plain_insts self.now.«module».now) }
     {
@@ -137,7 +160,7 @@ impl<'m, 'a> About<'m, 'a> {
     }
 
     /// Of each id below a number the first instruction that has it as its result.
-    fn definitions(&self, room: usize) -> Result<Vec<Option<u32>>, AllocError>
+    pub fn definitions(&self, room: usize) -> Result<Vec<Option<u32>>, AllocError>
         requires few { AreFew (plain_insts self.now.«module».now) }
         ensures room { IfOk result (λ v. length v.items ≡ room) }
         ensures found { IfOk result (λ v. (x : ℕ) → x < room
@@ -165,14 +188,15 @@ impl<'m, 'a> About<'m, 'a> {
         Ok(told)
     }
 
-    /// Adds the fact of types, where there are some.
-    pub fn push_types(&self, facts: &mut Vec<Fact>, ids: &[u32]) -> Result<(), AllocError>
+    /// Adds the types that a condition reads at an instruction, where there are some.
+    pub fn push_read(&self, facts: &mut Vec<Fact>, inst: u32, ids: &[u32]) -> Result<(), AllocError>
         requires few { AreFew (plain_insts self.now.«module».now) }
-        ensures { OnOk result (facts.new.items ≡ facts.old.items ++ type_facts
-            (plain_insts self.now.«module».now) ids.now) }
+        ensures { OnOk result (facts.new.items ≡ facts.old.items ++ read_facts
+            (plain_insts self.now.«module».now) inst ids.now) }
     {
+        let operands = self.types_at(inst)?;
         let told = self.types_told(ids)?;
-        push_types_fact(facts, told)
+        push_read_fact(facts, inst, operands, told)
     }
 
     /// Adds the fact of one type.

@@ -1,5 +1,6 @@
 -- Tests that are true or false.
-use Rattle.std.proofs.Common.{◌≡◌, ◌<◌, ◌≤◌, ◌⊎◌, ℕ, refl, inl, inr, Bool, true, false, Option, Some, None, arith, nat_eq, nat_lt}
+use Rattle.std.proofs.Common.{◌≡◌, ◌<◌, ◌≤◌, ◌⊎◌, ℕ, refl, inl, inr, Bool, true, false, Option, Some, None, arith}
+use Rattle.std.proofs.Common.{nat_eq, nat_lt}
 use Rattle.std.specs.Prelude.{◌&&◌, ◌||◌, MatchBool}
 use Rattle.std.specs.Option.{is_some}
 use Rattle.std.proofs.lemmas.Bool.Decides.{nat_tests}

@@ -11,7 +11,6 @@ pub mod Used
 mod Starts
 mod Sound
 mod Opens
-mod Pairs
 mod Noting
 mod Passing
 mod Sections

@@ -1,5 +1,6 @@
 -- Which function is open, by opcodes alone.
-use Rattle.std.proofs.Common.{◌≡◌, ◌∙◌, ◌≤◌, ◌+◌, ◌&&◌, ◌||◌, ℕ, List, [], ◌∷◌, refl, ap, inl, inr, Bool, true, false, Option, Some, None, arith, nat_eq, nat_le, ◌<◌}
+use Rattle.std.proofs.Common.{◌≡◌, ◌∙◌, ◌≤◌, ◌+◌, ◌&&◌, ◌||◌, ℕ, List, [], ◌∷◌, refl, ap, inl, inr, Bool, true, false}
+use Rattle.std.proofs.Common.{Option, Some, None, arith, nat_eq, nat_le, ◌<◌}
 use Rattle.std.specs.Prelude.{slice_get, not}
 use Rattle.std.proofs.lemmas.Bool.{leb-true}
 use Rattle.std.proofs.lemmas.Option.{slice_get_within}
@@ -37,38 +38,52 @@ same from to m n a b h =
     let g = eq_tells to m (and_second (nat_eq from m) (nat_eq to m) h) in
     omega arith
 
-only : (c : Class) (m n : ℕ) (o : Option PlainRow) → is_among Outside (c ∷ []) ≡ false → all_rows (row_only c m) rows ≡ true → row_of n ≡ o → is_among (class_in o) (c ∷ []) ≡ true → n ≡ m
+only : (c : Class) (m n : ℕ) (o : Option PlainRow) → is_among Outside (c ∷ []) ≡ false
+    → all_rows (row_only c m) rows ≡ true → row_of n ≡ o → is_among (class_in o) (c ∷ []) ≡ true → n ≡ m
 unfolding row_only
 only c m n None x a e h = cc
 only c m n (Some r) x a e h =
     let t = row_tells (row_only c m) rows n r a e in
     same r.from r.to m n t.from t.to (end_by (is_among r.class (c ∷ [])) (nat_eq r.from m && nat_eq r.to m) t.passes h)
 
-not_function : (is : List PlainInst) (n : ℕ) (i : PlainInst) → slice_get is n ≡ Some i → (i.opcode ≡ opcode.FUNCTION → ⊥) → ¬ (IsAt is n (Function ∷ []))
-not_function is n i h x a = let c = rw (class_at is n i h) at a in x (only Function opcode.FUNCTION i.opcode (row_of i.opcode) refl functions_only refl c)
+not_function : (is : List PlainInst) (n : ℕ) (i : PlainInst) → slice_get is n ≡ Some i
+    → (i.opcode ≡ opcode.FUNCTION → ⊥) → ¬ (IsAt is n (Function ∷ []))
+not_function is n i h x a = let c = rw (class_at is n i h) at a in
+    x (only Function opcode.FUNCTION i.opcode (row_of i.opcode) refl functions_only refl c)
 
-not_end : (is : List PlainInst) (n : ℕ) (i : PlainInst) → slice_get is n ≡ Some i → (i.opcode ≡ opcode.FUNCTION_END → ⊥) → ¬ (IsAt is n (FunctionEnd ∷ []))
-not_end is n i h x a = let c = rw (class_at is n i h) at a in x (only FunctionEnd opcode.FUNCTION_END i.opcode (row_of i.opcode) refl ends_only refl c)
+not_end : (is : List PlainInst) (n : ℕ) (i : PlainInst) → slice_get is n ≡ Some i → (i.opcode ≡ opcode.FUNCTION_END → ⊥)
+    → ¬ (IsAt is n (FunctionEnd ∷ []))
+not_end is n i h x a = let c = rw (class_at is n i h) at a in
+    x (only FunctionEnd opcode.FUNCTION_END i.opcode (row_of i.opcode) refl ends_only refl c)
 
 class_54 : class_of opcode.FUNCTION ≡ Function
 unfolding rows
 class_54 = refl
 
-function_here : (is : List PlainInst) (n : ℕ) (i : PlainInst) → slice_get is n ≡ Some i → i.opcode ≡ opcode.FUNCTION → IsAt is n (Function ∷ [])
+function_here : (is : List PlainInst) (n : ℕ) (i : PlainInst) → slice_get is n ≡ Some i → i.opcode ≡ opcode.FUNCTION
+    → IsAt is n (Function ∷ [])
 function_here is n i h e =
-    let k : slice_get (classes is) n ≡ Some Function = class_at is n i h ∙ ap (λ m. Some (class_of m)) e ∙ ap Some class_54 in
+    let k : slice_get (classes is) n ≡ Some Function = class_at is n i h ∙ ap (λ m. Some (class_of m)) e
+    ∙ ap Some class_54 in
     is_at is n Function (Function ∷ []) k refl
 
 -- at an OpFunction, and at another instruction
-pub opened : (is : List PlainInst) (n : ℕ) (i : PlainInst) → slice_get is n ≡ Some i → i.opcode ≡ opcode.FUNCTION → IsOfFunction is n n
+pub opened : (is : List PlainInst) (n : ℕ) (i : PlainInst) → slice_get is n ≡ Some i → i.opcode ≡ opcode.FUNCTION
+    → IsOfFunction is n n
 opened is n i h e =
     let w = slice_get_within is n i h in
     record {
-      begun = record { within = w; up_to = omega arith; there = function_here is n i h e; last = λ k a b. absurd (omega arith) };
+      begun = record {
+        within = w;
+        up_to = omega arith;
+        there = function_here is n i h e;
+        last = λ k a b. absurd (omega arith);
+      };
       not_ended = λ k a b. absurd (omega arith);
     }
 
-pub goes_on : (is : List PlainInst) (n f : ℕ) (i : PlainInst) → slice_get is n ≡ Some i → (i.opcode ≡ opcode.FUNCTION → ⊥) → IsOpen is n f → IsOfFunction is n f
+pub goes_on : (is : List PlainInst) (n f : ℕ) (i : PlainInst) → slice_get is n ≡ Some i
+    → (i.opcode ≡ opcode.FUNCTION → ⊥) → IsOpen is n f → IsOfFunction is n f
 goes_on is n f i h x o =
     let w = slice_get_within is n i h in
     let l = o.below in
@@ -77,20 +92,29 @@ goes_on is n f i h x o =
         within = w;
         up_to = omega arith;
         there = o.there;
-        last = λ k a b c. elim (below_or k n b) [ inl g ↦ o.last k a g c | inr e ↦ not_function is n i h x (at_moved is k n (Function ∷ []) e c) ];
+        last = λ k a b c. elim (below_or k n b) [
+          | inl g ↦ o.last k a g c
+          | inr e ↦
+              not_function is n i h x (at_moved is k n (Function ∷ []) e c)
+        ];
       };
       not_ended = o.not_ended;
     }
 
 -- after an instruction that ends no function
-pub stays_open : (is : List PlainInst) (n f : ℕ) (i : PlainInst) → slice_get is n ≡ Some i → (i.opcode ≡ opcode.FUNCTION_END → ⊥) → IsOfFunction is n f → IsOpen is (n + 1) f
+pub stays_open : (is : List PlainInst) (n f : ℕ) (i : PlainInst) → slice_get is n ≡ Some i
+    → (i.opcode ≡ opcode.FUNCTION_END → ⊥) → IsOfFunction is n f → IsOpen is (n + 1) f
 stays_open is n f i h x o =
     let u = o.begun.up_to in
     record {
       below = omega arith;
       there = o.begun.there;
       last = λ k a b. o.begun.last k a (omega arith);
-      not_ended = λ k a b c. elim (below_or k n (omega arith)) [ inl g ↦ o.not_ended k a g c | inr e ↦ not_end is n i h x (at_moved is k n (FunctionEnd ∷ []) e c) ];
+      not_ended = λ k a b c. elim (below_or k n (omega arith)) [
+        | inl g ↦ o.not_ended k a g c
+        | inr e ↦
+            not_end is n i h x (at_moved is k n (FunctionEnd ∷ []) e c)
+      ];
     }
 
 -- Section 7a has opcodes up to 7 alone.
@@ -115,7 +139,8 @@ low n (Some r) e h =
     let q = t.to in
     omega arith
 
-no_sources : (is : List PlainInst) (n k : ℕ) (i : PlainInst) → slice_get is n ≡ Some i → opcode.STRING < i.opcode → k ≡ 7 → ¬ (IsOfSection is n k)
+no_sources : (is : List PlainInst) (n k : ℕ) (i : PlainInst) → slice_get is n ≡ Some i → opcode.STRING < i.opcode
+    → k ≡ 7 → ¬ (IsOfSection is n k)
 no_sources is n _ i h l e (IsOfSection.early c s t q) =
     let p = class_at is n i h in
     let x : class_of i.opcode ≡ c = cc in
@@ -138,6 +163,7 @@ no_globals is n _ f o e (IsOfSection.declaration c g t q l d) = absurd (omega (a
 no_globals is n _ f o e (IsOfSection.definition c g t q l d) = absurd (omega (arith, e))
 
 -- in a function, uses need not come in order
-pub unordered : (is : List PlainInst) (n f : ℕ) (i : PlainInst) → slice_get is n ≡ Some i → opcode.STRING < i.opcode → IsOfFunction is n f → ¬ (IsOrdered is n)
+pub unordered : (is : List PlainInst) (n f : ℕ) (i : PlainInst) → slice_get is n ≡ Some i → opcode.STRING < i.opcode
+    → IsOfFunction is n f → ¬ (IsOrdered is n)
 unordered is n f i h l o (inl s) = no_sources is n 7 i h l refl s
 unordered is n f i h l o (inr s) = no_globals is n 11 f o refl s

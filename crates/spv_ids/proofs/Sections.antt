@@ -1,5 +1,6 @@
 -- In which sections uses come in order, and in scope, by the section's number.
-use Rattle.std.proofs.Common.{◌≡◌, ◌≢◌, refl, ◌≤◌, ◌+◌, ℕ, List, inl, inr, Bool, true, false, Some, None, arith, nat_lt, if◌then◌else◌, subst}
+use Rattle.std.proofs.Common.{◌≡◌, ◌≢◌, refl, ◌≤◌, ◌+◌, ℕ, List, inl, inr, Bool, true, false, Some, None, arith, nat_lt}
+use Rattle.std.proofs.Common.{if◌then◌else◌, subst}
 use Rattle.std.proofs.lemmas.Bool.{ltb-true}
 use Rattle.spv_module.specs.Operand.{PlainInst}
 use Rattle.spv_layout.specs.declared.class.Class.{Class}

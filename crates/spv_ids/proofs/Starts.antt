@@ -97,7 +97,8 @@ late_free (f ∷ e ∷ fs) gs a b = free_append fs gs a b
 
 -- Operands of such forms.
 
-not_result : (G : Table) (f : Form) (o : Plain) (os : List Plain) → is_of G f o ≡ true → not (is_result f) ≡ true → result_in (o ∷ os) ≡ result_in os
+not_result : (G : Table) (f : Form) (o : Plain) (os : List Plain) → is_of G f o ≡ true → not (is_result f) ≡ true
+    → result_in (o ∷ os) ≡ result_in os
 unfolding is_result
 not_result G form.Result (operand.Result x) os h n = cc
 not_result G _ (operand.Result x) os h n = cc
@@ -154,7 +155,8 @@ two_early (operand.Text t) p os h = second_early p os h
 two_early (operand.Value a b) p os h = second_early p os h
 two_early (operand.Mask a b) p os h = second_early p os h
 
-early : (G : Table) (fs : List Form) (os : List Plain) → AreOf G fs os → is_free_late fs ≡ true → result_in os ≡ early_result os
+early : (G : Table) (fs : List Form) (os : List Plain) → AreOf G fs os → is_free_late fs ≡ true
+    → result_in os ≡ early_result os
 unfolding is_free_late
 early G _ _ AreOf.none h = refl
 early G _ _ (AreOf.more f o _ _ p AreOf.none) h = one_early o
@@ -166,8 +168,10 @@ fitting_early G i f =
     let h = f.has in
     let t = row_tells row_starts rows i.opcode h.row rows_start h.known in
     let a = and_first (is_free_late h.row.fixed) (ending_free h.row.ending) t.passes in
-    let b = ends_free h.row.ending h.rest (and_second (is_free_late h.row.fixed) (ending_free h.row.ending) t.passes) h.ending in
+    let b = ends_free h.row.ending h.rest (and_second (is_free_late h.row.fixed) (ending_free h.row.ending) t.passes)
+    h.ending in
     early G f.forms i.operands h.each (rw h.forms (late_free h.row.fixed h.rest a b))
 
-pub are_early : (G : Table) (is : List PlainInst) → ((n : ℕ) (i : PlainInst) → slice_get is n ≡ Some i → FitsShape G i) → AreEarly is
+pub are_early : (G : Table) (is : List PlainInst) → ((n : ℕ) (i : PlainInst) → slice_get is n ≡ Some i → FitsShape G i)
+    → AreEarly is
 are_early G is f = record { result = λ n i h. fitting_early G i (f n i h) }

@@ -1,5 +1,6 @@
 -- The uses of an instruction that fits its row are told by its operands alone; an OpFunctionEnd has no result.
-use Rattle.std.proofs.Common.{◌≡◌, ◌∙◌, ◌<◌, ◌≤◌, ◌+◌, ◌++◌, ℕ, zero, suc, List, [], ◌∷◌, refl, sym, ap, inl, inr, Bool, true, false, cond, Some, length, take, arith, nat_eq}
+use Rattle.std.proofs.Common.{◌≡◌, ◌∙◌, ◌<◌, ◌≤◌, ◌+◌, ◌++◌, ℕ, zero, suc, List, [], ◌∷◌, refl, sym, ap, inl, inr, Bool}
+use Rattle.std.proofs.Common.{true, false, cond, Some, length, take, arith, nat_eq}
 use Rattle.std.specs.Prelude.{slice_get, option_map, nat_le, not, ◌&&◌, ◌||◌, ◌-◌, drop}
 use Rattle.std.proofs.lemmas.Bool.{cases_lt, cases_eq}
 use Rattle.std.proofs.lemmas.Bool.Decides.{nat_tests}
@@ -14,7 +15,8 @@ use Rattle.spv_layout.specs.declared.form.Role.TheVariants as role
 use Rattle.spv_layout.specs.declared.form.Form.{Form}
 use Rattle.spv_layout.specs.declared.form.Form.TheVariants as form
 use Rattle.spv_layout.specs.Class.{is_among}
-use Rattle.spv_layout.specs.Row.{PlainRow, RowEnding, closed, maybe, file_and_text, repeated, others, maybe_others, row_in}
+use Rattle.spv_layout.specs.Row.{PlainRow, RowEnding, closed, maybe, file_and_text, repeated, others, maybe_others}
+use Rattle.spv_layout.specs.Row.{row_in}
 use Rattle.spv_layout.specs.inner.Row.{row}
 use Rattle.spv_layout.specs.Rows.{rows, row_of, class_of, class_in}
 use Rattle.spv_layout.specs.Layout.{classes}
@@ -87,7 +89,9 @@ pub record HasRow (p : PlainRow → Bool) (n : ℕ) (r : PlainRow) : Type 0 wher
 le_tells : (a b : ℕ) → nat_le a b ≡ true → a ≤ b
 le_tells a b h = grind (arith, nat_tests)
 
-row_by : (p : PlainRow → Bool) (s r : PlainRow) (rs : List PlainRow) (n : ℕ) (b : Bool) → nat_le s.from n && nat_le n s.to ≡ b → p s ≡ true → (row_in rs n ≡ Some r → HasRow p n r) → cond b (Some s) (row_in rs n) ≡ Some r → HasRow p n r
+row_by : (p : PlainRow → Bool) (s r : PlainRow) (rs : List PlainRow) (n : ℕ) (b : Bool)
+    → nat_le s.from n && nat_le n s.to ≡ b → p s ≡ true → (row_in rs n ≡ Some r → HasRow p n r)
+    → cond b (Some s) (row_in rs n) ≡ Some r → HasRow p n r
 row_by p s r rs n true f y k g =
     let q : s ≡ r = cc in
     let l = le_tells s.from n (and_first (nat_le s.from n) (nat_le n s.to) f) in
@@ -96,11 +100,13 @@ row_by p s r rs n true f y k g =
     rw q at t
 row_by p s r rs n false f y k g = k g
 
-pub row_tells : (p : PlainRow → Bool) (rs : List PlainRow) (n : ℕ) (r : PlainRow) → all_rows p rs ≡ true → row_in rs n ≡ Some r → HasRow p n r
+pub row_tells : (p : PlainRow → Bool) (rs : List PlainRow) (n : ℕ) (r : PlainRow) → all_rows p rs ≡ true
+    → row_in rs n ≡ Some r → HasRow p n r
 unfolding all_rows
 row_tells p [] n r a h = cc
 row_tells p (s ∷ rs) n r a h =
-    row_by p s r rs n (nat_le s.from n && nat_le n s.to) refl (and_first (p s) (all_rows p rs) a) (λ k. row_tells p rs n r (and_second (p s) (all_rows p rs) a) k) h
+    row_by p s r rs n (nat_le s.from n && nat_le n s.to) refl (and_first (p s) (all_rows p rs) a)
+    (λ k. row_tells p rs n r (and_second (p s) (all_rows p rs) a) k) h
 
 -- An OpFunctionEnd has no operands.
 
@@ -133,20 +139,25 @@ pub end_by : (b : Bool) (c : Bool) → not b || c ≡ true → b ≡ true → c 
 end_by true c h g = h
 end_by false c h g = cc
 
-end_operands : (G : Table) (i : PlainInst) (fs : List Form) (h : HasForms G i fs) → is_among h.row.class (FunctionEnd ∷ []) ≡ true → i.operands ≡ []
+end_operands : (G : Table) (i : PlainInst) (fs : List Form) (h : HasForms G i fs)
+    → is_among h.row.class (FunctionEnd ∷ []) ≡ true → i.operands ≡ []
 unfolding row_ends
 end_operands G i fs h c =
     let t = row_tells row_ends rows i.opcode h.row rows_end h.known in
-    let e = end_by (is_among h.row.class (FunctionEnd ∷ [])) (is_nil h.row.fixed && is_closed h.row.ending) t.passes c in
+    let e = end_by (is_among h.row.class (FunctionEnd ∷ []))
+    (is_nil h.row.fixed && is_closed h.row.ending) t.passes c in
     let a = nil_tells h.row.fixed (and_first (is_nil h.row.fixed) (is_closed h.row.ending) e) in
     let b = ends_closed h.row.ending h.rest (and_second (is_nil h.row.fixed) (is_closed h.row.ending) e) h.ending in
     let n : h.row.fixed ++ h.rest ≡ [] = rw (a, b) refl in
     none_of G fs i.operands h.each (h.forms ∙ n)
 
-pub class_at : (is : List PlainInst) (n : ℕ) (i : PlainInst) → slice_get is n ≡ Some i → slice_get (classes is) n ≡ Some (class_of i.opcode)
+pub class_at : (is : List PlainInst) (n : ℕ) (i : PlainInst) → slice_get is n ≡ Some i
+    → slice_get (classes is) n ≡ Some (class_of i.opcode)
 class_at is n i h = slice_get-map (λ j. class_of j.opcode) is n ∙ ap (option_map (λ j. class_of j.opcode)) h
 
-pub no_result_at_end : (G : Table) (is : List PlainInst) → ((n : ℕ) (i : PlainInst) → slice_get is n ≡ Some i → FitsShape G i) → (n x : ℕ) → IsDefinedAt is x n → ¬ (IsAt is n (FunctionEnd ∷ []))
+pub no_result_at_end : (G : Table) (is : List PlainInst)
+    → ((n : ℕ) (i : PlainInst) → slice_get is n ≡ Some i → FitsShape G i) → (n x : ℕ) → IsDefinedAt is x n
+    → ¬ (IsAt is n (FunctionEnd ∷ []))
 no_result_at_end G is f n x d a =
     let i = d.inst in
     let h = (f n i d.there).has in
@@ -159,7 +170,8 @@ no_result_at_end G is f n x d a =
 
 -- Forms at places.
 
-form_of : (G : Table) (fs : List Form) (os : List Plain) (n : ℕ) (f : Form) (o : Plain) → AreOf G fs os → slice_get fs n ≡ Some f → slice_get os n ≡ Some o → is_of G f o ≡ true
+form_of : (G : Table) (fs : List Form) (os : List Plain) (n : ℕ) (f : Form) (o : Plain) → AreOf G fs os
+    → slice_get fs n ≡ Some f → slice_get os n ≡ Some o → is_of G f o ≡ true
 form_of G _ _ n f o AreOf.none h g = cc
 form_of G _ _ zero f o (AreOf.more f' o' fs os k r) h g = let a : f' ≡ f = cc in let b : o' ≡ o = cc in rw (← a, ← b) k
 form_of G _ _ (suc n) f o (AreOf.more f' o' fs os k r) h g = form_of G fs os n f o r h g
@@ -170,10 +182,13 @@ pub record HasForm (G : Table) (fs : List Form) (n : ℕ) (o : Plain) : Type 0 w
   pub there : slice_get fs n ≡ Some form
   pub fits : is_of G form o ≡ true
 
-form_there : (G : Table) (fs : List Form) (os : List Plain) (n : ℕ) (o : Plain) → AreOf G fs os → slice_get os n ≡ Some o → HasForm G fs n o
+form_there : (G : Table) (fs : List Form) (os : List Plain) (n : ℕ) (o : Plain) → AreOf G fs os
+    → slice_get os n ≡ Some o → HasForm G fs n o
 form_there G _ _ n o AreOf.none h = cc
-form_there G _ _ zero o (AreOf.more f p fs os k r) h = let a : p ≡ o = cc in record { form = f; there = refl; fits = rw (← a) k }
-form_there G _ _ (suc n) o (AreOf.more f p fs os k r) h = let t = form_there G fs os n o r h in record { form = t.form; there = t.there; fits = t.fits }
+form_there G _ _ zero o (AreOf.more f p fs os k r) h = let a : p ≡ o = cc in
+    record { form = f; there = refl; fits = rw (← a) k }
+form_there G _ _ (suc n) o (AreOf.more f p fs os k r) h = let t = form_there G fs os n o r h in
+    record { form = t.form; there = t.there; fits = t.fits }
 
 not_tells : (b : Bool) → not b ≡ true → b ≡ false
 not_tells true h = cc
@@ -182,7 +197,8 @@ not_tells false h = refl
 seen_there : (fs : List Form) (n : ℕ) (f : Form) → all_seen fs ≡ true → slice_get fs n ≡ Some f → is_unseen f ≡ false
 unfolding all_seen
 seen_there [] n f a h = cc
-seen_there (g ∷ fs) zero f a h = let e : g ≡ f = cc in let s = not_tells (is_unseen g) (and_first (not (is_unseen g)) (all_seen fs) a) in rw (← e) s
+seen_there (g ∷ fs) zero f a h = let e : g ≡ f = cc in
+    let s = not_tells (is_unseen g) (and_first (not (is_unseen g)) (all_seen fs) a) in rw (← e) s
 seen_there (g ∷ fs) (suc n) f a h = seen_there fs n f (and_second (not (is_unseen g)) (all_seen fs) a) h
 
 seen_append : (fs gs : List Form) → all_seen fs ≡ true → all_seen gs ≡ true → all_seen (fs ++ gs) ≡ true
@@ -223,17 +239,22 @@ ends_seen _ _ c (Ends.no_kind f) = refl
 ends_seen _ _ c (Ends.kind f gs r) = cons_seen f gs c (others_seen gs r)
 
 -- of another opcode than OpExtInst's all forms are looked at
-forms_seen : (G : Table) (i : PlainInst) (fs : List Form) (h : HasForms G i fs) → (i.opcode ≡ opcode.EXT_INST → ⊥) → all_seen fs ≡ true
+forms_seen : (G : Table) (i : PlainInst) (fs : List Form) (h : HasForms G i fs) → (i.opcode ≡ opcode.EXT_INST → ⊥)
+    → all_seen fs ≡ true
 unfolding row_apart row_seen
 forms_seen G i fs h n =
     let t = row_tells row_apart rows i.opcode h.row rows_apart h.known in
-    let s = apart (nat_eq h.row.from 12 && nat_eq h.row.to 12) (row_seen h.row) t.passes (λ q. n (twelve t.from t.to (and_first (nat_eq h.row.from 12) (nat_eq h.row.to 12) q) (and_second (nat_eq h.row.from 12) (nat_eq h.row.to 12) q))) in
-    rw h.forms (seen_append h.row.fixed h.rest (and_first (all_seen h.row.fixed) (ending_seen h.row.ending) s) (ends_seen h.row.ending h.rest (and_second (all_seen h.row.fixed) (ending_seen h.row.ending) s) h.ending)) where
+    let s = apart (nat_eq h.row.from 12 && nat_eq h.row.to 12) (row_seen h.row) t.passes
+    (λ q. n (twelve t.from t.to (and_first (nat_eq h.row.from 12) (nat_eq h.row.to 12) q)
+    (and_second (nat_eq h.row.from 12) (nat_eq h.row.to 12) q))) in
+    rw h.forms (seen_append h.row.fixed h.rest (and_first (all_seen h.row.fixed) (ending_seen h.row.ending) s)
+    (ends_seen h.row.ending h.rest (and_second (all_seen h.row.fixed) (ending_seen h.row.ending) s) h.ending)) where
       apart : (a b : Bool) → a || b ≡ true → (a ≡ true → ⊥) → b ≡ true
       apart true b p q = absurd (q refl)
       apart false b p q = p
 
-      twelve : h.row.from ≤ i.opcode → i.opcode ≤ h.row.to → nat_eq h.row.from opcode.EXT_INST ≡ true → nat_eq h.row.to opcode.EXT_INST ≡ true → i.opcode ≡ opcode.EXT_INST
+      twelve : h.row.from ≤ i.opcode → i.opcode ≤ h.row.to → nat_eq h.row.from opcode.EXT_INST ≡ true
+          → nat_eq h.row.to opcode.EXT_INST ≡ true → i.opcode ≡ opcode.EXT_INST
       twelve a b c d = grind (arith, nat_tests)
 
 -- of OpExtInst the first four are
@@ -247,11 +268,13 @@ ext_known : row_of 12 ≡ Some ext_row
 unfolding rows
 ext_known = refl
 
-round_unseen : (gs : List Form) (n : ℕ) (f : Form) → ((m : ℕ) → slice_get gs m ≡ Some f → f ≡ form.Unseen) → slice_get ((form.Unseen ∷ []) ++ gs) n ≡ Some f → f ≡ form.Unseen
+round_unseen : (gs : List Form) (n : ℕ) (f : Form) → ((m : ℕ) → slice_get gs m ≡ Some f → f ≡ form.Unseen)
+    → slice_get ((form.Unseen ∷ []) ++ gs) n ≡ Some f → f ≡ form.Unseen
 round_unseen gs zero f r k = cc
 round_unseen gs (suc m) f r k = r m k
 
-rounds_unseen : (es : RowEnding) (gs : List Form) (n : ℕ) (f : Form) → es ≡ repeated (form.Unseen ∷ []) → Ends es gs → slice_get gs n ≡ Some f → f ≡ form.Unseen
+rounds_unseen : (es : RowEnding) (gs : List Form) (n : ℕ) (f : Form) → es ≡ repeated (form.Unseen ∷ []) → Ends es gs
+    → slice_get gs n ≡ Some f → f ≡ form.Unseen
 rounds_unseen _ _ n f q Ends.nothing h = cc
 rounds_unseen _ _ n f q (Ends.absent g) h = cc
 rounds_unseen _ _ n f q (Ends.present g) h = cc
@@ -286,7 +309,8 @@ ext_forms G i fs h n =
     let k = h.ending in
     record { rest = h.rest; forms = h.forms ∙ ap (λ z. z ++ h.rest) a; ending = rw b at k }
 
-ext_late : (gs : List Form) (n : ℕ) (f : Form) → 4 ≤ n → Ends (repeated (form.Unseen ∷ [])) gs → slice_get (ext_fixed ++ gs) n ≡ Some f → f ≡ form.Unseen
+ext_late : (gs : List Form) (n : ℕ) (f : Form) → 4 ≤ n → Ends (repeated (form.Unseen ∷ [])) gs
+    → slice_get (ext_fixed ++ gs) n ≡ Some f → f ≡ form.Unseen
 ext_late gs zero f l r h = absurd (omega arith)
 ext_late gs (suc zero) f l r h = absurd (omega arith)
 ext_late gs (suc (suc zero)) f l r h = absurd (omega arith)
@@ -340,7 +364,8 @@ get_drop (a ∷ b ∷ d ∷ []) k = refl
 get_drop (a ∷ b ∷ d ∷ e ∷ os) k = refl
 
 -- an operand behind the number, by its place among all
-behind_at : (i : PlainInst) (k : ℕ) (o : Plain) → i.opcode ≡ opcode.EXT_INST → 4 ≤ k → slice_get i.operands k ≡ Some o → slice_get (behind i) (k - 4) ≡ Some o
+behind_at : (i : PlainInst) (k : ℕ) (o : Plain) → i.opcode ≡ opcode.EXT_INST → 4 ≤ k → slice_get i.operands k ≡ Some o
+    → slice_get (behind i) (k - 4) ≡ Some o
 behind_at i k o h l a =
     let e : suc (suc (suc (suc (k - 4)))) ≡ k = omega arith in
     rw (behind_ext i h) (get_drop i.operands (k - 4) ∙ ap (λ m. slice_get i.operands m) e ∙ a)
@@ -385,7 +410,8 @@ mention_tells (operand.Mask a b) x h = cc
 
 -- Forms and uses.
 
-role_used : (G : Table) (f : Form) (o : Plain) (r : Role) (x : ℕ) → is_of G f o ≡ true → role_of f o ≡ Some r → id_of o ≡ Some x → seen_id o ≡ Some x
+role_used : (G : Table) (f : Form) (o : Plain) (r : Role) (x : ℕ) → is_of G f o ≡ true → role_of f o ≡ Some r
+    → id_of o ≡ Some x → seen_id o ≡ Some x
 role_used G f (operand.OfType y) r x h g k = k
 role_used G f (operand.Id y) r x h g k = k
 role_used G form.Result (operand.Result y) r x h g k = cc
@@ -399,7 +425,8 @@ role_used G f (operand.Value a b) r x h g k = cc
 role_used G f (operand.Mask a b) r x h g k = cc
 
 -- behind the number the use is of an id that the instruction takes as a value
-role_behind : (f : Form) (o : Plain) (r : Role) (x : ℕ) → f ≡ form.Unseen → role_of f o ≡ Some r → id_of o ≡ Some x → argument_id o ≡ Some x
+role_behind : (f : Form) (o : Plain) (r : Role) (x : ℕ) → f ≡ form.Unseen → role_of f o ≡ Some r → id_of o ≡ Some x
+    → argument_id o ≡ Some x
 role_behind f o r x h g k = let g' : role_of form.Unseen o ≡ Some r = rw h at g in by_role o g' k where
   by_role : (o : Plain) → role_of form.Unseen o ≡ Some r → id_of o ≡ Some x → argument_id o ≡ Some x
   by_role (operand.OfType y) g k = cc
@@ -419,7 +446,8 @@ pub record HasRole (f : Form) (o : Plain) (x : ℕ) : Type 0 where
   pub has : role_of f o ≡ Some role
   pub id : id_of o ≡ Some x
 
-used_role : (G : Table) (f : Form) (o : Plain) (x : ℕ) → is_of G f o ≡ true → seen_id o ≡ Some x → is_unseen f ≡ false → HasRole f o x
+used_role : (G : Table) (f : Form) (o : Plain) (x : ℕ) → is_of G f o ≡ true → seen_id o ≡ Some x → is_unseen f ≡ false
+    → HasRole f o x
 unfolding is_unseen
 used_role G form.OfType (operand.OfType y) x h u n = record { role = role.OfType; has = refl; id = u }
 used_role G _ (operand.OfType y) x h u n = cc
@@ -503,7 +531,8 @@ pub record IsMention (is : List PlainInst) (n x : ℕ) : Type 0 where
   pub place : ℕ
   pub operand_at : slice_get (behind inst) place ≡ Some (operand.Mention x)
 
-pub mention_told : (G : Table) (is : List PlainInst) (n k x : ℕ) → ((m : ℕ) (i : PlainInst) → slice_get is m ≡ Some i → FitsShape G i) → IsMentionedAt is n k x → IsMention is n x
+pub mention_told : (G : Table) (is : List PlainInst) (n k x : ℕ)
+    → ((m : ℕ) (i : PlainInst) → slice_get is m ≡ Some i → FitsShape G i) → IsMentionedAt is n k x → IsMention is n x
 mention_told G is n k x f m =
     let i = m.inst in
     let has = (f n i m.there).has in
@@ -514,13 +543,20 @@ mention_told G is n k x f m =
       | inl h ↦
           let e = ext_forms G i fs has h in
           elim (cases_lt k 4) [
-            | inl l ↦ let q : true ≡ false = sym u ∙ ext_early e.rest k t.form l (ap (λ z. slice_get z k) (sym e.forms) ∙ t.there) in cc
-            | inr l ↦ record { inst = i; there = m.there; place = k - 4; operand_at = behind_at i k (operand.Mention x) h l m.named }
+            | inl l ↦ let q : true ≡ false = sym u
+                ∙ ext_early e.rest k t.form l (ap (λ z. slice_get z k) (sym e.forms) ∙ t.there) in cc
+            | inr l ↦ record {
+              inst = i;
+              there = m.there;
+              place = k - 4;
+              operand_at = behind_at i k (operand.Mention x) h l m.named;
+            }
           ]
       | inr h ↦ let q : true ≡ false = sym u ∙ seen_there fs k t.form (forms_seen G i fs has h) t.there in cc
     ]
 
-pub mention_there : (is : List PlainInst) (n k x : ℕ) (i : PlainInst) (o : Plain) → slice_get is n ≡ Some i → slice_get (behind i) k ≡ Some o → mention_id o ≡ Some x → IsMentionedAt is n (k + 4) x
+pub mention_there : (is : List PlainInst) (n k x : ℕ) (i : PlainInst) (o : Plain) → slice_get is n ≡ Some i
+    → slice_get (behind i) k ≡ Some o → mention_id o ≡ Some x → IsMentionedAt is n (k + 4) x
 mention_there is n k x i o h a u =
     let b = behind_there i k o a in
     record { inst = i; there = h; named = b.there ∙ ap Some (mention_tells o x u) }
@@ -531,7 +567,8 @@ pub record IsUsedIn (G : Table) (is : List PlainInst) (n x : ℕ) : Type 0 where
   pub role : Role
   pub used : IsUsedAt G is n place x role
 
-use_by : (G : Table) (is : List PlainInst) (n k x : ℕ) (i : PlainInst) (o : Plain) (fs : List Form) → slice_get is n ≡ Some i → HasForms G i fs → slice_get i.operands k ≡ Some o → seen_id o ≡ Some x
+use_by : (G : Table) (is : List PlainInst) (n k x : ℕ) (i : PlainInst) (o : Plain) (fs : List Form)
+    → slice_get is n ≡ Some i → HasForms G i fs → slice_get i.operands k ≡ Some o → seen_id o ≡ Some x
     → ((f : Form) → slice_get fs k ≡ Some f → is_unseen f ≡ false) → IsUsedIn G is n x
 use_by G is n k x i o fs h has a u s =
     let t = form_there G fs i.operands k o has.each a in
@@ -539,10 +576,24 @@ use_by G is n k x i o fs h has a u s =
     record {
       place = k;
       role = r.role;
-      used = record { inst = i; there = h; used = record { forms = fs; has = has; form = t.form; operand = o; form_at = t.there; operand_at = a; role = r.has; id = r.id } };
+      used = record {
+        inst = i;
+        there = h;
+        used = record {
+          forms = fs;
+          has = has;
+          form = t.form;
+          operand = o;
+          form_at = t.there;
+          operand_at = a;
+          role = r.has;
+          id = r.id;
+        };
+      };
     }
 
-pub told_use : (G : Table) (is : List PlainInst) (n to x : ℕ) → ((m : ℕ) (i : PlainInst) → slice_get is m ≡ Some i → FitsShape G i) → IsUsedBefore is n to x → IsUsedIn G is n x
+pub told_use : (G : Table) (is : List PlainInst) (n to x : ℕ)
+    → ((m : ℕ) (i : PlainInst) → slice_get is m ≡ Some i → FitsShape G i) → IsUsedBefore is n to x → IsUsedIn G is n x
 told_use G is n to x f u =
     let i = u.inst in
     let has = (f n i u.there).has in
@@ -559,17 +610,20 @@ told_use G is n to x f u =
           (λ g p. ext_early t.rest u.place g l (ap (λ z. slice_get z u.place) (sym t.forms) ∙ p))
       | inr h ↦
           let q' : slice_get i.operands u.place ≡ Some u.operand = rw (seen_other i h) at q in
-          use_by G is n u.place x i u.operand fs u.there has q' u.used (λ g p. seen_there fs u.place g (forms_seen G i fs has h) p)
+          use_by G is n u.place x i u.operand fs u.there has q' u.used
+          (λ g p. seen_there fs u.place g (forms_seen G i fs has h) p)
     ]
 
 -- So is one behind the number that is taken as a value.
-argument_role : (f : Form) (o : Plain) (x : ℕ) → f ≡ form.Unseen → argument_id o ≡ Some x → role_of f o ≡ Some role.Value
+argument_role : (f : Form) (o : Plain) (x : ℕ) → f ≡ form.Unseen → argument_id o ≡ Some x
+    → role_of f o ≡ Some role.Value
 argument_role f o x e h = rw (e, argument_tells o x h) refl
 
 argument_is : (o : Plain) (x : ℕ) → argument_id o ≡ Some x → id_of o ≡ Some x
 argument_is o x h = rw (argument_tells o x h) refl
 
-pub argument_use : (G : Table) (is : List PlainInst) (n k x : ℕ) → ((m : ℕ) (i : PlainInst) → slice_get is m ≡ Some i → FitsShape G i) → IsArgument is n k x → IsUsedIn G is n x
+pub argument_use : (G : Table) (is : List PlainInst) (n k x : ℕ)
+    → ((m : ℕ) (i : PlainInst) → slice_get is m ≡ Some i → FitsShape G i) → IsArgument is n k x → IsUsedIn G is n x
 argument_use G is n k x f u =
     let i = u.inst in
     let has = (f n i u.there).has in
@@ -577,7 +631,8 @@ argument_use G is n k x f u =
     let b = behind_there i k u.operand u.operand_at in
     let e = ext_forms G i fs has b.extended in
     let t = form_there G fs i.operands (k + 4) u.operand has.each b.there in
-    let q = ext_late e.rest (k + 4) t.form (omega arith) e.ending (ap (λ z. slice_get z (k + 4)) (sym e.forms) ∙ t.there) in
+    let q = ext_late e.rest (k + 4) t.form (omega arith) e.ending
+    (ap (λ z. slice_get z (k + 4)) (sym e.forms) ∙ t.there) in
     record {
       place = k + 4;
       role = role.Value;
@@ -610,9 +665,22 @@ used_seen (operand.Text t) x h = cc
 used_seen (operand.Value a b) x h = cc
 used_seen (operand.Mask a b) x h = cc
 
-pub id_used : (G : Table) (i : PlainInst) (k x : ℕ) (o : Plain) (f : FitsShape G i) → (i.opcode ≡ opcode.EXT_INST → ⊥) → slice_get i.operands k ≡ Some o → used_id o ≡ Some x
+pub id_used : (G : Table) (i : PlainInst) (k x : ℕ) (o : Plain) (f : FitsShape G i) → (i.opcode ≡ opcode.EXT_INST → ⊥)
+    → slice_get i.operands k ≡ Some o → used_id o ≡ Some x
     → (r : Role) × IsUse G i k x r
 id_used G i k x o f n a u =
     let t = form_there G f.forms i.operands k o f.has.each a in
-    let r = used_role G t.form o x t.fits (used_seen o x u) (seen_there f.forms k t.form (forms_seen G i f.forms f.has n) t.there) in
-    (r.role, record { forms = f.forms; has = f.has; form = t.form; operand = o; form_at = t.there; operand_at = a; role = r.has; id = r.id })
+    let r = used_role G t.form o x t.fits (used_seen o x u)
+    (seen_there f.forms k t.form (forms_seen G i f.forms f.has n) t.there) in (
+      r.role,
+      record {
+        forms = f.forms;
+        has = f.has;
+        form = t.form;
+        operand = o;
+        form_at = t.there;
+        operand_at = a;
+        role = r.has;
+        id = r.id;
+      },
+    )

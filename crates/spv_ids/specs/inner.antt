@@ -2,7 +2,6 @@
 pub mod Faulty
 pub mod Known
 pub mod Notes
-pub mod Scattered
 pub mod Survey
 pub mod Test
 pub mod Uses

@@ -73,7 +73,7 @@ fn first_definitions(insts: &[Inst<'_>], bound: u32, room: Notes) -> Result<Firs
     })
 }
 
-/// The definitions up to the first result that is out of range or comes again. Where they are all, they take at most 8
+/// The definitions up to the first result that is out of range or comes again. Where they are all, they take at most 12
 /// bytes each, and 4 more.
 ///
 /// An `AllocError` comes only where a growth of memory was refused.

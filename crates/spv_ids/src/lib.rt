@@ -7,7 +7,6 @@ mod ids;
 pub mod laws;
 mod notes;
 mod room;
-mod scattered;
 mod survey;
 mod uses;
 

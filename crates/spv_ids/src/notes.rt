@@ -4,9 +4,10 @@ ghost use Rattle.std.specs.Prelude.{◌≡◌, ◌<◌, ◌≤◌, length, ℕ, 
 ghost use Rattle.std.specs.Prelude.{if◌then◌else◌, OnOk, IfOk};
 ghost use Rattle.std.specs.Ordering.{nat_cmp};
 ghost use Rattle.std.specs.BTreeMap.{get};
+ghost use Rattle.spv_ranks.specs.Rank.{at_rank};
 ghost use Rattle.spv_ids.specs.inner.Notes.{kept, kept_far, number_in};
 
-use crate::scattered::Scattered;
+use spv_ranks::Ranks;
 use std::alloc::{AllocError, Global};
 use std::collections::BTreeMap;
 
@@ -15,15 +16,16 @@ pub const NONE: u32 = u32::MAX;
 
 /// At most one number of each id.
 ///
-/// Ids are mostly small and dense, so a list with a place for each small id serves most of them. Others have places in
-/// order, where it is known beforehand which they are, and a map has what is left: so the memory taken grows with the
-/// ids that something is kept of, and not with the ids themselves.
+/// Ids are mostly small and dense, so a list with a place for each small id serves most of them. Others have places by
+/// their ranks, where it is known beforehand which they are, and a map has what is left: so the memory taken grows with
+/// the ids that something is kept of, and not with the ids themselves.
 #[derive(Drop)]
 pub struct Notes {
     /// At an id's place 0, or one more than what is kept of it.
     near: Vec<u32>,
-    /// The same of ids past the list.
-    scattered: Scattered,
+    /// The ranks of ids past the list, and at each rank the same as in the list.
+    ranks: Ranks,
+    ranked: Vec<u32>,
     /// What is kept of the ids that have no such place.
     far: BTreeMap<u32, u32>,
 }
@@ -64,22 +66,22 @@ impl Notes {
     pub fn new(alloc: Global, places: usize) -> Result<Notes, AllocError>
         ensures { IfOk result (λ notes. (x : ℕ) → kept notes x ≡ None) }
     {
-        Notes::of(alloc, places, &[])
+        Notes::of(alloc, places, Ranks::none(alloc))
     }
 
-    /// Nothing is kept of any id. The list has a place for each id below `places`, and so has each of these ids, which
-    /// come in order.
+    /// Nothing is kept of any id. The list has a place for each id below `places`, and there is one for each rank.
     ///
     /// An `AllocError` comes only where a growth of memory was refused.
-    pub fn of(alloc: Global, places: usize, ids: &[u32]) -> Result<Notes, AllocError>
+    pub fn of(alloc: Global, places: usize, ranks: Ranks) -> Result<Notes, AllocError>
         ensures { IfOk result (λ notes. (x : ℕ) → kept notes x ≡ None) }
     {
         let near = vec![in alloc; 0; places]?;
-        let scattered = Scattered::of(alloc, ids)?;
+        let ranked = vec![in alloc; 0; ranks.len()]?;
         let far = empty_map(alloc);
         Ok(Notes {
             near,
-            scattered,
+            ranks,
+            ranked,
             far,
         })
     }
@@ -103,9 +105,20 @@ impl Notes {
     fn get_far(&self, id: u32) -> Option<u32>
         ensures { result ≡ kept_far self.now id }
     {
-        match self.scattered.get(id) {
-            Some(place) => number_at(place),
-            None => self.far.get(&id).copied(),
+        match self.at_rank(id) {
+            0 => self.far.get(&id).copied(),
+            more => Some(more - 1),
+        }
+    }
+
+    /// What the place of an id's rank says: 0, or one more than what is kept of the id.
+    #[inline(always)]
+    fn at_rank(&self, id: u32) -> u32
+        ensures { result ≡ at_rank 0 self.now.ranked.items self.now.ranks id }
+    {
+        match self.ranks.rank(id) {
+            Some(rank) if rank < self.ranked.len() => self.ranked[rank],
+            _ => 0,
         }
     }
 
@@ -169,9 +182,15 @@ impl Notes {
         ensures { OnOk result ((x : ℕ) → kept self.new x
             ≡ (if nat_eq id x then Some number else kept self.old x)) }
     {
-        if !self.scattered.set(id, number + 1) {
-            self.far.insert(id, number)?;
+        match self.ranks.rank(id) {
+            Some(rank) if rank < self.ranked.len() => {
+                self.ranked[rank] = number + 1;
+                Ok(())
+            }
+            _ => {
+                self.far.insert(id, number)?;
+                Ok(())
+            }
         }
-        Ok(())
     }
 }

@@ -21,8 +21,10 @@ first_kept (OfType x) os o = refl
 first_kept _ os o = refl
 
 -- what is known after one operand more is that of the context after it
-pub near_after : (d : Definitions) (known next : Known) (c : Context) (o : Plain) → IsNear d known c → next.opcode ≡ known.opcode
+pub near_after : (d : Definitions) (known next : Known) (c : Context) (o : Plain) → IsNear d known c
+    → next.opcode ≡ known.opcode
     → (known.type_id ≡ type_in c.operands → next.type_id ≡ type_in (c.operands ++ (o ∷ [])))
     → (known.first ≡ first_id c.operands → next.first ≡ first_id (c.operands ++ (o ∷ [])))
     → IsNear d next (and_then c o)
-near_after d known next c o n p t f = record { definitions = n.definitions; opcode = p ∙ n.opcode; type_id = t n.type_id; first = f n.first }
+near_after d known next c o n p t f =
+    record { definitions = n.definitions; opcode = p ∙ n.opcode; type_id = t n.type_id; first = f n.first }

@@ -1,5 +1,6 @@
 -- Values and masks, and the enumerants that they need.
-use Rattle.std.proofs.Common.{◌≡◌, ◌<◌, ◌+◌, ◌-◌, ◌*◌, ◌/◌, ◌%◌, ◌^◌, ℕ, zero, suc, List, [], ◌∷◌, ◌++◌, Option, Some, None, Bool, true, false, refl, arith, map}
+use Rattle.std.proofs.Common.{◌≡◌, ◌<◌, ◌+◌, ◌-◌, ◌*◌, ◌/◌, ◌%◌, ◌^◌, ℕ, zero, suc, List, [], ◌∷◌, ◌++◌, Option, Some}
+use Rattle.std.proofs.Common.{None, Bool, true, false, refl, arith, map}
 use Rattle.std.specs.Prelude.{is_some, option_map, option_and_then, unwrap_or, filter, nat_eq}
 use Rattle.std.proofs.lemmas.Grind.{common_steps}
 use Rattle.std.proofs.lemmas.Nat.{pow_pos}
@@ -25,12 +26,14 @@ some_from (Some ks) e = refl
 
 -- an enumerant is found exactly where it has parameters
 pub found : {A : Type 0} (now : A → Enumerant) (r : Option A) (o : Option Sort) (x : ℕ)
-    → option_map now r ≡ option_and_then (λ s. enumerant_of s.enumerants x) o → is_some r ≡ is_some (parameters_of (enumerants_at o) x)
+    → option_map now r ≡ option_and_then (λ s. enumerant_of s.enumerants x) o
+    → is_some r ≡ is_some (parameters_of (enumerants_at o) x)
 found now None None x e = refl
 found now (Some a) None x e = cc
 found now r (Some s) x e = found_in now r (enumerant_of s.enumerants x) e
   where
-    found_in : {A : Type 0} (now : A → Enumerant) (r : Option A) (o : Option Enumerant) → option_map now r ≡ o → is_some r ≡ is_some (option_map (λ e. e.parameters) o)
+    found_in : {A : Type 0} (now : A → Enumerant) (r : Option A) (o : Option Enumerant) → option_map now r ≡ o
+        → is_some r ≡ is_some (option_map (λ e. e.parameters) o)
     found_in now None None e = refl
     found_in now None (Some a) e = cc
     found_in now (Some a) None e = cc
@@ -38,16 +41,20 @@ found now r (Some s) x e = found_in now r (enumerant_of s.enumerants x) e
 
 pub value_taken : (G : Table) (k x : ℕ) → is_some (parameters_of (enumerants_at (kind_of G k)) x) ≡ true
     → Takes k (AsValue (enumerants_at (kind_of G k))) (Value k x) (x ∷ []) (map alone (parameter_kinds G (Value k x)))
-value_taken G k x h = Takes.value (enumerants_at (kind_of G k)) x _ (some_from (parameters_of (enumerants_at (kind_of G k)) x) h)
+value_taken G k x h =
+    Takes.value (enumerants_at (kind_of G k)) x _ (some_from (parameters_of (enumerants_at (kind_of G k)) x) h)
 
-pub value_refused : (es : List Enumerant) (x : ℕ) (us : List ℕ) → is_some (parameters_of es x) ≡ false → ShapeRefuses (AsValue es) (x ∷ us) I6 0
+pub value_refused : (es : List Enumerant) (x : ℕ) (us : List ℕ) → is_some (parameters_of es x) ≡ false
+    → ShapeRefuses (AsValue es) (x ∷ us) I6 0
 value_refused es x us h = ShapeRefuses.unknown_value es x us (none_from (parameters_of es x) h)
 
 pub mask_taken : (G : Table) (k x : ℕ) → is_some (mask_parameters (enumerants_at (kind_of G k)) x) ≡ true
     → Takes k (AsMask (enumerants_at (kind_of G k))) (Mask k x) (x ∷ []) (map alone (parameter_kinds G (Mask k x)))
-mask_taken G k x h = Takes.mask (enumerants_at (kind_of G k)) x _ (some_from (mask_parameters (enumerants_at (kind_of G k)) x) h)
+mask_taken G k x h = Takes.mask (enumerants_at (kind_of G k)) x _
+    (some_from (mask_parameters (enumerants_at (kind_of G k)) x) h)
 
-pub mask_refused : (es : List Enumerant) (x : ℕ) (us : List ℕ) → is_some (mask_parameters es x) ≡ false → ShapeRefuses (AsMask es) (x ∷ us) I7 0
+pub mask_refused : (es : List Enumerant) (x : ℕ) (us : List ℕ) → is_some (mask_parameters es x) ≡ false
+    → ShapeRefuses (AsMask es) (x ∷ us) I7 0
 mask_refused es x us h = ShapeRefuses.unknown_bit es x us (none_from (mask_parameters es x) h)
 
 -- whether the set bits from bit `b` up, of `n` bits, are known
@@ -66,22 +73,26 @@ some_joined : (ks : List ℕ) (o : Option (List ℕ)) → is_some (option_map (�
 some_joined ks None = refl
 some_joined ks (Some js) = refl
 
-front_known : (es : List Enumerant) (b : ℕ) (bs : List ℕ) (o : Option (List ℕ)) → parameters_of es b ≡ o → is_some o ≡ true → is_some (parameters_of_all es (b ∷ bs)) ≡ is_some (parameters_of_all es bs)
+front_known : (es : List Enumerant) (b : ℕ) (bs : List ℕ) (o : Option (List ℕ)) → parameters_of es b ≡ o
+    → is_some o ≡ true → is_some (parameters_of_all es (b ∷ bs)) ≡ is_some (parameters_of_all es bs)
 front_known es b bs None e h = cc
 front_known es b bs (Some ks) e h = rw e (some_joined ks (parameters_of_all es bs))
 
 -- a set bit that is known
-pub knows_set : (es : List Enumerant) (mask n b : ℕ) → mask / b % 2 ≡ 1 → is_some (parameters_of es b) ≡ true → knows_from es mask (suc n) b ≡ knows_from es mask n (2 * b)
+pub knows_set : (es : List Enumerant) (mask n b : ℕ) → mask / b % 2 ≡ 1 → is_some (parameters_of es b) ≡ true
+    → knows_from es mask (suc n) b ≡ knows_from es mask n (2 * b)
 unfolding knows_from
 knows_set es mask n b e h = rw e (front_known es b _ (parameters_of es b) refl h)
 
 -- a set bit that is not known
-pub knows_not : (es : List Enumerant) (mask n b : ℕ) → mask / b % 2 ≡ 1 → is_some (parameters_of es b) ≡ false → knows_from es mask (suc n) b ≡ false
+pub knows_not : (es : List Enumerant) (mask n b : ℕ) → mask / b % 2 ≡ 1 → is_some (parameters_of es b) ≡ false
+    → knows_from es mask (suc n) b ≡ false
 unfolding knows_from
 knows_not es mask n b e h = let none = none_from (parameters_of es b) h in rw (e, none) refl
 
 -- a bit that is not set
-pub knows_unset : (es : List Enumerant) (mask n b : ℕ) → mask / b % 2 ≡ 0 → knows_from es mask (suc n) b ≡ knows_from es mask n (2 * b)
+pub knows_unset : (es : List Enumerant) (mask n b : ℕ) → mask / b % 2 ≡ 0
+    → knows_from es mask (suc n) b ≡ knows_from es mask n (2 * b)
 unfolding knows_from
 knows_unset es mask n b e = rw e refl
 
@@ -97,7 +108,8 @@ knows_rest es mask (suc n) b h =
 pub step : (i : ℕ) → 2 * 2 ^ i ≡ 2 ^ (i + 1)
 step i = grind (arith, common_steps)
 
-pub knows_set_at : (es : List Enumerant) (mask i : ℕ) → i < 32 → mask / 2 ^ i % 2 ≡ 1 → is_some (parameters_of es (2 ^ i)) ≡ true
+pub knows_set_at : (es : List Enumerant) (mask i : ℕ) → i < 32 → mask / 2 ^ i % 2 ≡ 1
+    → is_some (parameters_of es (2 ^ i)) ≡ true
     → knows_from es mask (32 - i) (2 ^ i) ≡ knows_from es mask (32 - (i + 1)) (2 ^ (i + 1))
 knows_set_at es mask i l e h =
     let n : 32 - i ≡ suc (32 - (i + 1)) = omega arith in
@@ -109,7 +121,8 @@ knows_unset_at es mask i l e =
     let n : 32 - i ≡ suc (32 - (i + 1)) = omega arith in
     rw (n, ← step i) (knows_unset es mask (32 - (i + 1)) (2 ^ i) e)
 
-pub knows_not_at : (es : List Enumerant) (mask i : ℕ) → i < 32 → mask / 2 ^ i % 2 ≡ 1 → is_some (parameters_of es (2 ^ i)) ≡ false
+pub knows_not_at : (es : List Enumerant) (mask i : ℕ) → i < 32 → mask / 2 ^ i % 2 ≡ 1
+    → is_some (parameters_of es (2 ^ i)) ≡ false
     → knows_from es mask (32 - i) (2 ^ i) ≡ false
 knows_not_at es mask i l e h =
     let n : 32 - i ≡ suc (32 - (i + 1)) = omega arith in

@@ -1,5 +1,6 @@
 -- One operand at the front of the words left.
-use Rattle.std.proofs.Common.{◌≡◌, ◌<◌, ◌≤◌, ◌+◌, ◌-◌, ℕ, List, [], ◌∷◌, Bool, true, false, Ok, Err, length, map, take, slice_index, refl, ◌∙◌, arith}
+use Rattle.std.proofs.Common.{◌≡◌, ◌<◌, ◌≤◌, ◌+◌, ◌-◌, ℕ, List, [], ◌∷◌, Bool, true, false, Ok, Err, length, map, take}
+use Rattle.std.proofs.Common.{slice_index, refl, ◌∙◌, arith}
 use Rattle.std.specs.Prelude.{Result, IfOk, IfErr, nat_eq}
 use Rattle.std.proofs.lemmas.Bool.{ne_eqb}
 use Rattle.spv_table.specs.Table.{Table}
@@ -26,12 +27,15 @@ pub one_taken : (G : Table) (c : Context) (s : Slot) (sh : Shape) (o p : Operand
 one_taken G c s sh o p ws n x at end e f g h l i t = rw (e, f, g, take_one ws at end x h l i) t
 
 -- an operand of one word, answered by a call
-pub answer_one : (G : Table) (c : Context) (s : Slot) (sh : Shape) (r : Result Taken Refusal) (ws : List ℕ) (x at end : ℕ)
+pub answer_one : (G : Table) (c : Context) (s : Slot) (sh : Shape) (r : Result Taken Refusal) (ws : List ℕ)
+    (x at end : ℕ)
     → shape_of G c s ≡ sh → at < end → end ≤ length ws → x ≡ slice_index ws at
-    → IfOk r (λ t. Takes s.kind sh (plain_operand t.operand) (x ∷ []) (map alone (parameter_kinds G (plain_operand t.operand))))
+    → IfOk r (λ t. Takes s.kind sh (plain_operand t.operand) (x ∷ [])
+    (map alone (parameter_kinds G (plain_operand t.operand))))
     → IfOk r (λ t. t.words ≡ 1)
     → IfOk r (λ t. TakesFront G c s t.operand t.words (between ws at end))
-answer_one G c s sh (Ok t) ws x at end e h l i k w = one_taken G c s sh t.operand t.operand ws t.words x at end e refl w h l i k
+answer_one G c s sh (Ok t) ws x at end e h l i k w =
+    one_taken G c s sh t.operand t.operand ws t.words x at end e refl w h l i k
 answer_one G c s sh (Err _) ws x at end e h l i k w = tt
 
 -- an operand without parameters, answered by a call
@@ -45,34 +49,42 @@ answer_front G c s sh (Err _) us e k p = tt
 
 -- a refusal, answered by a call
 pub refusal_front : (G : Table) (c : Context) (s : Slot) (sh : Shape) (r : Result Taken Refusal) (us : List ℕ)
-    → shape_of G c s ≡ sh → IfErr r (λ e. ShapeRefuses sh us e.rule e.word) → IfErr r (λ e. RefusesFront G c s e.rule e.word us)
+    → shape_of G c s ≡ sh → IfErr r (λ e. ShapeRefuses sh us e.rule e.word)
+    → IfErr r (λ e. RefusesFront G c s e.rule e.word us)
 refusal_front G c s sh (Ok _) us e k = tt
 refusal_front G c s sh (Err _) us e k = rw e k
 
 -- a refusal that does not read past the first word
-pub refusal_one : (G : Table) (c : Context) (s : Slot) (sh : Shape) (r : Result Taken Refusal) (ws : List ℕ) (x at end : ℕ)
+pub refusal_one : (G : Table) (c : Context) (s : Slot) (sh : Shape) (r : Result Taken Refusal) (ws : List ℕ)
+    (x at end : ℕ)
     → shape_of G c s ≡ sh → at < end → end ≤ length ws → x ≡ slice_index ws at
     → ((us : List ℕ) → IfErr r (λ e. ShapeRefuses sh (x ∷ us) e.rule e.word))
     → IfErr r (λ e. RefusesFront G c s e.rule e.word (between ws at end))
-refusal_one G c s sh r ws x at end e h l i k = refusal_front G c s sh r (between ws at end) e (rw (front ws at end h l, ← i) (k (between ws (at + 1) end)))
+refusal_one G c s sh r ws x at end e h l i k =
+    refusal_front G c s sh r (between ws at end) e (rw (front ws at end h l, ← i) (k (between ws (at + 1) end)))
 
 -- no word is left
-pub missing_front : (G : Table) (c : Context) (s : Slot) (ws : List ℕ) (at end : ℕ) → IsLeaf (shape_of G c s) → end ≤ at → RefusesFront G c s I4 0 (between ws at end)
+pub missing_front : (G : Table) (c : Context) (s : Slot) (ws : List ℕ) (at end : ℕ) → IsLeaf (shape_of G c s) → end ≤ at
+    → RefusesFront G c s I4 0 (between ws at end)
 missing_front G c s ws at end h l = rw (nothing ws at end l) (ShapeRefuses.missing (shape_of G c s) h)
 
 -- a kind that nothing spells
-pub nothing_front : (G : Table) (c : Context) (s : Slot) (ws : List ℕ) (at end : ℕ) → shape_of G c s ≡ AsNothing → at < end → end ≤ length ws → RefusesFront G c s I12 0 (between ws at end)
-nothing_front G c s ws at end e h l = rw (e, front ws at end h l) (ShapeRefuses.no_form (slice_index ws at) (between ws (at + 1) end))
+pub nothing_front : (G : Table) (c : Context) (s : Slot) (ws : List ℕ) (at end : ℕ) → shape_of G c s ≡ AsNothing
+    → at < end → end ≤ length ws → RefusesFront G c s I12 0 (between ws at end)
+nothing_front G c s ws at end e h l =
+    rw (e, front ws at end h l) (ShapeRefuses.no_form (slice_index ws at) (between ws (at + 1) end))
 
 -- a LiteralInteger in a pair of OpSwitch
-pub integer_number : (c : Context) (paired : Bool) (opcode : ℕ) → paired ≡ true → opcode ≡ SWITCH → opcode ≡ c.opcode → integer_shape c paired ≡ AsNumber (switch_width c)
+pub integer_number : (c : Context) (paired : Bool) (opcode : ℕ) → paired ≡ true → opcode ≡ SWITCH → opcode ≡ c.opcode
+    → integer_shape c paired ≡ AsNumber (switch_width c)
 integer_number c paired opcode e f g = let h : c.opcode ≡ SWITCH = cc in rw (e, h) refl
 
 -- and elsewhere
 pub integer_unpaired : (c : Context) (paired : Bool) → paired ≡ false → integer_shape c paired ≡ AsWord
 integer_unpaired c paired e = rw e refl
 
-pub integer_other : (c : Context) (paired : Bool) (opcode : ℕ) → paired ≡ true → (opcode ≡ SWITCH → ⊥) → opcode ≡ c.opcode → integer_shape c paired ≡ AsWord
+pub integer_other : (c : Context) (paired : Bool) (opcode : ℕ) → paired ≡ true → (opcode ≡ SWITCH → ⊥)
+    → opcode ≡ c.opcode → integer_shape c paired ≡ AsWord
 integer_other c paired opcode e f g =
     let h : nat_eq c.opcode SWITCH ≡ false = ne_eqb c.opcode SWITCH (λ z. f (g ∙ z)) in
     rw (e, h) refl

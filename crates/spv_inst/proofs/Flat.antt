@@ -13,7 +13,8 @@ nonempty-append [] us h e = h refl
 nonempty-append (w ∷ ws) us h e = cc
 
 -- what is due after an operand, by equal operands and slots
-moved : (G : Table) (c : Context) (o p : Plain) (ss ts : List Slot) (ds : List Due) (os : List Plain) (us : List ℕ) → o ≡ p → ss ≡ ts
+moved : (G : Table) (c : Context) (o p : Plain) (ss ts : List Slot) (ds : List Due) (os : List Plain) (us : List ℕ)
+    → o ≡ p → ss ≡ ts
     → Matches G (and_then c p) (map OneOf ts ++ ds) os us → Matches G (and_then c o) (map OneOf ss ++ ds) os us
 moved G c o p ss ts ds os us e f m = rw (e, f) m
 
@@ -30,24 +31,31 @@ pub unique : (G : Table) (c : Context) (ds : List Due) (os ps : List Plain) (us 
 unique G _ _ _ _ _ _ (end c) (end _) e = refl
 unique G _ _ _ _ _ _ (take c s ds o ws ss os us t m) (take _ _ _ p xs ts ps vs t' n) e =
     let r = takes_same s.kind (shape_of G c s) o p ws xs ss ts us vs t t' e in
-    let q = unique G (and_then c o) (map OneOf ss ++ ds) os ps us vs m (moved G c o p ss ts ds ps vs r.operand r.slots n) r.rest in
+    let q = unique G (and_then c o) (map OneOf ss ++ ds) os ps us vs m
+    (moved G c o p ss ts ds ps vs r.operand r.slots n) r.rest in
     let a = r.operand in
     cc
-unique G _ _ _ _ _ _ (take c s ds o ws ss os us t m) (parts _ _ _ ts ps vs h n) e = absurd (takes_no_parts s.kind (shape_of G c s) o ws ss ts t h)
-unique G _ _ _ _ _ _ (parts c s ds ss os us h m) (take _ _ _ p xs ts ps vs t' n) e = absurd (takes_no_parts s.kind (shape_of G c s) p xs ts ss t' h)
+unique G _ _ _ _ _ _ (take c s ds o ws ss os us t m) (parts _ _ _ ts ps vs h n) e =
+    absurd (takes_no_parts s.kind (shape_of G c s) o ws ss ts t h)
+unique G _ _ _ _ _ _ (parts c s ds ss os us h m) (take _ _ _ p xs ts ps vs t' n) e =
+    absurd (takes_no_parts s.kind (shape_of G c s) p xs ts ss t' h)
 unique G _ _ _ _ _ _ (parts c s ds ss os us h m) (parts _ _ _ ts ps vs g n) e =
-    unique G c (map OneOf ss ++ ds) os ps us vs m (bases_moved G c ss ts ds ps vs (same_bases (shape_of G c s) ss ts h g) n) e
+    unique G c (map OneOf ss ++ ds) os ps us vs m
+    (bases_moved G c ss ts ds ps vs (same_bases (shape_of G c s) ss ts h g) n) e
 unique G _ _ _ _ _ _ (no_maybe c s ds os m) (no_maybe _ _ _ ps n) e = unique G c ds os ps [] [] m n e
 unique G _ _ _ _ _ _ (no_maybe c s ds os m) (maybe _ _ _ ps v vs n) e = cc
 unique G _ _ _ _ _ _ (maybe c s ds os u us m) (no_maybe _ _ _ ps n) e = cc
-unique G _ _ _ _ _ _ (maybe c s ds os u us m) (maybe _ _ _ ps v vs n) e = unique G c (OneOf s ∷ ds) os ps (u ∷ us) (v ∷ vs) m n e
+unique G _ _ _ _ _ _ (maybe c s ds os u us m) (maybe _ _ _ ps v vs n) e =
+    unique G c (OneOf s ∷ ds) os ps (u ∷ us) (v ∷ vs) m n e
 unique G _ _ _ _ _ _ (no_many c s ds os m) (no_many _ _ _ ps n) e = unique G c ds os ps [] [] m n e
 unique G _ _ _ _ _ _ (no_many c s ds os m) (many _ _ _ ps v vs n) e = cc
 unique G _ _ _ _ _ _ (many c s ds os u us m) (no_many _ _ _ ps n) e = cc
-unique G _ _ _ _ _ _ (many c s ds os u us m) (many _ _ _ ps v vs n) e = unique G c (OneOf s ∷ ManyOf s ∷ ds) os ps (u ∷ us) (v ∷ vs) m n e
+unique G _ _ _ _ _ _ (many c s ds os u us m) (many _ _ _ ps v vs n) e =
+    unique G c (OneOf s ∷ ManyOf s ∷ ds) os ps (u ∷ us) (v ∷ vs) m n e
 
 -- no operands are spelled by no words
-pub no_words : (G : Table) (c : Context) (ds : List Due) (os : List Plain) (us : List ℕ) → Matches G c ds os us → os ≡ [] → us ≡ []
+pub no_words : (G : Table) (c : Context) (ds : List Due) (os : List Plain) (us : List ℕ) → Matches G c ds os us
+    → os ≡ [] → us ≡ []
 no_words G _ _ _ _ (end c) e = refl
 no_words G _ _ _ _ (take c s ds o ws ss os us t m) e = cc
 no_words G _ _ _ _ (parts c s ds ss os us h m) e = no_words G c (map OneOf ss ++ ds) os us m e
@@ -57,9 +65,11 @@ no_words G _ _ _ _ (no_many c s ds os m) e = refl
 no_words G _ _ _ _ (many c s ds os u us m) e = no_words G c (OneOf s ∷ ManyOf s ∷ ds) os (u ∷ us) m e
 
 -- no words spell no operands
-pub no_operands : (G : Table) (c : Context) (ds : List Due) (os : List Plain) (us : List ℕ) → Matches G c ds os us → us ≡ [] → os ≡ []
+pub no_operands : (G : Table) (c : Context) (ds : List Due) (os : List Plain) (us : List ℕ) → Matches G c ds os us
+    → us ≡ [] → os ≡ []
 no_operands G _ _ _ _ (end c) e = refl
-no_operands G _ _ _ _ (take c s ds o ws ss os us t m) e = absurd (nonempty-append ws us (takes_nonempty s.kind (shape_of G c s) o ws ss t) e)
+no_operands G _ _ _ _ (take c s ds o ws ss os us t m) e =
+    absurd (nonempty-append ws us (takes_nonempty s.kind (shape_of G c s) o ws ss t) e)
 no_operands G _ _ _ _ (parts c s ds ss os us h m) e = no_operands G c (map OneOf ss ++ ds) os us m e
 no_operands G _ _ _ _ (no_maybe c s ds os m) e = no_operands G c ds os [] m e
 no_operands G _ _ _ _ (maybe c s ds os u us m) e = cc
@@ -81,18 +91,28 @@ spelled_once G _ _ _ _ _ _ (take c s ds o ws ss os us t m) (take _ _ _ p xs ts p
     let a : o ≡ p = cc in
     let b : os ≡ ps = cc in
     let r = takes_back s.kind (shape_of G c s) o p ws xs ss ts t t' a in
-    let q = spelled_once G (and_then c o) (map OneOf ss ++ ds) os ps us vs m (moved G c o p ss ts ds ps vs a r.slots n) b in
+    let q = spelled_once G (and_then c o) (map OneOf ss ++ ds) os ps us vs m
+    (moved G c o p ss ts ds ps vs a r.slots n) b in
     let x = r.words in
     cc
-spelled_once G _ _ _ _ _ _ (take c s ds o ws ss os us t m) (parts _ _ _ ts ps vs h n) e = absurd (takes_no_parts s.kind (shape_of G c s) o ws ss ts t h)
-spelled_once G _ _ _ _ _ _ (parts c s ds ss os us h m) (take _ _ _ p xs ts ps vs t' n) e = absurd (takes_no_parts s.kind (shape_of G c s) p xs ts ss t' h)
+spelled_once G _ _ _ _ _ _ (take c s ds o ws ss os us t m) (parts _ _ _ ts ps vs h n) e =
+    absurd (takes_no_parts s.kind (shape_of G c s) o ws ss ts t h)
+spelled_once G _ _ _ _ _ _ (parts c s ds ss os us h m) (take _ _ _ p xs ts ps vs t' n) e =
+    absurd (takes_no_parts s.kind (shape_of G c s) p xs ts ss t' h)
 spelled_once G _ _ _ _ _ _ (parts c s ds ss os us h m) (parts _ _ _ ts ps vs g n) e =
-    spelled_once G c (map OneOf ss ++ ds) os ps us vs m (bases_moved G c ss ts ds ps vs (same_bases (shape_of G c s) ss ts h g) n) e
+    spelled_once G c (map OneOf ss ++ ds) os ps us vs m
+    (bases_moved G c ss ts ds ps vs (same_bases (shape_of G c s) ss ts h g) n) e
 spelled_once G _ _ _ _ _ _ (no_maybe c s ds os m) (no_maybe _ _ _ ps n) e = refl
-spelled_once G _ _ _ _ _ _ (no_maybe c s ds os m) (maybe _ _ _ ps v vs n) e = absurd (absent_or_not G c ds (OneOf s ∷ ds) os ps v vs m n e)
-spelled_once G _ _ _ _ _ _ (maybe c s ds os u us m) (no_maybe _ _ _ ps n) e = absurd (absent_or_not G c ds (OneOf s ∷ ds) ps os u us n m (sym e))
-spelled_once G _ _ _ _ _ _ (maybe c s ds os u us m) (maybe _ _ _ ps v vs n) e = spelled_once G c (OneOf s ∷ ds) os ps (u ∷ us) (v ∷ vs) m n e
+spelled_once G _ _ _ _ _ _ (no_maybe c s ds os m) (maybe _ _ _ ps v vs n) e =
+    absurd (absent_or_not G c ds (OneOf s ∷ ds) os ps v vs m n e)
+spelled_once G _ _ _ _ _ _ (maybe c s ds os u us m) (no_maybe _ _ _ ps n) e =
+    absurd (absent_or_not G c ds (OneOf s ∷ ds) ps os u us n m (sym e))
+spelled_once G _ _ _ _ _ _ (maybe c s ds os u us m) (maybe _ _ _ ps v vs n) e =
+    spelled_once G c (OneOf s ∷ ds) os ps (u ∷ us) (v ∷ vs) m n e
 spelled_once G _ _ _ _ _ _ (no_many c s ds os m) (no_many _ _ _ ps n) e = refl
-spelled_once G _ _ _ _ _ _ (no_many c s ds os m) (many _ _ _ ps v vs n) e = absurd (absent_or_not G c ds (OneOf s ∷ ManyOf s ∷ ds) os ps v vs m n e)
-spelled_once G _ _ _ _ _ _ (many c s ds os u us m) (no_many _ _ _ ps n) e = absurd (absent_or_not G c ds (OneOf s ∷ ManyOf s ∷ ds) ps os u us n m (sym e))
-spelled_once G _ _ _ _ _ _ (many c s ds os u us m) (many _ _ _ ps v vs n) e = spelled_once G c (OneOf s ∷ ManyOf s ∷ ds) os ps (u ∷ us) (v ∷ vs) m n e
+spelled_once G _ _ _ _ _ _ (no_many c s ds os m) (many _ _ _ ps v vs n) e =
+    absurd (absent_or_not G c ds (OneOf s ∷ ManyOf s ∷ ds) os ps v vs m n e)
+spelled_once G _ _ _ _ _ _ (many c s ds os u us m) (no_many _ _ _ ps n) e =
+    absurd (absent_or_not G c ds (OneOf s ∷ ManyOf s ∷ ds) ps os u us n m (sym e))
+spelled_once G _ _ _ _ _ _ (many c s ds os u us m) (many _ _ _ ps v vs n) e =
+    spelled_once G c (OneOf s ∷ ManyOf s ∷ ds) os ps (u ∷ us) (v ∷ vs) m n e

@@ -1,11 +1,13 @@
 -- Whatever words are left, a shape takes some or refuses them.
-use Rattle.std.proofs.Common.{◌≡◌, ◌≢◌, ◌++◌, ◌⊎◌, inl, inr, ◌<◌, ◌≤◌, ◌/◌, ◌%◌, ℕ, zero, suc, List, [], ◌∷◌, Option, Some, None, Bool, true, false, length, refl, ap, arith}
+use Rattle.std.proofs.Common.{◌≡◌, ◌≢◌, ◌++◌, ◌⊎◌, inl, inr, ◌<◌, ◌≤◌, ◌/◌, ◌%◌, ℕ, zero, suc, List, [], ◌∷◌, Option}
+use Rattle.std.proofs.Common.{Some, None, Bool, true, false, length, refl, ap, arith}
 use Rattle.std.proofs.lemmas.Str.{IsUtf8-from_is_utf8, is_utf8-from_IsUtf8}
 use Rattle.std.specs.Str.{is_utf8}
 use Rattle.std.specs.Prelude.{IsUtf8}
 use Rattle.std.specs.List.{AllByRecursion}
 use Rattle.spv_module.specs.Operand.{OfType, Result, Id, Word, Number, Text, Value, Mask}
-use Rattle.spv_module.specs.Shape.{Shape, AsType, AsResult, AsId, AsWord, AsNumber, AsText, AsValue, AsMask, AsParts, AsNothing}
+use Rattle.spv_module.specs.Shape.{Shape, AsType, AsResult, AsId, AsWord, AsNumber, AsText, AsValue, AsMask, AsParts}
+use Rattle.spv_module.specs.Shape.{AsNothing}
 use Rattle.spv_table.specs.declared.table.Enumerant.{Enumerant}
 use Rattle.spv_module.specs.Spelling.{octets_of, HoldsText, AreZeros, Takes, parameters_of, mask_parameters}
 use Rattle.spv_module.specs.declared.fault.Rule.TheVariants.{I4, I6, I7, I8, I9, I10, I11, I12}
@@ -20,10 +22,12 @@ zero_or : (n : ℕ) → (n ≡ 0) ⊎ (n ≢ 0)
 zero_or zero = inl refl
 zero_or (suc n) = inr (λ e. omega arith)
 
-holds_one : (w : ℕ) (t p : List ℕ) → w < 4294967296 → octets_of (w ∷ []) ≡ t ++ (0 ∷ p) → AllByRecursion (λ b. b ≢ 0) t → length p < 4 → HoldsText (w ∷ []) t p
+holds_one : (w : ℕ) (t p : List ℕ) → w < 4294967296 → octets_of (w ∷ []) ≡ t ++ (0 ∷ p) → AllByRecursion (λ b. b ≢ 0) t
+    → length p < 4 → HoldsText (w ∷ []) t p
 holds_one w t p l e z s = record { words = (l, tt); octets = e; no_zero = z; short = s }
 
-found_more : (w : ℕ) (us : List ℕ) → w < 4294967296 → w % 256 ≢ 0 → w / 256 % 256 ≢ 0 → w / 65536 % 256 ≢ 0 → w / 16777216 % 256 ≢ 0 → Found us → Found (w ∷ us)
+found_more : (w : ℕ) (us : List ℕ) → w < 4294967296 → w % 256 ≢ 0 → w / 256 % 256 ≢ 0 → w / 65536 % 256 ≢ 0
+    → w / 16777216 % 256 ≢ 0 → Found us → Found (w ∷ us)
 found_more w _ l a b c d (found ws us t p h) =
     found (w ∷ ws) us ((w % 256) ∷ (w / 256 % 256) ∷ (w / 65536 % 256) ∷ (w / 16777216 % 256) ∷ t) p
     (record {
@@ -34,34 +38,43 @@ found_more w _ l a b c d (found ws us t p h) =
     })
 found_more w _ l a b c d (nowhere us z) = nowhere (w ∷ us) (a, (b, (c, (d, z))))
 
-find_4 : (w : ℕ) (us : List ℕ) → w < 4294967296 → w % 256 ≢ 0 → w / 256 % 256 ≢ 0 → w / 65536 % 256 ≢ 0 → (w / 16777216 % 256 ≡ 0) ⊎ (w / 16777216 % 256 ≢ 0) → Found us → Found (w ∷ us)
+find_4 : (w : ℕ) (us : List ℕ) → w < 4294967296 → w % 256 ≢ 0 → w / 256 % 256 ≢ 0 → w / 65536 % 256 ≢ 0
+    → (w / 16777216 % 256 ≡ 0) ⊎ (w / 16777216 % 256 ≢ 0) → Found us → Found (w ∷ us)
 find_4 w us l a b c (inl e) f =
-    found (w ∷ []) us ((w % 256) ∷ (w / 256 % 256) ∷ (w / 65536 % 256) ∷ []) [] (holds_one w _ _ l (ap (λ x. (w % 256) ∷ (w / 256 % 256) ∷ (w / 65536 % 256) ∷ x ∷ []) e) (a, (b, (c, tt))) (omega arith))
+    found (w ∷ []) us ((w % 256) ∷ (w / 256 % 256) ∷ (w / 65536 % 256) ∷ []) []
+    (holds_one w _ _ l (ap (λ x. (w % 256) ∷ (w / 256 % 256) ∷ (w / 65536 % 256) ∷ x ∷ []) e) (a, (b, (c, tt)))
+    (omega arith))
 find_4 w us l a b c (inr d) f = found_more w us l a b c d f
 
-find_3 : (w : ℕ) (us : List ℕ) → w < 4294967296 → w % 256 ≢ 0 → w / 256 % 256 ≢ 0 → (w / 65536 % 256 ≡ 0) ⊎ (w / 65536 % 256 ≢ 0) → Found us → Found (w ∷ us)
+find_3 : (w : ℕ) (us : List ℕ) → w < 4294967296 → w % 256 ≢ 0 → w / 256 % 256 ≢ 0
+    → (w / 65536 % 256 ≡ 0) ⊎ (w / 65536 % 256 ≢ 0) → Found us → Found (w ∷ us)
 find_3 w us l a b (inl e) f =
     found (w ∷ []) us ((w % 256) ∷ (w / 256 % 256) ∷ []) ((w / 16777216 % 256) ∷ [])
-    (holds_one w _ _ l (ap (λ x. (w % 256) ∷ (w / 256 % 256) ∷ x ∷ (w / 16777216 % 256) ∷ []) e) (a, (b, tt)) (omega arith))
+    (holds_one w _ _ l (ap (λ x. (w % 256) ∷ (w / 256 % 256) ∷ x ∷ (w / 16777216 % 256) ∷ []) e) (a, (b, tt))
+    (omega arith))
 find_3 w us l a b (inr c) f = find_4 w us l a b c (zero_or (w / 16777216 % 256)) f
 
-find_2 : (w : ℕ) (us : List ℕ) → w < 4294967296 → w % 256 ≢ 0 → (w / 256 % 256 ≡ 0) ⊎ (w / 256 % 256 ≢ 0) → Found us → Found (w ∷ us)
+find_2 : (w : ℕ) (us : List ℕ) → w < 4294967296 → w % 256 ≢ 0 → (w / 256 % 256 ≡ 0) ⊎ (w / 256 % 256 ≢ 0) → Found us
+    → Found (w ∷ us)
 find_2 w us l a (inl e) f =
     found (w ∷ []) us ((w % 256) ∷ []) ((w / 65536 % 256) ∷ (w / 16777216 % 256) ∷ [])
-    (holds_one w _ _ l (ap (λ x. (w % 256) ∷ x ∷ (w / 65536 % 256) ∷ (w / 16777216 % 256) ∷ []) e) (a, tt) (omega arith))
+    (holds_one w _ _ l (ap (λ x. (w % 256) ∷ x ∷ (w / 65536 % 256) ∷ (w / 16777216 % 256) ∷ []) e) (a, tt)
+    (omega arith))
 find_2 w us l a (inr b) f = find_3 w us l a b (zero_or (w / 65536 % 256)) f
 
 find_1 : (w : ℕ) (us : List ℕ) → w < 4294967296 → (w % 256 ≡ 0) ⊎ (w % 256 ≢ 0) → Found us → Found (w ∷ us)
 find_1 w us l (inl e) f =
     found (w ∷ []) us [] ((w / 256 % 256) ∷ (w / 65536 % 256) ∷ (w / 16777216 % 256) ∷ [])
-    (holds_one w [] _ l (ap (λ x. x ∷ (w / 256 % 256) ∷ (w / 65536 % 256) ∷ (w / 16777216 % 256) ∷ []) e) tt (omega arith))
+    (holds_one w [] _ l (ap (λ x. x ∷ (w / 256 % 256) ∷ (w / 65536 % 256) ∷ (w / 16777216 % 256) ∷ []) e) tt
+    (omega arith))
 find_1 w us l (inr a) f = find_2 w us l a (zero_or (w / 256 % 256)) f
 
 find : (us : List ℕ) → AllByRecursion (λ w. w < 4294967296) us → Found us
 find [] l = nowhere [] tt
 find (w ∷ us) l = find_1 w us l.0 (zero_or (w % 256)) (find us l.1)
 
-zeros_more : (x : ℕ) (p : List ℕ) → (x ≡ 0) ⊎ (x ≢ 0) → AreZeros p ⊎ (AreZeros p → ⊥) → AreZeros (x ∷ p) ⊎ (AreZeros (x ∷ p) → ⊥)
+zeros_more : (x : ℕ) (p : List ℕ) → (x ≡ 0) ⊎ (x ≢ 0) → AreZeros p ⊎ (AreZeros p → ⊥)
+    → AreZeros (x ∷ p) ⊎ (AreZeros (x ∷ p) → ⊥)
 zeros_more x p (inl e) (inl z) = inl (e, z)
 zeros_more x p (inl e) (inr z) = inr (λ h. z h.1)
 zeros_more x p (inr e) z = inr (λ h. e h.0)
@@ -81,11 +94,13 @@ no_words : (t p : List ℕ) → HoldsText [] t p → ⊥
 no_words [] p h = let o = h.octets in cc
 no_words (x ∷ t) p h = let o = h.octets in cc
 
-text_meets : (k : ℕ) (ws us t p : List ℕ) → HoldsText ws t p → AreZeros p ⊎ (AreZeros p → ⊥) → IsUtf8 t ⊎ (IsUtf8 t → ⊥) → Meets k AsText (ws ++ us)
+text_meets : (k : ℕ) (ws us t p : List ℕ) → HoldsText ws t p → AreZeros p ⊎ (AreZeros p → ⊥) → IsUtf8 t ⊎ (IsUtf8 t → ⊥)
+    → Meets k AsText (ws ++ us)
 text_meets k ws us t p h (inl z) (inl u) = Meets.taken (Text t) ws [] us (Takes.text t ws p h z u)
 text_meets k ws us t p h (inl z) (inr u) = Meets.refused (ws ++ us) I10 0 (ShapeRefuses.no_text t ws p us h z u)
 text_meets k [] us t p h (inr z) u = absurd (no_words t p h)
-text_meets k (w ∷ ws) us t p h (inr z) u = Meets.refused ((w ∷ ws) ++ us) I9 (length ws) (ShapeRefuses.padded t (w ∷ ws) p us (length ws) h z (omega arith))
+text_meets k (w ∷ ws) us t p h (inr z) u =
+    Meets.refused ((w ∷ ws) ++ us) I9 (length ws) (ShapeRefuses.padded t (w ∷ ws) p us (length ws) h z (omega arith))
 
 string_meets : (k u : ℕ) (us : List ℕ) (vs : List ℕ) → vs ≡ u ∷ us → Found vs → Meets k AsText vs
 string_meets k u us _ e (found ws vs t p h) = text_meets k ws vs t p h (zeros_or p) (utf8_or t)
@@ -108,15 +123,18 @@ compare (suc w) (suc n) = suc_order w n (compare w n)
 order : (w : ℕ) → (w ≤ 32) ⊎ (32 < w)
 order w = compare w 32
 
-value_meets : (k : ℕ) (es : List Enumerant) (u : ℕ) (us : List ℕ) (o : Option (List ℕ)) → parameters_of es u ≡ o → Meets k (AsValue es) (u ∷ us)
+value_meets : (k : ℕ) (es : List Enumerant) (u : ℕ) (us : List ℕ) (o : Option (List ℕ)) → parameters_of es u ≡ o
+    → Meets k (AsValue es) (u ∷ us)
 value_meets k es u us None e = Meets.refused (u ∷ us) I6 0 (ShapeRefuses.unknown_value es u us e)
 value_meets k es u us (Some ks) e = Meets.taken (Value k u) (u ∷ []) _ us (Takes.value es u ks e)
 
-mask_meets : (k : ℕ) (es : List Enumerant) (u : ℕ) (us : List ℕ) (o : Option (List ℕ)) → mask_parameters es u ≡ o → Meets k (AsMask es) (u ∷ us)
+mask_meets : (k : ℕ) (es : List Enumerant) (u : ℕ) (us : List ℕ) (o : Option (List ℕ)) → mask_parameters es u ≡ o
+    → Meets k (AsMask es) (u ∷ us)
 mask_meets k es u us None e = Meets.refused (u ∷ us) I7 0 (ShapeRefuses.unknown_bit es u us e)
 mask_meets k es u us (Some ks) e = Meets.taken (Mask k u) (u ∷ []) _ us (Takes.mask es u ks e)
 
-pub leaf_meets : (k : ℕ) (sh : Shape) (us : List ℕ) → IsLeaf sh → AllByRecursion (λ w. w < 4294967296) us → Meets k sh us
+pub leaf_meets : (k : ℕ) (sh : Shape) (us : List ℕ) → IsLeaf sh → AllByRecursion (λ w. w < 4294967296) us
+    → Meets k sh us
 leaf_meets k sh [] h l = Meets.refused [] I4 0 (ShapeRefuses.missing sh h)
 leaf_meets k AsType (u ∷ us) h l = Meets.taken (OfType u) (u ∷ []) [] us (Takes.result_type u)
 leaf_meets k AsResult (u ∷ us) h l = Meets.taken (Result u) (u ∷ []) [] us (Takes.result u)

@@ -3,9 +3,11 @@ use Rattle.std.proofs.Common.{◌≡◌, ◌≢◌, ◌++◌, ◌∙◌, ℕ, Li
 use Rattle.std.specs.List.{AllByRecursion}
 use Rattle.spv_module.specs.Operand.{Plain}
 use Rattle.spv_module.specs.Shape.{Slot, Shape, AsParts}
-use Rattle.spv_module.specs.Spelling.{octets_of, HoldsText, AreZeros, Takes, result_type, result, id, word, narrow, wide, text, value, mask}
+use Rattle.spv_module.specs.Spelling.{octets_of, HoldsText, AreZeros, Takes, result_type, result, id, word, narrow}
+use Rattle.spv_module.specs.Spelling.{wide, text, value, mask}
 use Rattle.spv_module.specs.declared.fault.Rule.{Rule}
-use Rattle.spv_module.specs.Refusal.{ShapeRefuses, IsLeaf, missing, half, unknown_value, unknown_bit, endless, padded, no_text, no_width, no_form}
+use Rattle.spv_module.specs.Refusal.{ShapeRefuses, IsLeaf, missing, half, unknown_value, unknown_bit, endless, padded}
+use Rattle.spv_module.specs.Refusal.{no_text, no_width, no_form}
 use Rattle.spv_inst.proofs.Texts.{text_same, octets-append}
 use Rattle.spv_inst.proofs.Takes.{text_nonempty}
 use Rattle.spv_inst.proofs.Flat.{nonempty-append}
@@ -20,7 +22,8 @@ holds_zero ws t p us h a =
     octets-append ws us ∙ (ap (λ zs. zs ++ octets_of us) h.octets ∙ append_assoc t (0 ∷ p) (octets_of us)) in
     zero_in t (p ++ octets_of us) (rw e at a)
 
-endless_text : (ws t p us vs : List ℕ) → HoldsText ws t p → AllByRecursion (λ b. b ≢ 0) (octets_of vs) → ws ++ us ≡ vs → ⊥
+endless_text : (ws t p us vs : List ℕ) → HoldsText ws t p → AllByRecursion (λ b. b ≢ 0) (octets_of vs) → ws ++ us ≡ vs
+    → ⊥
 endless_text ws t p us vs h a e = holds_zero ws t p us h (rw (← e) at a)
 
 same_zeros : (p q : List ℕ) → p ≡ q → AreZeros p → AreZeros q
@@ -36,7 +39,8 @@ pub record SameRefusal (a b : Rule) (n m : ℕ) : Type 0 where
 nothing_left : (ws us t p : List ℕ) → HoldsText ws t p → [] ≡ ws ++ us → ⊥
 nothing_left ws us t p h e = nonempty-append ws us (text_nonempty ws t p h) (sym e)
 
-pub refuse_same : (sh : Shape) (us vs : List ℕ) (a b : Rule) (n m : ℕ) → ShapeRefuses sh us a n → ShapeRefuses sh vs b m → us ≡ vs → SameRefusal a b n m
+pub refuse_same : (sh : Shape) (us vs : List ℕ) (a b : Rule) (n m : ℕ) → ShapeRefuses sh us a n → ShapeRefuses sh vs b m
+    → us ≡ vs → SameRefusal a b n m
 refuse_same _ _ _ _ _ _ _ (missing sh h) (missing _ g) e = record { code = refl; place = refl }
 refuse_same _ _ _ _ _ _ _ (missing sh h) (half w x g) e = cc
 refuse_same _ _ _ _ _ _ _ (missing sh h) (unknown_value es x us g) e = cc
@@ -54,8 +58,10 @@ refuse_same _ _ _ _ _ _ _ (unknown_bit es x us h) (missing _ g) e = cc
 refuse_same _ _ _ _ _ _ _ (unknown_bit es x us h) (unknown_bit _ y vs g) e = record { code = refl; place = refl }
 refuse_same _ _ _ _ _ _ _ (endless u us h) (missing _ g) e = cc
 refuse_same _ _ _ _ _ _ _ (endless u us h) (endless v vs g) e = record { code = refl; place = refl }
-refuse_same _ _ _ _ _ _ _ (endless u us h) (padded t ws p vs n g z l) e = absurd (endless_text ws t p vs (u ∷ us) g h (sym e))
-refuse_same _ _ _ _ _ _ _ (endless u us h) (no_text t ws p vs g z l) e = absurd (endless_text ws t p vs (u ∷ us) g h (sym e))
+refuse_same _ _ _ _ _ _ _ (endless u us h) (padded t ws p vs n g z l) e =
+    absurd (endless_text ws t p vs (u ∷ us) g h (sym e))
+refuse_same _ _ _ _ _ _ _ (endless u us h) (no_text t ws p vs g z l) e =
+    absurd (endless_text ws t p vs (u ∷ us) g h (sym e))
 refuse_same _ _ _ _ _ _ _ (padded t ws p us n h z l) (missing _ g) e = absurd (nothing_left ws us t p h (sym e))
 refuse_same _ _ _ _ _ _ _ (padded t ws p us n h z l) (endless v vs g) e = absurd (endless_text ws t p us (v ∷ vs) h g e)
 refuse_same _ _ _ _ _ _ _ (padded t ws p us n h z l) (padded s xs q vs m g y k) e =
@@ -103,7 +109,8 @@ takes_refuses k _ _ _ _ us _ _ _ (mask es x ks g) (unknown_bit _ y vs h) e = let
 parts_leaf : (sh : Shape) (ts : List Slot) → sh ≡ AsParts ts → IsLeaf sh → ⊥
 parts_leaf sh ts e h = rw e at h
 
-pub parts_refuse : (sh : Shape) (us : List ℕ) (a : Rule) (n : ℕ) (ts : List Slot) → sh ≡ AsParts ts → ShapeRefuses sh us a n → ⊥
+pub parts_refuse : (sh : Shape) (us : List ℕ) (a : Rule) (n : ℕ) (ts : List Slot) → sh ≡ AsParts ts
+    → ShapeRefuses sh us a n → ⊥
 parts_refuse _ _ _ _ ts e (missing sh h) = parts_leaf sh ts e h
 parts_refuse _ _ _ _ ts e (half w x g) = cc
 parts_refuse _ _ _ _ ts e (unknown_value es x us g) = cc

@@ -1,5 +1,6 @@
 -- A text of ASCII characters that takes all words.
-use Rattle.std.proofs.Common.{◌≡◌, ◌≢◌, ◌∙◌, ◌<◌, ◌+◌, ◌-◌, ◌*◌, ◌/◌, ◌%◌, ℕ, List, [], ◌∷◌, length, take, drop, IsAscii, IsUtf8, drop-drop, take_all, ap, subst, arith}
+use Rattle.std.proofs.Common.{◌≡◌, ◌≢◌, ◌∙◌, ◌<◌, ◌+◌, ◌-◌, ◌*◌, ◌/◌, ◌%◌, ℕ, List, [], ◌∷◌, length, take, drop}
+use Rattle.std.proofs.Common.{IsAscii, IsUtf8, drop-drop, take_all, ap, subst, arith}
 use Rattle.std.specs.List.{AllByRecursion}
 use Rattle.std.proofs.lemmas.List.{drop_more, length-drop}
 use Rattle.std.proofs.lemmas.Str.{IsUtf8-from_ascii}
@@ -49,7 +50,8 @@ padded bs m l z =
     let y = rw (drop_more bs m 0 l) at z in
     all_take (λ b. b ≡ 0) ((m / 4 * 4 + 4) - (m + 1)) (drop (m + 1) bs) y.1
 
-pub short_takes : (k : ℕ) (bs : List ℕ) (n : ℕ) → length bs % 4 ≡ 0 → AllByRecursion (λ b. b < 256) bs → 0 < length bs → n < 4
+pub short_takes : (k : ℕ) (bs : List ℕ) (n : ℕ) → length bs % 4 ≡ 0 → AllByRecursion (λ b. b < 256) bs → 0 < length bs
+    → n < 4
     → AreZeros (drop n (last_four bs)) → AreShort (take (length bs - 4 + n) bs)
     → Takes k AsText (Text (take (length bs - 4 + n) bs)) (words_of Little bs) []
 short_takes k bs n whole below some l z s =
@@ -57,5 +59,6 @@ short_takes k bs n whole below some l z s =
     let within : m < length bs = omega arith in
     let y = zeros_from bs n z in
     let t = takes k bs m whole below (first_zero bs m within y s) (padded bs m within y) (short_utf8 (take m bs) s) in
-    let all : take (m / 4 + 1) (words_of Little bs) ≡ words_of Little bs = take_all (m / 4 + 1) (words_of Little bs) (omega (arith, length-words bs)) in
+    let all : take (m / 4 + 1) (words_of Little bs) ≡ words_of Little bs = take_all (m / 4 + 1) (words_of Little bs)
+    (omega (arith, length-words bs)) in
     subst (λ ws. Takes k AsText (Text (take m bs)) ws []) all t

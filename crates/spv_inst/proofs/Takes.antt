@@ -2,7 +2,8 @@
 use Rattle.std.proofs.Common.{◌≡◌, ◌≢◌, ◌++◌, ℕ, List, [], ◌∷◌, map, refl, ap, arith}
 use Rattle.spv_module.specs.Operand.{Plain, Text}
 use Rattle.spv_module.specs.Shape.{Slot, alone, Shape, AsParts}
-use Rattle.spv_module.specs.Spelling.{Takes, result_type, result, id, word, narrow, wide, text, value, mask, parameters_of, mask_parameters}
+use Rattle.spv_module.specs.Spelling.{Takes, result_type, result, id, word, narrow, wide, text, value, mask}
+use Rattle.spv_module.specs.Spelling.{parameters_of, mask_parameters}
 use Rattle.spv_inst.proofs.Texts.{text_same, spelling_same}
 
 -- what two ways of taking share
@@ -14,14 +15,17 @@ pub record SameFront (o p : Plain) (ws vs : List ℕ) (ss ts : List Slot) (us xs
 
 pub takes_same : (k : ℕ) (sh : Shape) (o p : Plain) (ws vs : List ℕ) (ss ts : List Slot) (us xs : List ℕ)
     → Takes k sh o ws ss → Takes k sh p vs ts → ws ++ us ≡ vs ++ xs → SameFront o p ws vs ss ts us xs
-takes_same k _ _ _ _ _ _ _ us xs (result_type x) (result_type y) e = record { operand = cc; words = cc; slots = cc; rest = cc }
+takes_same k _ _ _ _ _ _ _ us xs (result_type x) (result_type y) e =
+    record { operand = cc; words = cc; slots = cc; rest = cc }
 takes_same k _ _ _ _ _ _ _ us xs (result x) (result y) e = record { operand = cc; words = cc; slots = cc; rest = cc }
 takes_same k _ _ _ _ _ _ _ us xs (id x) (id y) e = record { operand = cc; words = cc; slots = cc; rest = cc }
 takes_same k _ _ _ _ _ _ _ us xs (word x) (word y) e = record { operand = cc; words = cc; slots = cc; rest = cc }
-takes_same k _ _ _ _ _ _ _ us xs (narrow w x h) (narrow _ y g) e = record { operand = cc; words = cc; slots = cc; rest = cc }
+takes_same k _ _ _ _ _ _ _ us xs (narrow w x h) (narrow _ y g) e =
+    record { operand = cc; words = cc; slots = cc; rest = cc }
 takes_same k _ _ _ _ _ _ _ us xs (narrow w x h) (wide _ y z g) e = absurd (omega arith)
 takes_same k _ _ _ _ _ _ _ us xs (wide w x y h) (narrow _ z g) e = absurd (omega arith)
-takes_same k _ _ _ _ _ _ _ us xs (wide w x y h) (wide _ a b g) e = record { operand = cc; words = cc; slots = cc; rest = cc }
+takes_same k _ _ _ _ _ _ _ us xs (wide w x y h) (wide _ a b g) e =
+    record { operand = cc; words = cc; slots = cc; rest = cc }
 takes_same k _ _ _ _ _ _ _ us xs (text t ws p h z u) (text s vs q g y v) e =
     let r = text_same ws vs t s p q us xs h g e in
     record { operand = ap Text r.texts; words = r.words; slots = refl; rest = r.rests }
@@ -62,7 +66,8 @@ takes_back k _ _ _ _ _ _ _ (mask es x ks h) (mask _ y js g) e =
     record { words = cc; slots = ap (map alone) f }
 
 -- parts are no operand
-pub takes_no_parts : (k : ℕ) (sh : Shape) (o : Plain) (ws : List ℕ) (ss ts : List Slot) → Takes k sh o ws ss → sh ≡ AsParts ts → ⊥
+pub takes_no_parts : (k : ℕ) (sh : Shape) (o : Plain) (ws : List ℕ) (ss ts : List Slot) → Takes k sh o ws ss
+    → sh ≡ AsParts ts → ⊥
 takes_no_parts k _ _ _ _ ts (result_type x) e = cc
 takes_no_parts k _ _ _ _ ts (result x) e = cc
 takes_no_parts k _ _ _ _ ts (id x) e = cc

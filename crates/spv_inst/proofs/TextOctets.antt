@@ -1,5 +1,6 @@
 -- The octets of the words that octets stand for, and words against octets.
-use Rattle.std.proofs.Common.{◌≡◌, ◌<◌, ◌-◌, ◌*◌, ◌/◌, ◌%◌, ℕ, zero, suc, List, [], ◌∷◌, length, take, drop, get_or, refl, ap, arith}
+use Rattle.std.proofs.Common.{◌≡◌, ◌<◌, ◌-◌, ◌*◌, ◌/◌, ◌%◌, ℕ, zero, suc, List, [], ◌∷◌, length, take, drop, get_or}
+use Rattle.std.proofs.Common.{refl, ap, arith}
 use Rattle.std.specs.List.{AllByRecursion}
 use Rattle.spv_words.specs.declared.words.Order.TheVariants.{Little}
 use Rattle.spv_words.specs.Words.{words_of, word_of}
@@ -34,7 +35,8 @@ take-words (suc n) [] = rw (four_more n) refl
 take-words (suc n) (a ∷ []) = rw (four_more n) refl
 take-words (suc n) (a ∷ b ∷ []) = rw (four_more n) refl
 take-words (suc n) (a ∷ b ∷ c ∷ []) = rw (four_more n) refl
-take-words (suc n) (a ∷ b ∷ c ∷ d ∷ rest) = rw (four_more n) (ap (λ ws. word_of Little a b c d ∷ ws) (take-words n rest))
+take-words (suc n) (a ∷ b ∷ c ∷ d ∷ rest) =
+    rw (four_more n) (ap (λ ws. word_of Little a b c d ∷ ws) (take-words n rest))
 
 -- the words behind the first, of the octets behind the first
 pub drop-words : (n : ℕ) (bs : List ℕ) → drop n (words_of Little bs) ≡ words_of Little (drop (4 * n) bs)
@@ -46,7 +48,8 @@ drop-words (suc n) (a ∷ b ∷ c ∷ []) = rw (four_more n) refl
 drop-words (suc n) (a ∷ b ∷ c ∷ d ∷ rest) = rw (four_more n) (drop-words n rest)
 
 -- words between two places, of the octets between
-pub between-words : (bs ws : List ℕ) (at end : ℕ) → words_of Little bs ≡ ws → between ws at end ≡ words_of Little (take (end * 4 - at * 4) (drop (at * 4) bs))
+pub between-words : (bs ws : List ℕ) (at end : ℕ) → words_of Little bs ≡ ws
+    → between ws at end ≡ words_of Little (take (end * 4 - at * 4) (drop (at * 4) bs))
 between-words bs ws at end e =
     let i : 4 * at ≡ at * 4 = omega arith in
     let j : 4 * (end - at) ≡ end * 4 - at * 4 = omega arith in
@@ -65,7 +68,8 @@ fourth_octet : (a b c d : ℕ) → a < 256 → b < 256 → c < 256 → d < 256 �
 fourth_octet a b c d h i j k = omega arith
 
 -- the octets of the words that octets stand for
-pub octets-words : (bs : List ℕ) → length bs % 4 ≡ 0 → AllByRecursion (λ b. b < 256) bs → octets_of (words_of Little bs) ≡ bs
+pub octets-words : (bs : List ℕ) → length bs % 4 ≡ 0 → AllByRecursion (λ b. b < 256) bs
+    → octets_of (words_of Little bs) ≡ bs
 octets-words [] h l = refl
 octets-words (a ∷ []) h l = absurd (omega arith)
 octets-words (a ∷ b ∷ []) h l = absurd (omega arith)
@@ -80,7 +84,8 @@ octets-words (a ∷ b ∷ c ∷ d ∷ rest) h l =
     cc
 
 -- words of octets have 32 bits
-pub words-below : (bs : List ℕ) → AllByRecursion (λ b. b < 256) bs → AllByRecursion (λ w. w < 4294967296) (words_of Little bs)
+pub words-below : (bs : List ℕ) → AllByRecursion (λ b. b < 256) bs
+    → AllByRecursion (λ w. w < 4294967296) (words_of Little bs)
 words-below [] l = tt
 words-below (a ∷ []) l = tt
 words-below (a ∷ b ∷ []) l = tt

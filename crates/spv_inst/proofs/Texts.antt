@@ -1,11 +1,13 @@
 -- The words of a text tell the text, and the text its words.
-use Rattle.std.proofs.Common.{◌≡◌, ◌≢◌, ◌++◌, ◌∙◌, ◌<◌, ◌+◌, ◌*◌, ◌/◌, ◌%◌, ℕ, List, [], ◌∷◌, length, refl, sym, ap, arith, append_assoc, length-append}
+use Rattle.std.proofs.Common.{◌≡◌, ◌≢◌, ◌++◌, ◌∙◌, ◌<◌, ◌+◌, ◌*◌, ◌/◌, ◌%◌, ℕ, List, [], ◌∷◌, length, refl, sym, ap}
+use Rattle.std.proofs.Common.{arith, append_assoc, length-append}
 use Rattle.std.specs.List.{AllByRecursion}
 use Rattle.spv_module.specs.Spelling.{octets_of, HoldsText, AreZeros}
 
 pub octets-append : (ws us : List ℕ) → octets_of (ws ++ us) ≡ octets_of ws ++ octets_of us
 octets-append [] us = refl
-octets-append (w ∷ ws) us = ap (λ bs. (w % 256) ∷ (w / 256 % 256) ∷ (w / 65536 % 256) ∷ (w / 16777216 % 256) ∷ bs) (octets-append ws us)
+octets-append (w ∷ ws) us =
+    ap (λ bs. (w % 256) ∷ (w / 256 % 256) ∷ (w / 65536 % 256) ∷ (w / 16777216 % 256) ∷ bs) (octets-append ws us)
 
 pub length-octets : (ws : List ℕ) → length (octets_of ws) ≡ 4 * length ws
 length-octets [] = refl
@@ -16,7 +18,8 @@ pub record Both (A B : Type 0) : Type 0 where
   pub second : B
 
 -- the first zero is at one place
-pub before_zero : (t s p q : List ℕ) → AllByRecursion (λ b. b ≢ 0) t → AllByRecursion (λ b. b ≢ 0) s → t ++ (0 ∷ p) ≡ s ++ (0 ∷ q)
+pub before_zero : (t s p q : List ℕ) → AllByRecursion (λ b. b ≢ 0) t → AllByRecursion (λ b. b ≢ 0) s
+    → t ++ (0 ∷ p) ≡ s ++ (0 ∷ q)
     → Both (t ≡ s) (p ≡ q)
 before_zero [] [] p q h g e = record { first = refl; second = cc }
 before_zero [] (y ∷ s) p q h g e = let z : y ≡ 0 = cc in absurd (g.0 z)
@@ -45,7 +48,8 @@ pub word_same : (w v : ℕ) → w < 4294967296 → v < 4294967296 → w % 256 �
     → w / 65536 % 256 ≡ v / 65536 % 256 → w / 16777216 % 256 ≡ v / 16777216 % 256 → w ≡ v
 word_same w v h g a b c d = omega arith
 
-pub words_same : (ws vs : List ℕ) → AllByRecursion (λ w. w < 4294967296) ws → AllByRecursion (λ w. w < 4294967296) vs → octets_of ws ≡ octets_of vs → ws ≡ vs
+pub words_same : (ws vs : List ℕ) → AllByRecursion (λ w. w < 4294967296) ws → AllByRecursion (λ w. w < 4294967296) vs
+    → octets_of ws ≡ octets_of vs → ws ≡ vs
 words_same [] [] h g e = refl
 words_same [] (v ∷ vs) h g e = cc
 words_same (w ∷ ws) [] h g e = cc
@@ -77,9 +81,11 @@ pub record SameText (ws vs t s p q us xs : List ℕ) : Type 0 where
   pub paddings : p ≡ q
   pub rests : us ≡ xs
 
-pub text_same : (ws vs t s p q us xs : List ℕ) → HoldsText ws t p → HoldsText vs s q → ws ++ us ≡ vs ++ xs → SameText ws vs t s p q us xs
+pub text_same : (ws vs t s p q us xs : List ℕ) → HoldsText ws t p → HoldsText vs s q → ws ++ us ≡ vs ++ xs
+    → SameText ws vs t s p q us xs
 text_same ws vs t s p q us xs h g e =
-    let a : octets_of ws ++ octets_of us ≡ octets_of vs ++ octets_of xs = sym (octets-append ws us) ∙ (ap octets_of e ∙ octets-append vs xs) in
+    let a : octets_of ws ++ octets_of us ≡ octets_of vs ++ octets_of xs = sym (octets-append ws us)
+    ∙ (ap octets_of e ∙ octets-append vs xs) in
     let b : (t ++ (0 ∷ p)) ++ octets_of us ≡ (s ++ (0 ∷ q)) ++ octets_of xs = rw (h.octets, g.octets) at a in
     let d : t ++ (0 ∷ (p ++ octets_of us)) ≡ s ++ (0 ∷ (q ++ octets_of xs)) = simp append_assoc at b in
     let r = before_zero t s (p ++ octets_of us) (q ++ octets_of xs) h.no_zero g.no_zero d in
@@ -102,7 +108,8 @@ text_same ws vs t s p q us xs h g e =
         omega arith
 
 -- a text has one spelling
-pub spelling_same : (ws vs t s p q : List ℕ) → HoldsText ws t p → HoldsText vs s q → AreZeros p → AreZeros q → t ≡ s → ws ≡ vs
+pub spelling_same : (ws vs t s p q : List ℕ) → HoldsText ws t p → HoldsText vs s q → AreZeros p → AreZeros q → t ≡ s
+    → ws ≡ vs
 spelling_same ws vs t s p q h g z y e =
     let hp = h.short in
     let gq = g.short in

@@ -11,6 +11,7 @@ use crate::definitions::Definitions;
 use crate::instruction::{Read, read_instruction};
 use crate::pending::Pending;
 use crate::reader::Scene;
+use crate::room::room_for;
 use spv_module::{Inst, Module, Stop};
 use spv_table::Table;
 use spv_words::{Header, Image};
@@ -99,7 +100,7 @@ pub fn decode<'a>(alloc: Global, table: &Table, image: &'a Image) -> Result<Modu
 {
     let words = image.len() as usize;
     let mut module = with_room(alloc, image.header(), words / WORDS_FOR_EACH)?;
-    let mut definitions = Definitions::with_room(alloc, module.header.bound)?;
+    let mut definitions = room_for(alloc, table, image)?;
     let mut pending = Pending::new(alloc);
     let mut batch = Batch::with_room(alloc, words)?;
     read_all(

@@ -7,9 +7,11 @@ ghost use Rattle.spv_module.specs.Operand as operand;
 ghost use Rattle.spv_module.specs.Width as width;
 ghost use Rattle.spv_module.specs.Width.{definition_of, width_of, type_of};
 ghost use Rattle.spv_module.specs.Module.{plain_operands};
-ghost use Rattle.spv_inst.specs.inner.Known.{Knows, kept};
+ghost use Rattle.spv_ranks.specs.Rank.{at_rank, rank_in};
+ghost use Rattle.spv_inst.specs.inner.Known.{Knows, kept, kept_far};
 
 use spv_module::{Operand, opcode, result_in, type_in};
+use spv_ranks::Ranks;
 use std::alloc::{AllocError, Global};
 use std::collections::BTreeMap;
 
@@ -76,14 +78,18 @@ fn declared_width(opcode: u16, operands: &[Operand]) -> Option<u8>
 pub struct Definitions {
     /// At an id's place what is kept of it, if it was defined while the list could hold it.
     near: Vec<Option<Definition>>,
-    /// What is kept of the ids that were past the list's reach.
+    /// The ranks of ids past the list's reach, and at each rank what is kept.
+    ranks: Ranks,
+    ranked: Vec<Option<Definition>>,
+    /// What is kept of other ids that were past the list's reach.
     far: BTreeMap<u32, Definition>,
-    /// Below which ids the list may grow to hold them.
+    /// Below which ids the list may grow to hold them, and how much further for each definition.
     reach: u32,
+    step: u32,
 }
 
 /// How many ids the list holds however few definitions there are.
-const LEAST_REACH: u32 = 1024;
+pub(crate) const LEAST_REACH: u32 = 1024;
 
 /// How much further the list may reach for each definition.
 const REACH_FOR_EACH: u32 = 2;
@@ -121,8 +127,11 @@ impl Definitions {
     {
         Definitions {
             near: Vec::new(alloc),
+            ranks: Ranks::none(alloc),
+            ranked: Vec::new(alloc),
             far: BTreeMap::new(alloc),
             reach: LEAST_REACH,
+            step: REACH_FOR_EACH,
         }
     }
 
@@ -132,8 +141,26 @@ impl Definitions {
     {
         Ok(Definitions {
             near: Vec::with_capacity(alloc, bound.min(LEAST_REACH) as usize)?,
+            ranks: Ranks::none(alloc),
+            ranked: Vec::new(alloc),
             far: BTreeMap::new(alloc),
             reach: LEAST_REACH,
+            step: REACH_FOR_EACH,
+        })
+    }
+
+    /// The same, with a list that may grow for the ids below `reach` alone, and room for those that have a rank.
+    pub(crate) fn ranked(alloc: Global, reach: u32, ranks: Ranks) -> Result<Definitions, AllocError>
+        ensures { IfOk result (λ d. Knows d []) }
+    {
+        let ranked = vec![in alloc; None; ranks.len()]?;
+        Ok(Definitions {
+            near: Vec::new(alloc),
+            ranks,
+            ranked,
+            far: BTreeMap::new(alloc),
+            reach,
+            step: 0,
         })
     }
 
@@ -155,8 +182,38 @@ impl Definitions {
             self.near[place] = Some(definition);
             return Ok(());
         }
+        self.put_far(id, definition)
+    }
+
+    /// Keeps what is new of an id past the list. Where memory runs out, nothing is said of what is left.
+    #[cold]
+    #[inline(never)]
+    fn put_far(&mut self, id: u32, definition: Definition) -> Result<(), AllocError>
+        requires past { length self.old.near.items ≤ id }
+        ensures latest { OnOk result ((x : ℕ)
+            → kept self.new x ≡ (if nat_eq id x then Some definition else kept self.old x)) }
+        ensures reach { self.new.reach ≡ self.old.reach }
+    {
+        if let Some(place) = self.place_of(id) {
+            self.ranked[place] = Some(definition);
+            return Ok(());
+        }
         self.far.insert(id, definition)?;
         Ok(())
+    }
+
+    /// The place of an id's rank, if it has one.
+    #[inline(always)]
+    fn place_of(&self, id: u32) -> Option<usize>
+        ensures { MatchOption result (at_rank None self.now.ranked.items self.now.ranks id ≡ None)
+            (λ k. (rank_in self.now.ranks id ≡ Some k) × (k < length self.now.ranked.items)) }
+    {
+        let rank = self.ranks.rank(id)?;
+        if rank < self.ranked.len() {
+            Some(rank)
+        } else {
+            None
+        }
     }
 
     /// What is kept of an id.
@@ -165,7 +222,27 @@ impl Definitions {
     {
         match self.near.get(id as usize) {
             Some(Some(definition)) => Some(*definition),
-            _ => self.far.get(&id).copied(),
+            _ => self.latest_far(id),
+        }
+    }
+
+    /// What is kept of an id at its rank or in the map.
+    fn latest_far(&self, id: u32) -> Option<Definition>
+        ensures { result ≡ kept_far self.now id }
+    {
+        match self.at_rank(id) {
+            Some(definition) => Some(definition),
+            None => self.far.get(&id).copied(),
+        }
+    }
+
+    /// What is kept of an id at its rank.
+    fn at_rank(&self, id: u32) -> Option<Definition>
+        ensures { result ≡ at_rank None self.now.ranked.items self.now.ranks id }
+    {
+        match self.place_of(id) {
+            Some(place) => self.ranked[place],
+            None => None,
         }
     }
 
@@ -188,7 +265,7 @@ impl Definitions {
             is_float: opcode == opcode::TYPE_FLOAT,
             width: declared_width(opcode, operands),
         };
-        self.reach = self.reach.saturating_add(REACH_FOR_EACH);
+        self.reach = self.reach.saturating_add(self.step);
         self.put(id, definition)
     }
 
@@ -215,7 +292,7 @@ impl Definitions {
             is_float: opcode == opcode::TYPE_FLOAT,
             width: bits,
         };
-        self.reach = self.reach.saturating_add(REACH_FOR_EACH);
+        self.reach = self.reach.saturating_add(self.step);
         self.put(id, definition)
     }
 

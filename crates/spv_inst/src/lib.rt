@@ -17,6 +17,7 @@ mod pending;
 mod plain;
 mod reader;
 mod repeated;
+mod room;
 mod singles;
 mod text;
 mod words;

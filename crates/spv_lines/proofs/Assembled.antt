@@ -19,7 +19,9 @@ use Rattle.spv_lines.proofs.Reading.{line_same, read_moved, header_same, reads_o
 use Rattle.spv_lines.proofs.Failing.{further_once, read_or_failed}
 use Rattle.spv_lines.proofs.Showing.{text_back}
 
-line_spells : (G : Table) (before : List PlainInst) (i : PlainInst) (further line : List ℕ) → IsReadLine G before i further line → length further + 1 < 65536 → IsInstruction G before i (first_word i.opcode further ∷ further)
+line_spells : (G : Table) (before : List PlainInst) (i : PlainInst) (further line : List ℕ)
+    → IsReadLine G before i further line → length further + 1 < 65536
+    → IsInstruction G before i (first_word i.opcode further ∷ further)
 line_spells G before i further line a h = record {
   further = further;
   entry = a.entry;
@@ -28,19 +30,24 @@ line_spells G before i further line a h = record {
   spelled = refl;
   known = a.name.known;
   matches = flat_match G (start before i.opcode) (pattern_of a.entry) i.operands further
-      (forget (IsRead G) G (result_in i.operands) (start before i.opcode) (map due (pattern_of a.entry)) i.operands further a.parts.operands a.written);
+      (forget (IsRead G) G (result_in i.operands) (start before i.opcode)
+      (map due (pattern_of a.entry)) i.operands further a.parts.operands a.written);
 }
 
-lines_spell : (G : Table) (before is : List PlainInst) (ls : List (List ℕ)) (ws : List ℕ) → ReadLines G before is ls ws → Listing G before is ws
+lines_spell : (G : Table) (before is : List PlainInst) (ls : List (List ℕ)) (ws : List ℕ) → ReadLines G before is ls ws
+    → Listing G before is ws
 lines_spell G _ _ _ _ (ReadLines.end before) = Listing.end before
 lines_spell G _ _ _ _ (ReadLines.more before i is us l ws ls a h m) =
-    Listing.more before i is (first_word i.opcode us ∷ us) ws (line_spells G before i us l a (omega arith)) (lines_spell G (before ++ (i ∷ [])) is ls ws m)
+    Listing.more before i is (first_word i.opcode us ∷ us) ws (line_spells G before i us l a (omega arith))
+    (lines_spell G (before ++ (i ∷ [])) is ls ws m)
 
 -- the words of what is read spell it
-pub read_spells : (G : Table) (h : Header) (is : List PlainInst) (ws t : List ℕ) → IsReadText G h is ws t → IsListing G is ws
+pub read_spells : (G : Table) (h : Header) (is : List PlainInst) (ws t : List ℕ) → IsReadText G h is ws t
+    → IsListing G is ws
 read_spells G h is ws t a = lines_spell G [] is a.lines ws a.read
 
-words_same : (G : Table) (before is js : List PlainInst) (ls ms : List (List ℕ)) (ws vs : List ℕ) → ReadLines G before is ls ws → ReadLines G before js ms vs → ls ≡ ms → ws ≡ vs
+words_same : (G : Table) (before is js : List PlainInst) (ls ms : List (List ℕ)) (ws vs : List ℕ)
+    → ReadLines G before is ls ws → ReadLines G before js ms vs → ls ≡ ms → ws ≡ vs
 words_same G _ _ _ _ _ _ _ (ReadLines.end before) (ReadLines.end _) e = refl
 words_same G _ _ _ _ _ _ _ (ReadLines.end before) (ReadLines.more _ j js vs m ws ms b h n) e = cc
 words_same G _ _ _ _ _ _ _ (ReadLines.more before i is us l ws ls a h m) (ReadLines.end _) e = cc
@@ -53,20 +60,24 @@ words_same G _ _ _ _ _ _ _ (ReadLines.more before i is us l ws ls a h m) (ReadLi
     let o : i.opcode ≡ j.opcode = ap (λ z. z.opcode) x in
     cc
 
-pub read_words_once : (G : Table) (h k : Header) (is js : List PlainInst) (ws vs t : List ℕ) → IsReadText G h is ws t → IsReadText G k js vs t → ws ≡ vs
+pub read_words_once : (G : Table) (h k : Header) (is js : List PlainInst) (ws vs t : List ℕ) → IsReadText G h is ws t
+    → IsReadText G k js vs t → ws ≡ vs
 read_words_once G h k is js ws vs t a b =
     let e : header_lines h ++ a.lines ≡ header_lines k ++ b.lines = sym a.all ∙ b.all in
     let r = header_same h k a.lines b.lines a.header b.header a.generator b.generator e in
     words_same G [] is js a.lines b.lines ws vs a.read b.read r.second
 
 -- what is read of a shown text is what it shows, and nothing fails there
-pub shown_assembles : (G : Table) (h k : Header) (is js : List PlainInst) (ws vs t : List ℕ) → IsShownText G h is t → IsListing G is ws → AreWords ws → HeaderFits h → h.generator < 2 ^ 32 → 5 + length ws ≤ greatest_length
+pub shown_assembles : (G : Table) (h k : Header) (is js : List PlainInst) (ws vs t : List ℕ) → IsShownText G h is t
+    → IsListing G is ws → AreWords ws → HeaderFits h → h.generator < 2 ^ 32 → 5 + length ws ≤ greatest_length
     → IsReadText G k js vs t → (h ≡ k) × (is ≡ js) × (ws ≡ vs)
 shown_assembles G h k is js ws vs t a b w f g s x =
     let y = text_back G h is ws t a b w f g s in
     let z = reads_once G h k is js ws vs t y x in
     (z.0, z.1, read_words_once G h k is js ws vs t y x)
 
-pub shown_fails_not : (G : Table) (h : Header) (is : List PlainInst) (ws t : List ℕ) (a : AsmCode) (n : ℕ) → IsTidy G → IsShownText G h is t → IsListing G is ws → AreWords ws → HeaderFits h → h.generator < 2 ^ 32
+pub shown_fails_not : (G : Table) (h : Header) (is : List PlainInst) (ws t : List ℕ) (a : AsmCode) (n : ℕ) → IsTidy G
+    → IsShownText G h is t → IsListing G is ws → AreWords ws → HeaderFits h → h.generator < 2 ^ 32
     → 5 + length ws ≤ greatest_length → IsFailure G t a n → ⊥
-shown_fails_not G h is ws t a n tidy b c w f g s x = read_or_failed G h is ws t a n tidy (text_back G h is ws t b c w f g s) x
+shown_fails_not G h is ws t a n tidy b c w f g s x =
+    read_or_failed G h is ws t a n tidy (text_back G h is ws t b c w f g s) x

@@ -1,5 +1,6 @@
 -- A mask is the sum of its bits.
-use Rattle.std.proofs.Common.{◌≡◌, ◌∙◌, ◌<◌, ◌+◌, ◌*◌, ◌/◌, ◌%◌, ◌^◌, ℕ, zero, suc, List, [], ◌∷◌, Bool, true, false, nat_eq, refl, sym, ap, arith}
+use Rattle.std.proofs.Common.{◌≡◌, ◌∙◌, ◌<◌, ◌+◌, ◌*◌, ◌/◌, ◌%◌, ◌^◌, ℕ, zero, suc, List, [], ◌∷◌, Bool, true, false}
+use Rattle.std.proofs.Common.{nat_eq, refl, sym, ap, arith}
 use Rattle.std.specs.List.{filter}
 use Rattle.std.proofs.Math.Nat.{pow-succ', div-div-eq-div-mul}
 use Rattle.std.proofs.lemmas.Bool.Decides.{nat_tests}

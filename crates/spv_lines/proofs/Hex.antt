@@ -1,5 +1,6 @@
 -- Hexadecimal digits, read.
-use Rattle.std.proofs.Common.{◌≡◌, ◌≢◌, ◌++◌, ◌∙◌, ◌⊎◌, inl, inr, ◌<◌, ◌≤◌, ◌+◌, ◌-◌, ◌*◌, ◌/◌, ◌%◌, ◌^◌, ℕ, zero, suc, List, [], ◌∷◌, nat_lt, if◌then◌else◌, refl, sym, ap, arith}
+use Rattle.std.proofs.Common.{◌≡◌, ◌≢◌, ◌++◌, ◌∙◌, ◌⊎◌, inl, inr, ◌<◌, ◌≤◌, ◌+◌, ◌-◌, ◌*◌, ◌/◌, ◌%◌, ◌^◌, ℕ, zero, suc}
+use Rattle.std.proofs.Common.{List, [], ◌∷◌, nat_lt, if◌then◌else◌, refl, sym, ap, arith}
 use Rattle.std.proofs.Math.Nat.{pow-succ'}
 use Rattle.std.proofs.lemmas.Bool.Decides.{nat_tests}
 use Rattle.spv_lines.specs.Digits.{hex_digit, hex_digits}
@@ -29,14 +30,20 @@ hex_back (suc n) x h =
     let i = hex_back n (x / 16) l in
     let u = unhex_digit (x % 16) m in
     let p = after_push 0 (hex_digit (x % 16)) (hex_digits n (x / 16)) in
-    p ∙ (let f : 16 * hex_after 0 (hex_digits n (x / 16)) + unhex (hex_digit (x % 16)) ≡ 16 * (x / 16) + x % 16 = rw (i, u) refl in f ∙ (let g : 16 * (x / 16) + x % 16 ≡ x = omega arith in g))
+    p ∙ (let f : 16 * hex_after 0 (hex_digits n (x / 16)) + unhex (hex_digit (x % 16)) ≡ 16 * (x / 16) + x % 16 = rw
+    (i, u) refl in f ∙ (let g : 16 * (x / 16) + x % 16 ≡ x = omega arith in g))
 
 -- eight digits, read or not
-pub eight : (ds : List ℕ) → ((x : ℕ) × (x < 4294967296) × (ds ≡ hex_digits 8 x)) ⊎ ((x : ℕ) → x < 4294967296 → ds ≡ hex_digits 8 x → ⊥)
+pub eight : (ds : List ℕ)
+    → ((x : ℕ) × (x < 4294967296) × (ds ≡ hex_digits 8 x)) ⊎ ((x : ℕ) → x < 4294967296 → ds ≡ hex_digits 8 x → ⊥)
 eight ds = step (below_or_not (hex_after 0 ds) 4294967296) (lists_same_or_not ds (hex_digits 8 (hex_after 0 ds)))
   where
-    step : (hex_after 0 ds < 4294967296) ⊎ (4294967296 ≤ hex_after 0 ds) → (ds ≡ hex_digits 8 (hex_after 0 ds)) ⊎ (ds ≢ hex_digits 8 (hex_after 0 ds))
+    step : (hex_after 0 ds < 4294967296) ⊎ (4294967296 ≤ hex_after 0 ds)
+        → (ds ≡ hex_digits 8 (hex_after 0 ds)) ⊎ (ds ≢ hex_digits 8 (hex_after 0 ds))
         → ((x : ℕ) × (x < 4294967296) × (ds ≡ hex_digits 8 x)) ⊎ ((x : ℕ) → x < 4294967296 → ds ≡ hex_digits 8 x → ⊥)
     step (inl l) (inl e) = inl (hex_after 0 ds, l, e)
-    step (inl l) (inr n) = inr (λ x h e. let b = hex_back 8 x (omega arith) in let f : hex_after 0 ds ≡ x = ap (hex_after 0) e ∙ b in n (e ∙ ap (hex_digits 8) (sym f)))
-    step (inr l) k = inr (λ x h e. let b = hex_back 8 x (omega arith) in let f : hex_after 0 ds ≡ x = ap (hex_after 0) e ∙ b in omega arith)
+    step (inl l) (inr n) =
+        inr (λ x h e. let b = hex_back 8 x (omega arith) in let f : hex_after 0 ds ≡ x = ap (hex_after 0) e ∙ b in
+        n (e ∙ ap (hex_digits 8) (sym f)))
+    step (inr l) k = inr (λ x h e. let b = hex_back 8 x (omega arith) in
+        let f : hex_after 0 ds ≡ x = ap (hex_after 0) e ∙ b in omega arith)

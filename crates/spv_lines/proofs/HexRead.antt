@@ -1,5 +1,6 @@
 -- Eight hexadecimal digits that were read.
-use Rattle.std.proofs.Common.{◌≡◌, ◌≢◌, ◌++◌, ◌∙◌, ◌<◌, ◌≤◌, ◌+◌, ◌-◌, ◌*◌, ◌/◌, ◌%◌, ◌^◌, ℕ, zero, suc, List, [], ◌∷◌, length, take, get_or, refl, sym, ap, arith}
+use Rattle.std.proofs.Common.{◌≡◌, ◌≢◌, ◌++◌, ◌∙◌, ◌<◌, ◌≤◌, ◌+◌, ◌-◌, ◌*◌, ◌/◌, ◌%◌, ◌^◌, ℕ, zero, suc, List, [], ◌∷◌}
+use Rattle.std.proofs.Common.{length, take, get_or, refl, sym, ap, arith}
 use Rattle.std.specs.List.{AllByRecursion}
 use Rattle.std.proofs.lemmas.List.{take_more, take_all}
 use Rattle.std.proofs.Math.Nat.{pow-succ', pow-le-pow_right}
@@ -27,7 +28,8 @@ hex-append (x ∷ xs) ys h g = (h.0, hex-append xs ys h.1 g)
 are_hex : (n x : ℕ) → AreHex (hex_digits n x)
 unfolding hex_digits
 are_hex zero x = tt
-are_hex (suc n) x = hex-append (hex_digits n (x / 16)) (hex_digit (x % 16) ∷ []) (are_hex n (x / 16)) ((x % 16, omega arith, refl), tt)
+are_hex (suc n) x = hex-append (hex_digits n (x / 16)) (hex_digit (x % 16) ∷ []) (are_hex n (x / 16))
+    ((x % 16, omega arith, refl), tt)
 
 hex_at : (ds : List ℕ) (i : ℕ) → AreHex ds → i < length ds → (d : ℕ) × (d < 16) × (get_or ds i 0 ≡ hex_digit d)
 hex_at [] i h l = absurd (omega arith)
@@ -35,7 +37,8 @@ hex_at (b ∷ ds) zero h l = h.0
 hex_at (b ∷ ds) (suc i) h l = hex_at ds i h.1 (omega arith)
 
 -- an octet that is no digit is in no eight digits
-pub no_digit : (ds : List ℕ) (i x : ℕ) → i < length ds → ((d : ℕ) → d < 16 → get_or ds i 0 ≡ hex_digit d → ⊥) → ds ≡ hex_digits 8 x → ⊥
+pub no_digit : (ds : List ℕ) (i x : ℕ) → i < length ds → ((d : ℕ) → d < 16 → get_or ds i 0 ≡ hex_digit d → ⊥)
+    → ds ≡ hex_digits 8 x → ⊥
 no_digit ds i x l n e =
     let h : AreHex ds = rw e (are_hex 8 x) in
     let r = hex_at ds i h l in
@@ -53,7 +56,8 @@ pub hex_none : (ds : List ℕ) → HexSoFar ds 0 0
 unfolding hex_digits
 hex_none ds = record { digits = refl; below = omega arith }
 
-pub hex_more : (ds : List ℕ) (i x d : ℕ) → i < length ds → HexSoFar ds i x → d < 16 → get_or ds i 0 ≡ hex_digit d → HexSoFar ds (i + 1) (16 * x + d)
+pub hex_more : (ds : List ℕ) (i x d : ℕ) → i < length ds → HexSoFar ds i x → d < 16 → get_or ds i 0 ≡ hex_digit d
+    → HexSoFar ds (i + 1) (16 * x + d)
 unfolding hex_digits
 hex_more ds i x d l h g e =
     let s : i + 1 ≡ suc i = omega arith in
@@ -61,7 +65,8 @@ hex_more ds i x d l h g e =
     let b : (16 * x + d) % 16 ≡ d = omega arith in
     let f : hex_digits (suc i) (16 * x + d) ≡ hex_digits i x ++ (hex_digit d ∷ []) = rw (a, b) refl in
     let m : take (i + 1) ds ≡ take i ds ++ (get_or ds i 0 ∷ []) = take_more ds i 0 l in
-    let k : take i ds ++ (get_or ds i 0 ∷ []) ≡ hex_digits i x ++ (hex_digit d ∷ []) = ap (λ z. z ++ (get_or ds i 0 ∷ [])) h.digits ∙ ap (λ z. hex_digits i x ++ (z ∷ [])) e in
+    let k : take i ds ++ (get_or ds i 0 ∷ []) ≡ hex_digits i x
+    ++ (hex_digit d ∷ []) = ap (λ z. z ++ (get_or ds i 0 ∷ [])) h.digits ∙ ap (λ z. hex_digits i x ++ (z ∷ [])) e in
     let p = pow-succ' 16 i in
     let q = h.below in
     record {
@@ -76,7 +81,8 @@ hex_bound ds i x l h =
     let g = h.below in
     omega (arith, f)
 
-pub hex_done : (ds : List ℕ) (i x : ℕ) → length ds ≡ 8 → length ds ≤ i → HexSoFar ds i x → (x < 2 ^ 32) × (ds ≡ hex_digits 8 x)
+pub hex_done : (ds : List ℕ) (i x : ℕ) → length ds ≡ 8 → length ds ≤ i → HexSoFar ds i x
+    → (x < 2 ^ 32) × (ds ≡ hex_digits 8 x)
 hex_done ds i x n l h =
     let t = take_all i ds l in
     let e : ds ≡ hex_digits i x = sym t ∙ h.digits in

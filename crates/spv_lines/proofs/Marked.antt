@@ -1,5 +1,6 @@
 -- What stands before a space, and numbers behind a mark: decided.
-use Rattle.std.proofs.Common.{◌≡◌, ◌≢◌, ◌++◌, ◌⊎◌, inl, inr, ◌<◌, ◌≤◌, ◌^◌, ℕ, List, [], ◌∷◌, Bool, true, false, refl, sym, ap, arith}
+use Rattle.std.proofs.Common.{◌≡◌, ◌≢◌, ◌++◌, ◌⊎◌, inl, inr, ◌<◌, ◌≤◌, ◌^◌, ℕ, List, [], ◌∷◌, Bool, true, false, refl}
+use Rattle.std.proofs.Common.{sym, ap, arith}
 use Rattle.std.specs.Prelude.{decimal}
 use Rattle.std.specs.List.{AllByRecursion}
 use Rattle.std.proofs.lemmas.Bool.Decides.{nat_tests}
@@ -62,9 +63,16 @@ token_of (b ∷ u) = step (same_or_not b 32) (token_of u)
   where
     step : (b ≡ 32) ⊎ (b ≢ 32) → Token u → Token (b ∷ u)
     step (inl e) k = record { token = []; rest = b ∷ u; all = refl; spaceless = tt; broken = rw e (at_space u) }
-    step (inr n) k = record { token = b ∷ k.token; rest = k.rest; all = ap (λ z. b ∷ z) k.all; spaceless = (n, k.spaceless); broken = k.broken }
+    step (inr n) k = record {
+      token = b ∷ k.token;
+      rest = k.rest;
+      all = ap (λ z. b ∷ z) k.all;
+      spaceless = (n, k.spaceless);
+      broken = k.broken;
+    }
 
-pub whole_same : (a b t u : List ℕ) → NoSpace a → NoSpace b → IsBreak t → IsBreak u → a ++ t ≡ b ++ u → Both (a ≡ b) (t ≡ u)
+pub whole_same : (a b t u : List ℕ) → NoSpace a → NoSpace b → IsBreak t → IsBreak u → a ++ t ≡ b ++ u
+    → Both (a ≡ b) (t ≡ u)
 whole_same [] [] t u h g i j e = record { first = refl; second = e }
 whole_same [] (y ∷ b) _ u h g at_end j e = cc
 whole_same [] (y ∷ b) _ u h g (at_space t) j e = let z : 32 ≡ y = cc in absurd (g.0 (sym z))

@@ -1,5 +1,6 @@
 -- The bits of a mask, one position after the other.
-use Rattle.std.proofs.Common.{◌≡◌, ◌≢◌, ◌++◌, ◌∙◌, ◌<◌, ◌≤◌, ◌+◌, ◌-◌, ◌*◌, ◌/◌, ◌%◌, ◌^◌, ℕ, zero, suc, List, [], ◌∷◌, Bool, true, false, nat_eq, refl, sym, ap, arith, append-nil}
+use Rattle.std.proofs.Common.{◌≡◌, ◌≢◌, ◌++◌, ◌∙◌, ◌<◌, ◌≤◌, ◌+◌, ◌-◌, ◌*◌, ◌/◌, ◌%◌, ◌^◌, ℕ, zero, suc, List, [], ◌∷◌}
+use Rattle.std.proofs.Common.{Bool, true, false, nat_eq, refl, sym, ap, arith, append-nil}
 use Rattle.std.specs.Prelude.{if◌then◌else◌}
 use Rattle.std.specs.List.{filter}
 use Rattle.std.proofs.Math.Nat.{pow-succ', div-div-eq-div-mul, add-mul-div_left}
@@ -23,13 +24,16 @@ bits_split (suc a) n b =
     rw (e, f) (ap (λ z. b ∷ z) (bits_split a n (2 * b)))
   where
     times : (b w : ℕ) → b * (2 * w) ≡ (2 * b) * w
-    times b w = let e = Rattle.std.proofs.Math.Nat.mul_assoc b 2 w in let f : b * 2 ≡ 2 * b = omega arith in sym e ∙ ap (λ z. z * w) f
+    times b w = let e = Rattle.std.proofs.Math.Nat.mul_assoc b 2 w in let f : b * 2 ≡ 2 * b = omega arith in
+        sym e ∙ ap (λ z. z * w) f
 
 filter_append : (f : ℕ → Bool) (xs ys : List ℕ) → filter f (xs ++ ys) ≡ filter f xs ++ filter f ys
 filter_append f [] ys = refl
 filter_append f (x ∷ xs) ys = step (f x) (filter_append f xs ys)
   where
-    step : (t : Bool) → filter f (xs ++ ys) ≡ filter f xs ++ filter f ys → (if t then x ∷ filter f (xs ++ ys) else filter f (xs ++ ys)) ≡ (if t then x ∷ filter f xs else filter f xs) ++ filter f ys
+    step : (t : Bool) → filter f (xs ++ ys) ≡ filter f xs ++ filter f ys
+        → (if t then x ∷ filter f (xs ++ ys) else filter f (xs ++ ys)) ≡ (if t then x ∷ filter f xs else filter f xs)
+        ++ filter f ys
     step true e = ap (λ z. x ∷ z) e
     step false e = e
 
@@ -57,7 +61,8 @@ kept_below (suc a) b m v h e =
     rw (k, j) refl
   where
     times : (b w : ℕ) → b * (2 * w) ≡ (2 * b) * w
-    times b w = let e = Rattle.std.proofs.Math.Nat.mul_assoc b 2 w in let f : b * 2 ≡ 2 * b = omega arith in sym e ∙ ap (λ z. z * w) f
+    times b w = let e = Rattle.std.proofs.Math.Nat.mul_assoc b 2 w in let f : b * 2 ≡ 2 * b = omega arith in
+        sym e ∙ ap (λ z. z * w) f
 
 halved : (mask b : ℕ) → mask / b ≡ 0 → mask / (2 * b) ≡ 0
 halved mask b h =
@@ -89,7 +94,8 @@ pub clear_more : (p m : ℕ) → m < 2 ^ p → bits_in (p + 1) 1 m ≡ bits_in p
 clear_more p m h =
     let z = below_none m (2 ^ p) (power_some p) h in
     let f : is_set m (2 ^ p) ≡ false = rw z refl in
-    bits_more p m ∙ (let g : bits_in p 1 m ++ (if is_set m (2 ^ p) then 2 ^ p ∷ [] else []) ≡ bits_in p 1 m ++ [] = rw f refl in g ∙ append-nil (bits_in p 1 m))
+    bits_more p m ∙ (let g : bits_in p 1 m ++ (if is_set m (2 ^ p) then 2 ^ p ∷ [] else []) ≡ bits_in p 1 m
+    ++ [] = rw f refl in g ∙ append-nil (bits_in p 1 m))
 
 one_whole : (m b : ℕ) → 0 < b → m < b → (m + b) / b ≡ 1
 one_whole m b h g =
@@ -111,9 +117,12 @@ pub all_below : (p x : ℕ) → p ≤ 32 → x < 2 ^ p → set_bits x ≡ bits_i
 all_below p x h g =
     let n : 32 ≡ p + (32 - p) = omega arith in
     let one : 1 * 2 ^ p ≡ 2 ^ p = omega arith in
-    let s : bits_from 32 1 ≡ bits_from p 1 ++ bits_from (32 - p) (2 ^ p) = ap (λ k. bits_from k 1) n ∙ (rw one at (bits_split p (32 - p) 1)) in
+    let s : bits_from 32 1 ≡ bits_from p 1 ++ bits_from (32 - p) (2 ^ p) = ap (λ k. bits_from k 1) n
+    ∙ (rw one at (bits_split p (32 - p) 1)) in
     let z = none_left x (32 - p) (2 ^ p) (below_none x (2 ^ p) (power_some p) g) in
-    ap (filter (λ b. nat_eq (x / b % 2) 1)) s ∙ (filter_append (λ b. nat_eq (x / b % 2) 1) (bits_from p 1) (bits_from (32 - p) (2 ^ p)) ∙ (ap (λ z. bits_in p 1 x ++ z) z ∙ append-nil (bits_in p 1 x)))
+    ap (filter (λ b. nat_eq (x / b % 2) 1)) s
+    ∙ (filter_append (λ b. nat_eq (x / b % 2) 1) (bits_from p 1) (bits_from (32 - p) (2 ^ p))
+    ∙ (ap (λ z. bits_in p 1 x ++ z) z ∙ append-nil (bits_in p 1 x)))
 
 pub doubled : (p m : ℕ) → m < 2 ^ p → m + 2 ^ p < 2 ^ (p + 1)
 doubled p m h = let e : p + 1 ≡ suc p = omega arith in let f = pow-succ' 2 p in rw (e, f) (omega arith)
@@ -129,7 +138,9 @@ fits_word p m l h =
     omega (arith, f)
 
 -- the bits from a position up
-upper : (p x : ℕ) → p < 32 → bits_in (32 - p) (2 ^ p) x ≡ (if is_set x (2 ^ p) then 2 ^ p ∷ bits_in (32 - (p + 1)) (2 ^ (p + 1)) x else bits_in (32 - (p + 1)) (2 ^ (p + 1)) x)
+upper : (p x : ℕ) → p < 32
+    → bits_in (32 - p) (2 ^ p) x ≡ (if is_set x (2 ^ p) then 2 ^ p
+    ∷ bits_in (32 - (p + 1)) (2 ^ (p + 1)) x else bits_in (32 - (p + 1)) (2 ^ (p + 1)) x)
 upper p x h =
     let n : 32 - p ≡ suc (32 - (p + 1)) = omega arith in
     let e : p + 1 ≡ suc p = omega arith in
@@ -154,23 +165,32 @@ at_least (suc n) b x y ys h e = by (is_set x b) refl (λ f. at_least n (2 * b) x
         later g
 
 -- the least bit from a position up is that of a later one
-pub later_bit : (p x y : ℕ) (ys : List ℕ) → p < 32 → y ≢ 2 ^ p → bits_in (32 - p) (2 ^ p) x ≡ y ∷ ys → bits_in (32 - (p + 1)) (2 ^ (p + 1)) x ≡ y ∷ ys
+pub later_bit : (p x y : ℕ) (ys : List ℕ) → p < 32 → y ≢ 2 ^ p → bits_in (32 - p) (2 ^ p) x ≡ y ∷ ys
+    → bits_in (32 - (p + 1)) (2 ^ (p + 1)) x ≡ y ∷ ys
 later_bit p x y ys h n e = step (is_set x (2 ^ p)) refl (sym (upper p x h) ∙ e)
   where
-    step : (t : Bool) → is_set x (2 ^ p) ≡ t → (if is_set x (2 ^ p) then 2 ^ p ∷ bits_in (32 - (p + 1)) (2 ^ (p + 1)) x else bits_in (32 - (p + 1)) (2 ^ (p + 1)) x) ≡ y ∷ ys → bits_in (32 - (p + 1)) (2 ^ (p + 1)) x ≡ y ∷ ys
-    step true f g = let k : 2 ^ p ∷ bits_in (32 - (p + 1)) (2 ^ (p + 1)) x ≡ y ∷ ys = rw f at g in let i : 2 ^ p ≡ y = cc in absurd (n (sym i))
+    step : (t : Bool) → is_set x (2 ^ p) ≡ t
+        → (if is_set x (2 ^ p) then 2 ^ p ∷ bits_in (32 - (p + 1)) (2 ^ (p + 1)) x else bits_in (32 - (p + 1))
+        (2 ^ (p + 1)) x) ≡ y ∷ ys → bits_in (32 - (p + 1)) (2 ^ (p + 1)) x ≡ y ∷ ys
+    step true f g = let k : 2 ^ p ∷ bits_in (32 - (p + 1)) (2 ^ (p + 1)) x ≡ y ∷ ys = rw f at g in
+        let i : 2 ^ p ≡ y = cc in absurd (n (sym i))
     step false f g = rw f at g
 
 -- it is that of the position
-pub this_bit : (p x : ℕ) (ys : List ℕ) → p < 32 → bits_in (32 - p) (2 ^ p) x ≡ 2 ^ p ∷ ys → bits_in (32 - (p + 1)) (2 ^ (p + 1)) x ≡ ys
+pub this_bit : (p x : ℕ) (ys : List ℕ) → p < 32 → bits_in (32 - p) (2 ^ p) x ≡ 2 ^ p ∷ ys
+    → bits_in (32 - (p + 1)) (2 ^ (p + 1)) x ≡ ys
 this_bit p x ys h e = step (is_set x (2 ^ p)) refl (sym (upper p x h) ∙ e)
   where
     less : 2 ^ p < 2 ^ (p + 1)
-    less = let a = power_some p in let e : p + 1 ≡ suc p = omega arith in let f = pow-succ' 2 p in rw (e, f) (omega arith)
+    less = let a = power_some p in let e : p + 1 ≡ suc p = omega arith in let f = pow-succ' 2 p in
+        rw (e, f) (omega arith)
 
-    step : (t : Bool) → is_set x (2 ^ p) ≡ t → (if is_set x (2 ^ p) then 2 ^ p ∷ bits_in (32 - (p + 1)) (2 ^ (p + 1)) x else bits_in (32 - (p + 1)) (2 ^ (p + 1)) x) ≡ 2 ^ p ∷ ys → bits_in (32 - (p + 1)) (2 ^ (p + 1)) x ≡ ys
+    step : (t : Bool) → is_set x (2 ^ p) ≡ t
+        → (if is_set x (2 ^ p) then 2 ^ p ∷ bits_in (32 - (p + 1)) (2 ^ (p + 1)) x else bits_in (32 - (p + 1))
+        (2 ^ (p + 1)) x) ≡ 2 ^ p ∷ ys → bits_in (32 - (p + 1)) (2 ^ (p + 1)) x ≡ ys
     step true f g = let k : 2 ^ p ∷ bits_in (32 - (p + 1)) (2 ^ (p + 1)) x ≡ 2 ^ p ∷ ys = rw f at g in cc
-    step false f g = let k : bits_in (32 - (p + 1)) (2 ^ (p + 1)) x ≡ 2 ^ p ∷ ys = rw f at g in absurd (at_least (32 - (p + 1)) (2 ^ (p + 1)) x (2 ^ p) ys less k)
+    step false f g = let k : bits_in (32 - (p + 1)) (2 ^ (p + 1)) x ≡ 2 ^ p ∷ ys = rw f at g in
+        absurd (at_least (32 - (p + 1)) (2 ^ (p + 1)) x (2 ^ p) ys less k)
 
 pub none_above : (p x y : ℕ) (ys : List ℕ) → 32 ≤ p → bits_in (32 - p) (2 ^ p) x ≡ y ∷ ys → ⊥
 none_above p x y ys h e =

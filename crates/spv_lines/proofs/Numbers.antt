@@ -1,9 +1,11 @@
 -- Well-formed decimal numbers are what decimal writes.
-use Rattle.std.proofs.Common.{◌≡◌, ◌<◌, ◌≤◌, ◌^◌, ℕ, zero, suc, List, [], ◌∷◌, Bool, true, false, not, ◌&&◌, nat_eq, length, get_or, refl, arith}
+use Rattle.std.proofs.Common.{◌≡◌, ◌<◌, ◌≤◌, ◌^◌, ℕ, zero, suc, List, [], ◌∷◌, Bool, true, false, not, ◌&&◌, nat_eq}
+use Rattle.std.proofs.Common.{length, get_or, refl, arith}
 use Rattle.std.specs.Prelude.{decimal}
 use Rattle.std.specs.List.{list_all}
 use Rattle.std.proofs.lemmas.Bool.Decides.{nat_tests}
-use Rattle.std.proofs.lemmas.Fmt.{decimal_digit, first_decimal, decimal_nonempty, digits_decimal, digits_value-decimal, decimal-digits_value}
+use Rattle.std.proofs.lemmas.Fmt.{decimal_digit, first_decimal, decimal_nonempty, digits_decimal, digits_value-decimal}
+use Rattle.std.proofs.lemmas.Fmt.{decimal-digits_value}
 use Rattle.std.proofs.lemmas.Str.Parse.{IsDigitsTest, FoldsDigits, IsNumeralModel, numerals_by_fold}
 use Rattle.spv_lines.specs.Digits.{is_digit, is_lean, is_number, value, value_after, IsLarge}
 use Rattle.spv_lines.proofs.Tame.{Both, AreTame}
@@ -66,7 +68,8 @@ join : (a b : Bool) → a ≡ true → b ≡ true → (a && b) ≡ true
 join a b h g = rw (h, g) refl
 
 pub decimal_number : (n : ℕ) → n < 2 ^ 64 → is_number (decimal n) ≡ true
-decimal_number n h = join (is_lean (decimal n)) (list_all is_digit (decimal n)) (decimal_lean n h) (digits_decimal own n h)
+decimal_number n h = join (is_lean (decimal n)) (list_all is_digit (decimal n)) (decimal_lean n h)
+    (digits_decimal own n h)
 
 pub decimal_value : (n : ℕ) → n < 2 ^ 64 → value (decimal n) ≡ n
 decimal_value n h = digits_value-decimal own n h

@@ -9,7 +9,8 @@ use Rattle.spv_lines.proofs.Reader.{SoFar, number_by}
 whole : (xs : List ℕ) (i : ℕ) → length xs ≤ i → take i xs ≡ xs
 whole xs i h = Rattle.std.proofs.lemmas.List.take_all i xs h
 
-pub long_number : (xs : List ℕ) (i n : ℕ) (o : Option ℕ) → length xs ≤ i → is_lean xs ≡ true → list_all is_digit (take i xs) ≡ true → SoFar o (value (take i xs)) → o ≡ Some n → (n < 2 ^ 64) × (xs ≡ decimal n)
+pub long_number : (xs : List ℕ) (i n : ℕ) (o : Option ℕ) → length xs ≤ i → is_lean xs ≡ true
+    → list_all is_digit (take i xs) ≡ true → SoFar o (value (take i xs)) → o ≡ Some n → (n < 2 ^ 64) × (xs ≡ decimal n)
 long_number xs i n o h l d s e =
     let w = whole xs i h in
     let d' : list_all is_digit xs ≡ true = rw w at d in
@@ -19,7 +20,8 @@ long_number xs i n o h l d s e =
     let m : value xs < 2 ^ 64 = omega arith in
     (b, sym (number_decimal xs (number_by xs l d') m) ∙ ap decimal v)
 
-pub long_large : (xs : List ℕ) (i : ℕ) (o : Option ℕ) → length xs ≤ i → is_lean xs ≡ true → list_all is_digit (take i xs) ≡ true → SoFar o (value (take i xs)) → o ≡ None → IsLarge (2 ^ 64) xs
+pub long_large : (xs : List ℕ) (i : ℕ) (o : Option ℕ) → length xs ≤ i → is_lean xs ≡ true
+    → list_all is_digit (take i xs) ≡ true → SoFar o (value (take i xs)) → o ≡ None → IsLarge (2 ^ 64) xs
 long_large xs i o h l d s e =
     let w = whole xs i h in
     let d' : list_all is_digit xs ≡ true = rw w at d in

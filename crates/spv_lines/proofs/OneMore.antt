@@ -1,9 +1,11 @@
 -- The result and the result type of operands, with one operand more.
 use Rattle.std.proofs.Common.{◌≡◌, ◌++◌, List, [], ◌∷◌, refl}
 use Rattle.std.specs.Option.{option_or}
-use Rattle.spv_module.specs.Operand.{Plain, OfType, Result, Id, Word, Number, Text, Value, Mask, Argument, Mention, result_in, type_in}
+use Rattle.spv_module.specs.Operand.{Plain, OfType, Result, Id, Word, Number, Text, Value, Mask, Argument, Mention}
+use Rattle.spv_module.specs.Operand.{result_in, type_in}
 
-pub result_snoc : (os : List Plain) (o : Plain) → option_or (result_in os) (result_in (o ∷ [])) ≡ result_in (os ++ (o ∷ []))
+pub result_snoc : (os : List Plain) (o : Plain)
+    → option_or (result_in os) (result_in (o ∷ [])) ≡ result_in (os ++ (o ∷ []))
 result_snoc [] o = refl
 result_snoc (OfType x ∷ os) o = result_snoc os o
 result_snoc (Result x ∷ os) o = refl

@@ -28,13 +28,15 @@ begins u (b ∷ t) rest e = step (escaped (b ∷ t)) (escape_of b t) e
     step out (Escape.feed d f) e = Begins.feed t rest (e ∙ ap (λ o. o ++ (34 ∷ rest)) f)
     step out (Escape.plain n m k f) e = Begins.plain b t rest n m k (e ∙ ap (λ o. o ++ (34 ∷ rest)) f)
 
-escaped_one : (b : ℕ) (t rest out : List ℕ) → Escape b t out → b ≡ 34 → out ++ (34 ∷ rest) ≡ 92 ∷ 34 ∷ (escaped t ++ (34 ∷ rest))
+escaped_one : (b : ℕ) (t rest out : List ℕ) → Escape b t out → b ≡ 34
+    → out ++ (34 ∷ rest) ≡ 92 ∷ 34 ∷ (escaped t ++ (34 ∷ rest))
 escaped_one b t rest out (Escape.quote d f) e = ap (λ o. o ++ (34 ∷ rest)) f
 escaped_one b t rest out (Escape.slash d f) e = absurd (omega arith)
 escaped_one b t rest out (Escape.feed d f) e = absurd (omega arith)
 escaped_one b t rest out (Escape.plain n m k f) e = absurd (n e)
 
-plain_one : (b : ℕ) (t rest out : List ℕ) → Escape b t out → b ≢ 34 → b ≢ 92 → b ≢ 10 → out ++ (34 ∷ rest) ≡ b ∷ (escaped t ++ (34 ∷ rest))
+plain_one : (b : ℕ) (t rest out : List ℕ) → Escape b t out → b ≢ 34 → b ≢ 92 → b ≢ 10
+    → out ++ (34 ∷ rest) ≡ b ∷ (escaped t ++ (34 ∷ rest))
 plain_one b t rest out (Escape.quote d f) n m k = absurd (n d)
 plain_one b t rest out (Escape.slash d f) n m k = absurd (m d)
 plain_one b t rest out (Escape.feed d f) n m k = absurd (k d)
@@ -44,7 +46,8 @@ heads_of : (a b : ℕ) (x y : List ℕ) → a ∷ x ≡ b ∷ y → Both (a ≡ 
 heads_of = first_same
 
 -- the second octet of an escape, and what stands behind it
-pair : (c : ℕ) (u : List ℕ) → Closes u → (c ≡ 34) ⊎ (c ≢ 34) → (c ≡ 92) ⊎ (c ≢ 92) → (c ≡ 110) ⊎ (c ≢ 110) → Closes (92 ∷ c ∷ u)
+pair : (c : ℕ) (u : List ℕ) → Closes u → (c ≡ 34) ⊎ (c ≢ 34) → (c ≡ 92) ⊎ (c ≢ 92) → (c ≡ 110) ⊎ (c ≢ 110)
+    → Closes (92 ∷ c ∷ u)
 pair c u (Closes.found t rest e) (inl i) y z = Closes.found (34 ∷ t) rest (rw i (ap (λ v. 92 ∷ 34 ∷ v) e))
 pair c u (Closes.found t rest e) (inr i) (inl j) z = Closes.found (92 ∷ t) rest (rw j (ap (λ v. 92 ∷ 92 ∷ v) e))
 pair c u (Closes.found t rest e) (inr i) (inr j) (inl k) = Closes.found (10 ∷ t) rest (rw k (ap (λ v. 92 ∷ 110 ∷ v) e))
@@ -52,21 +55,34 @@ pair c u (Closes.found t rest e) (inr i) (inr j) (inr k) = Closes.none (λ s r f
   where
     wrong : Begins (92 ∷ c ∷ u) → ⊥
     wrong (Begins.ends r f) = let g = (heads_of 92 34 (c ∷ u) r f).first in omega arith
-    wrong (Begins.quote s r f) = i (heads_of c 34 u (escaped s ++ (34 ∷ r)) (heads_of 92 92 (c ∷ u) (34 ∷ (escaped s ++ (34 ∷ r))) f).second).first
-    wrong (Begins.slash s r f) = j (heads_of c 92 u (escaped s ++ (34 ∷ r)) (heads_of 92 92 (c ∷ u) (92 ∷ (escaped s ++ (34 ∷ r))) f).second).first
-    wrong (Begins.feed s r f) = k (heads_of c 110 u (escaped s ++ (34 ∷ r)) (heads_of 92 92 (c ∷ u) (110 ∷ (escaped s ++ (34 ∷ r))) f).second).first
+    wrong (Begins.quote s r f) =
+        i (heads_of c 34 u (escaped s ++ (34 ∷ r))
+        (heads_of 92 92 (c ∷ u) (34 ∷ (escaped s ++ (34 ∷ r))) f).second).first
+    wrong (Begins.slash s r f) =
+        j (heads_of c 92 u (escaped s ++ (34 ∷ r))
+        (heads_of 92 92 (c ∷ u) (92 ∷ (escaped s ++ (34 ∷ r))) f).second).first
+    wrong (Begins.feed s r f) =
+        k (heads_of c 110 u (escaped s ++ (34 ∷ r))
+        (heads_of 92 92 (c ∷ u) (110 ∷ (escaped s ++ (34 ∷ r))) f).second).first
     wrong (Begins.plain b s r n m o f) = m (sym (heads_of 92 b (c ∷ u) (escaped s ++ (34 ∷ r)) f).first)
 pair c u (Closes.none n) x y z = Closes.none (λ s r f. wrong (begins (92 ∷ c ∷ u) s r f))
   where
     wrong : Begins (92 ∷ c ∷ u) → ⊥
     wrong (Begins.ends r f) = let g = (heads_of 92 34 (c ∷ u) r f).first in omega arith
-    wrong (Begins.quote s r f) = n s r (heads_of c 34 u (escaped s ++ (34 ∷ r)) (heads_of 92 92 (c ∷ u) (34 ∷ (escaped s ++ (34 ∷ r))) f).second).second
-    wrong (Begins.slash s r f) = n s r (heads_of c 92 u (escaped s ++ (34 ∷ r)) (heads_of 92 92 (c ∷ u) (92 ∷ (escaped s ++ (34 ∷ r))) f).second).second
-    wrong (Begins.feed s r f) = n s r (heads_of c 110 u (escaped s ++ (34 ∷ r)) (heads_of 92 92 (c ∷ u) (110 ∷ (escaped s ++ (34 ∷ r))) f).second).second
+    wrong (Begins.quote s r f) =
+        n s r (heads_of c 34 u (escaped s ++ (34 ∷ r))
+        (heads_of 92 92 (c ∷ u) (34 ∷ (escaped s ++ (34 ∷ r))) f).second).second
+    wrong (Begins.slash s r f) =
+        n s r (heads_of c 92 u (escaped s ++ (34 ∷ r))
+        (heads_of 92 92 (c ∷ u) (92 ∷ (escaped s ++ (34 ∷ r))) f).second).second
+    wrong (Begins.feed s r f) =
+        n s r (heads_of c 110 u (escaped s ++ (34 ∷ r))
+        (heads_of 92 92 (c ∷ u) (110 ∷ (escaped s ++ (34 ∷ r))) f).second).second
     wrong (Begins.plain b s r k m o f) = m (sym (heads_of 92 b (c ∷ u) (escaped s ++ (34 ∷ r)) f).first)
 
 single : (b : ℕ) (u : List ℕ) → Closes u → b ≢ 34 → b ≢ 92 → (b ≡ 10) ⊎ (b ≢ 10) → Closes (b ∷ u)
-single b u (Closes.found t rest e) n m (inr k) = Closes.found (b ∷ t) rest (ap (λ v. b ∷ v) e ∙ sym (plain_one b t rest (escaped (b ∷ t)) (escape_of b t) n m k))
+single b u (Closes.found t rest e) n m (inr k) =
+    Closes.found (b ∷ t) rest (ap (λ v. b ∷ v) e ∙ sym (plain_one b t rest (escaped (b ∷ t)) (escape_of b t) n m k))
 single b u c n m (inl k) = Closes.none (λ s r f. wrong (begins (b ∷ u) s r f))
   where
     wrong : Begins (b ∷ u) → ⊥
@@ -99,7 +115,8 @@ lone b (inr n) = Closes.none (λ s r f. wrong (begins (b ∷ []) s r f))
     wrong (Begins.feed s r f) = let g = (heads_of b 92 [] (110 ∷ (escaped s ++ (34 ∷ r))) f).second in cc
     wrong (Begins.plain x s r h i o f) = no_cell 34 (escaped s) r (heads_of b x [] (escaped s ++ (34 ∷ r)) f).second
 
-two : (b c : ℕ) (u : List ℕ) → Closes u → Closes (c ∷ u) → (b ≡ 34) ⊎ (b ≢ 34) → (b ≡ 92) ⊎ (b ≢ 92) → Closes (b ∷ c ∷ u)
+two : (b c : ℕ) (u : List ℕ) → Closes u → Closes (c ∷ u) → (b ≡ 34) ⊎ (b ≢ 34) → (b ≡ 92) ⊎ (b ≢ 92)
+    → Closes (b ∷ c ∷ u)
 two b c u x y (inl e) z = Closes.found [] (c ∷ u) (ap (λ v. v ∷ c ∷ u) e)
 two b c u x y (inr n) (inl e) = rw e (pair c u x (same_or_not c 34) (same_or_not c 92) (same_or_not c 110))
 two b c u x y (inr n) (inr m) = single b (c ∷ u) y n m (same_or_not b 10)
@@ -126,6 +143,9 @@ quotes [] = Quotes.none (λ t rest e. let f = e ∙ open_quote t rest in cc)
 quotes (b ∷ u) = step (same_or_not b 34) (closes u)
   where
     step : (b ≡ 34) ⊎ (b ≢ 34) → Closes u → Quotes (b ∷ u)
-    step (inl e) (Closes.found t rest f) = Quotes.found t rest (let g : b ∷ u ≡ 34 ∷ (escaped t ++ (34 ∷ rest)) = cc in g ∙ sym (open_quote t rest))
-    step (inl e) (Closes.none n) = Quotes.none (λ t rest f. n t rest (heads_of b 34 u (escaped t ++ (34 ∷ rest)) (f ∙ open_quote t rest)).second)
-    step (inr n) c = Quotes.none (λ t rest f. n (heads_of b 34 u (escaped t ++ (34 ∷ rest)) (f ∙ open_quote t rest)).first)
+    step (inl e) (Closes.found t rest f) =
+        Quotes.found t rest (let g : b ∷ u ≡ 34 ∷ (escaped t ++ (34 ∷ rest)) = cc in g ∙ sym (open_quote t rest))
+    step (inl e) (Closes.none n) =
+        Quotes.none (λ t rest f. n t rest (heads_of b 34 u (escaped t ++ (34 ∷ rest)) (f ∙ open_quote t rest)).second)
+    step (inr n) c = Quotes.none (λ t rest f. n
+        (heads_of b 34 u (escaped t ++ (34 ∷ rest)) (f ∙ open_quote t rest)).first)

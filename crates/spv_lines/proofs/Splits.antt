@@ -1,5 +1,6 @@
 -- Where texts are divided.
-use Rattle.std.proofs.Common.{◌≡◌, ◌≢◌, ◌<◌, ◌+◌, ℕ, zero, suc, List, [], ◌∷◌, Some, None, true, false, nat_eq, length, take, drop, get_or, refl, arith}
+use Rattle.std.proofs.Common.{◌≡◌, ◌≢◌, ◌<◌, ◌+◌, ℕ, zero, suc, List, [], ◌∷◌, Some, None, true, false, nat_eq, length}
+use Rattle.std.proofs.Common.{take, drop, get_or, refl, arith}
 use Rattle.std.specs.Prelude.{◌==◌}
 use Rattle.memchr.specs.Find.{IsFirstByte, is_byte}
 use Rattle.std.proofs.lemmas.Bool.Decides.{nat_tests}
@@ -19,7 +20,12 @@ passed : (a m : ℕ) → (a == m) ≡ true → a ≡ m
 passed a m e = grind (arith, nat_tests)
 
 pub first_mark : (m : ℕ) (xs : List ℕ) (i : ℕ) → IsFirstByte (is_byte m) xs (Some i) → IsFirstMark m xs i
-first_mark m xs i h = record { within = h.0.high; before = λ k l e. h.0.before k (omega arith) l (passes (get_or xs k 0) m e); at = passed (get_or xs i 0) m h.1 }
+first_mark m xs i h =
+    record {
+      within = h.0.high;
+      before = λ k l e. h.0.before k (omega arith) l (passes (get_or xs k 0) m e);
+      at = passed (get_or xs i 0) m h.1;
+    }
 
 pub no_mark : (m : ℕ) (xs : List ℕ) → IsFirstByte (is_byte m) xs None → (k : ℕ) → k < length xs → get_or xs k 0 ≢ m
 no_mark m xs h = λ k l e. h k (omega arith) l (passes (get_or xs k 0) m e)
@@ -30,7 +36,8 @@ eq_of a b e = grind (arith, nat_tests)
 ne_of : (a b : ℕ) → a ≢ b → nat_eq a b ≡ false
 ne_of a b e = grind (arith, nat_tests)
 
-cells_by : (xs : List ℕ) (i : ℕ) → i < length xs → ((k : ℕ) → k < i → get_or xs k 0 ≢ 124) → get_or xs i 0 ≡ 124 → cells xs ≡ take i xs ∷ cells (drop (i + 1) xs)
+cells_by : (xs : List ℕ) (i : ℕ) → i < length xs → ((k : ℕ) → k < i → get_or xs k 0 ≢ 124) → get_or xs i 0 ≡ 124
+    → cells xs ≡ take i xs ∷ cells (drop (i + 1) xs)
 cells_by [] i l h g = absurd (omega arith)
 cells_by (x ∷ xs) zero l h g = let e = eq_of x 124 g in rw e refl
 cells_by (x ∷ xs) (suc i) l h g =
@@ -49,7 +56,8 @@ one_cell (x ∷ xs) h =
     let r = one_cell xs (λ k m. h (suc k) (omega arith)) in
     rw (e, r) refl
 
-lines_by : (xs : List ℕ) (i : ℕ) → i < length xs → ((k : ℕ) → k < i → get_or xs k 0 ≢ 10) → get_or xs i 0 ≡ 10 → lines_of xs ≡ take i xs ∷ lines_of (drop (i + 1) xs)
+lines_by : (xs : List ℕ) (i : ℕ) → i < length xs → ((k : ℕ) → k < i → get_or xs k 0 ≢ 10) → get_or xs i 0 ≡ 10
+    → lines_of xs ≡ take i xs ∷ lines_of (drop (i + 1) xs)
 lines_by [] i l h g = absurd (omega arith)
 lines_by (x ∷ xs) zero l h g = let e = eq_of x 10 g in rw e refl
 lines_by (x ∷ xs) (suc i) l h g =

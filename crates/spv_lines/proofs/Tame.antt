@@ -1,5 +1,6 @@
 -- Tokens without a space or a line feed, and where they end.
-use Rattle.std.proofs.Common.{◌≡◌, ◌++◌, ◌<◌, ◌/◌, ◌%◌, ◌^◌, ℕ, zero, suc, List, [], ◌∷◌, Bool, true, false, ◌&&◌, refl, arith}
+use Rattle.std.proofs.Common.{◌≡◌, ◌++◌, ◌<◌, ◌/◌, ◌%◌, ◌^◌, ℕ, zero, suc, List, [], ◌∷◌, Bool, true, false, ◌&&◌, refl}
+use Rattle.std.proofs.Common.{arith}
 use Rattle.std.specs.Prelude.{decimal}
 use Rattle.std.specs.List.{AllByRecursion, list_all}
 use Rattle.std.specs.Str.Parse.{AllDigits}
@@ -53,12 +54,14 @@ hex_digit_tame d = grind (arith, nat_tests)
 pub hex_tame : (n x : ℕ) → AreTame (hex_digits n x)
 unfolding hex_digits
 hex_tame zero x = tt
-hex_tame (suc n) x = tame-append (hex_digits n (x / 16)) (hex_digit (x % 16) ∷ []) (hex_tame n (x / 16)) (hex_digit_tame (x % 16), tt)
+hex_tame (suc n) x = tame-append (hex_digits n (x / 16)) (hex_digit (x % 16) ∷ []) (hex_tame n (x / 16))
+    (hex_digit_tame (x % 16), tt)
 
 pub number_tame : (x : ℕ) → x < 2 ^ 64 → AreTame (by_number x)
 number_tame x h = (omega arith, decimal_tame x h)
 
-pub joined_tame : (lookup : List ℕ → Rattle.std.specs.Prelude.Option ℕ) (xs : List ℕ) (ts : List (List ℕ)) → AreNamesOf lookup xs ts → AreTame (joined ts)
+pub joined_tame : (lookup : List ℕ → Rattle.std.specs.Prelude.Option ℕ) (xs : List ℕ) (ts : List (List ℕ))
+    → AreNamesOf lookup xs ts → AreTame (joined ts)
 joined_tame lookup [] [] h = tt
 joined_tame lookup [] (t ∷ ts) h = absurd h
 joined_tame lookup (x ∷ xs) [] h = absurd h
@@ -66,14 +69,16 @@ joined_tame lookup (x ∷ []) (t ∷ []) h = plain_tame t h.0.plain
 joined_tame lookup (x ∷ []) (t ∷ u ∷ ts) h = absurd h.1
 joined_tame lookup (x ∷ y ∷ xs) (t ∷ []) h = absurd h.1
 joined_tame lookup (x ∷ y ∷ xs) (t ∷ u ∷ ts) h =
-    tame-append t (124 ∷ joined (u ∷ ts)) (plain_tame t h.0.plain) (omega arith, joined_tame lookup (y ∷ xs) (u ∷ ts) h.1)
+    tame-append t (124 ∷ joined (u ∷ ts)) (plain_tame t h.0.plain)
+    (omega arith, joined_tame lookup (y ∷ xs) (u ∷ ts) h.1)
 
 pub record Both (A B : Type 0) : Type 0 where
   pub first : A
   pub second : B
 
 -- a token ends where the line breaks
-pub run_same : (a b t u : List ℕ) → AreTame a → AreTame b → IsBreak t → IsBreak u → a ++ t ≡ b ++ u → Both (a ≡ b) (t ≡ u)
+pub run_same : (a b t u : List ℕ) → AreTame a → AreTame b → IsBreak t → IsBreak u → a ++ t ≡ b ++ u
+    → Both (a ≡ b) (t ≡ u)
 run_same [] [] t u h g i j e = record { first = refl; second = e }
 run_same [] (y ∷ b) _ u h g at_end j e = cc
 run_same [] (y ∷ b) _ u h g (at_space t) j e = let z : 32 ≡ y = cc in let l = g.0 in absurd (omega arith)

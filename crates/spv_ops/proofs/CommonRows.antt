@@ -14,36 +14,46 @@ use Rattle.spv_ops.specs.inner.Common.{Combines, Loads, Stores, IsCondition, bin
 use Rattle.spv_ops.specs.inner.Table.{first_of}
 use Rattle.spv_ops.specs.inner.Typed.{IsTypedIn}
 use Rattle.spv_ops.specs.inner.Wide.{binary_of}
-use Rattle.spv_ops.proofs.Parts.{iff_to, typed_by, binary_line, load_line, store_line, branch_line, binary_asks, load_asks, store_asks, branch_asks, combines_in, loads_in, stores_in, branches_in}
+use Rattle.spv_ops.proofs.Parts.{iff_to, typed_by, binary_line, load_line, store_line, branch_line, binary_asks}
+use Rattle.spv_ops.proofs.Parts.{load_asks, store_asks, branch_asks, combines_in, loads_in, stores_in, branches_in}
 
-pub binary_typed : (is : List PlainInst) (n : ℕ) (i : PlainInst) (s : Sort) (ids : Ids) (holds : Bool) (os : List Plain) → i.operands ≡ os → first_of i.opcode ≡ binary_of s → binary_in os ≡ Some ids
-    → (IsTrue holds ↔ IsSomeAnd (types_of is (ids.first ∷ ids.second ∷ [])) (Combines is s ids.result_type)) → IsTrue holds ↔ IsTypedIn is n i
+pub binary_typed : (is : List PlainInst) (n : ℕ) (i : PlainInst) (s : Sort) (ids : Ids) (holds : Bool) (os : List Plain)
+    → i.operands ≡ os → first_of i.opcode ≡ binary_of s → binary_in os ≡ Some ids
+    → (IsTrue holds ↔ IsSomeAnd (types_of is (ids.first ∷ ids.second ∷ [])) (Combines is s ids.result_type))
+    → IsTrue holds ↔ IsTypedIn is n i
 binary_typed is n i s ids holds (OfType r ∷ Result x ∷ Id a ∷ Id b ∷ []) e o f h =
     let same : record { result_type = r; first = a; second = b } ≡ ids = same_Some _ _ f in
-    let k = subst (λ (d : Ids). IsTrue holds ↔ IsSomeAnd (types_of is (d.first ∷ d.second ∷ [])) (Combines is s d.result_type)) (sym same) h in
+    let k = subst (λ (d : Ids). IsTrue holds
+    ↔ IsSomeAnd (types_of is (d.first ∷ d.second ∷ [])) (Combines is s d.result_type)) (sym same) h in
     let line = binary_asks i.opcode s o in
-    let typed = typed_by is n i places.Ids (binary_line s) (Some r) (Id a ∷ Id b ∷ []) line.0 line.1 (ap result_type_in e) (ap after_head e) in
+    let typed = typed_by is n i places.Ids (binary_line s) (Some r) (Id a ∷ Id b ∷ []) line.0 line.1
+    (ap result_type_in e) (ap after_head e) in
     iff_to k (iff_to (combines_in is n i s r (types_of is (a ∷ b ∷ []))) typed)
 binary_typed is n i s ids holds os e o f h = absurd (none-some ids f)
 
-load_of : (is : List PlainInst) (n : ℕ) (i : PlainInst) (r x p : ℕ) (os : List Plain) (holds : Bool) → first_of i.opcode ≡ opcode.LOAD → i.operands ≡ OfType r ∷ Result x ∷ Id p ∷ []
+load_of : (is : List PlainInst) (n : ℕ) (i : PlainInst) (r x p : ℕ) (os : List Plain) (holds : Bool)
+    → first_of i.opcode ≡ opcode.LOAD → i.operands ≡ OfType r ∷ Result x ∷ Id p ∷ []
     → (IsTrue holds ↔ IsSomeAnd (types_of is (p ∷ [])) (Loads is r)) → IsTrue holds ↔ IsTypedIn is n i
 load_of is n i r x p os holds o e k =
     let line = load_asks i.opcode o in
-    let typed = typed_by is n i places.Ids load_line (Some r) (Id p ∷ []) line.0 line.1 (ap result_type_in e) (ap after_head e) in
+    let typed = typed_by is n i places.Ids load_line (Some r) (Id p ∷ []) line.0 line.1 (ap result_type_in e)
+    (ap after_head e) in
     iff_to k (iff_to (loads_in is n i r (types_of is (p ∷ []))) typed)
 
-load_masked : (is : List PlainInst) (n : ℕ) (i : PlainInst) (r x p a b : ℕ) (os : List Plain) (holds : Bool) → first_of i.opcode ≡ opcode.LOAD → i.operands ≡ OfType r ∷ Result x ∷ Id p ∷ Mask a b ∷ os
+load_masked : (is : List PlainInst) (n : ℕ) (i : PlainInst) (r x p a b : ℕ) (os : List Plain) (holds : Bool)
+    → first_of i.opcode ≡ opcode.LOAD → i.operands ≡ OfType r ∷ Result x ∷ Id p ∷ Mask a b ∷ os
     → (IsTrue holds ↔ IsSomeAnd (types_of is (p ∷ [])) (Loads is r)) → IsTrue holds ↔ IsTypedIn is n i
 load_masked is n i r x p a b os holds o e k =
     let line = load_asks i.opcode o in
-    let typed = typed_by is n i places.Ids load_line (Some r) (Id p ∷ Mask a b ∷ os) line.0 line.1 (ap result_type_in e) (ap after_head e) in
+    let typed = typed_by is n i places.Ids load_line (Some r) (Id p ∷ Mask a b ∷ os) line.0 line.1 (ap result_type_in e)
+    (ap after_head e) in
     iff_to k (iff_to (loads_in is n i r (types_of is (p ∷ []))) typed)
 
 abbrev LoadsBy : List PlainInst → Bool → Two → Type 0
 LoadsBy is holds d = IsTrue holds ↔ IsSomeAnd (types_of is (d.second ∷ [])) (Loads is d.first)
 
-pub load_typed : (is : List PlainInst) (n : ℕ) (i : PlainInst) (ids : Two) (holds : Bool) (os : List Plain) → i.operands ≡ os → first_of i.opcode ≡ opcode.LOAD → load_in os ≡ Some ids
+pub load_typed : (is : List PlainInst) (n : ℕ) (i : PlainInst) (ids : Two) (holds : Bool) (os : List Plain)
+    → i.operands ≡ os → first_of i.opcode ≡ opcode.LOAD → load_in os ≡ Some ids
     → (IsTrue holds ↔ IsSomeAnd (types_of is (ids.second ∷ [])) (Loads is ids.first)) → IsTrue holds ↔ IsTypedIn is n i
 load_typed is n i ids holds (OfType r ∷ Result x ∷ Id p ∷ []) e o f h =
     let same : record { first = r; second = p } ≡ ids = same_Some _ _ f in
@@ -53,25 +63,31 @@ load_typed is n i ids holds (OfType r ∷ Result x ∷ Id p ∷ Mask k m ∷ os)
     load_masked is n i r x p k m os holds o e (subst (LoadsBy is holds) (sym same) h)
 load_typed is n i ids holds os e o f h = absurd (none-some ids f)
 
-store_of : (is : List PlainInst) (n : ℕ) (i : PlainInst) (p x : ℕ) (holds : Bool) → first_of i.opcode ≡ opcode.STORE → i.operands ≡ Id p ∷ Id x ∷ []
+store_of : (is : List PlainInst) (n : ℕ) (i : PlainInst) (p x : ℕ) (holds : Bool) → first_of i.opcode ≡ opcode.STORE
+    → i.operands ≡ Id p ∷ Id x ∷ []
     → (IsTrue holds ↔ IsSomeAnd (types_of is (p ∷ x ∷ [])) (Stores is)) → IsTrue holds ↔ IsTypedIn is n i
 store_of is n i p x holds o e k =
     let line = store_asks i.opcode o in
-    let typed = typed_by is n i places.Ids store_line None (Id p ∷ Id x ∷ []) line.0 line.1 (ap result_type_in e) (ap after_head e) in
+    let typed = typed_by is n i places.Ids store_line None (Id p ∷ Id x ∷ []) line.0 line.1 (ap result_type_in e)
+    (ap after_head e) in
     iff_to k (iff_to (stores_in is n i (types_of is (p ∷ x ∷ []))) typed)
 
-store_masked : (is : List PlainInst) (n : ℕ) (i : PlainInst) (p x a b : ℕ) (os : List Plain) (holds : Bool) → first_of i.opcode ≡ opcode.STORE → i.operands ≡ Id p ∷ Id x ∷ Mask a b ∷ os
+store_masked : (is : List PlainInst) (n : ℕ) (i : PlainInst) (p x a b : ℕ) (os : List Plain) (holds : Bool)
+    → first_of i.opcode ≡ opcode.STORE → i.operands ≡ Id p ∷ Id x ∷ Mask a b ∷ os
     → (IsTrue holds ↔ IsSomeAnd (types_of is (p ∷ x ∷ [])) (Stores is)) → IsTrue holds ↔ IsTypedIn is n i
 store_masked is n i p x a b os holds o e k =
     let line = store_asks i.opcode o in
-    let typed = typed_by is n i places.Ids store_line None (Id p ∷ Id x ∷ Mask a b ∷ os) line.0 line.1 (ap result_type_in e) (ap after_head e) in
+    let typed = typed_by is n i places.Ids store_line None (Id p ∷ Id x ∷ Mask a b ∷ os) line.0 line.1
+    (ap result_type_in e) (ap after_head e) in
     iff_to k (iff_to (stores_in is n i (types_of is (p ∷ x ∷ []))) typed)
 
 abbrev StoresBy : List PlainInst → Bool → Two → Type 0
 StoresBy is holds d = IsTrue holds ↔ IsSomeAnd (types_of is (d.first ∷ d.second ∷ [])) (Stores is)
 
-pub store_typed : (is : List PlainInst) (n : ℕ) (i : PlainInst) (ids : Two) (holds : Bool) (os : List Plain) → i.operands ≡ os → first_of i.opcode ≡ opcode.STORE → store_in os ≡ Some ids
-    → (IsTrue holds ↔ IsSomeAnd (types_of is (ids.first ∷ ids.second ∷ [])) (Stores is)) → IsTrue holds ↔ IsTypedIn is n i
+pub store_typed : (is : List PlainInst) (n : ℕ) (i : PlainInst) (ids : Two) (holds : Bool) (os : List Plain)
+    → i.operands ≡ os → first_of i.opcode ≡ opcode.STORE → store_in os ≡ Some ids
+    → (IsTrue holds ↔ IsSomeAnd (types_of is (ids.first ∷ ids.second ∷ [])) (Stores is))
+    → IsTrue holds ↔ IsTypedIn is n i
 store_typed is n i ids holds (Id p ∷ Id x ∷ []) e o f h =
     let same : record { first = p; second = x } ≡ ids = same_Some _ _ f in
     store_of is n i p x holds o e (subst (StoresBy is holds) (sym same) h)
@@ -80,16 +96,20 @@ store_typed is n i ids holds (Id p ∷ Id x ∷ Mask k m ∷ os) e o f h =
     store_masked is n i p x k m os holds o e (subst (StoresBy is holds) (sym same) h)
 store_typed is n i ids holds os e o f h = absurd (none-some ids f)
 
-branch_of : (is : List PlainInst) (n : ℕ) (i : PlainInst) (x l m : ℕ) (holds : Bool) → first_of i.opcode ≡ opcode.BRANCH_CONDITIONAL → i.operands ≡ Id x ∷ Id l ∷ Id m ∷ []
+branch_of : (is : List PlainInst) (n : ℕ) (i : PlainInst) (x l m : ℕ) (holds : Bool)
+    → first_of i.opcode ≡ opcode.BRANCH_CONDITIONAL → i.operands ≡ Id x ∷ Id l ∷ Id m ∷ []
     → (IsTrue holds ↔ IsSomeAnd (types_of is (x ∷ [])) (IsCondition is)) → IsTrue holds ↔ IsTypedIn is n i
 branch_of is n i x l m holds o e k =
     let line = branch_asks i.opcode o in
-    let typed = typed_by is n i places.One branch_line None (Id x ∷ Id l ∷ Id m ∷ []) line.0 line.1 (ap result_type_in e) (ap after_head e) in
+    let typed = typed_by is n i places.One branch_line None (Id x ∷ Id l ∷ Id m ∷ []) line.0 line.1
+    (ap result_type_in e) (ap after_head e) in
     iff_to k (iff_to (branches_in is n i (types_of is (x ∷ [])) (λ ts. inl (ap words_in e))) typed)
 
-pub branch_typed : (is : List PlainInst) (n : ℕ) (i : PlainInst) (x : ℕ) (holds : Bool) (os : List Plain) → i.operands ≡ os → first_of i.opcode ≡ opcode.BRANCH_CONDITIONAL → condition_in os ≡ Some x
+pub branch_typed : (is : List PlainInst) (n : ℕ) (i : PlainInst) (x : ℕ) (holds : Bool) (os : List Plain)
+    → i.operands ≡ os → first_of i.opcode ≡ opcode.BRANCH_CONDITIONAL → condition_in os ≡ Some x
     → (IsTrue holds ↔ IsSomeAnd (types_of is (x ∷ [])) (IsCondition is)) → IsTrue holds ↔ IsTypedIn is n i
 branch_typed is n i x holds (Id y ∷ Id l ∷ Id m ∷ []) e o f h =
     let same : y ≡ x = same_Some y x f in
-    branch_of is n i y l m holds o e (subst (λ (z : ℕ). IsTrue holds ↔ IsSomeAnd (types_of is (z ∷ [])) (IsCondition is)) (sym same) h)
+    branch_of is n i y l m holds o e (subst
+    (λ (z : ℕ). IsTrue holds ↔ IsSomeAnd (types_of is (z ∷ [])) (IsCondition is)) (sym same) h)
 branch_typed is n i x holds os e o f h = absurd (none-some x f)

@@ -32,7 +32,8 @@ some_and P (Some us) = (λ p. (us, refl, p), λ a. let same : a.0 ≡ us = cc (a
 pub free_holds : (is : List PlainInst) (n : ℕ) (i : PlainInst) → places_of i.opcode ≡ places.Free → IsTypedIn is n i
 free_holds is n i e = rw (e, free_asks i.opcode e) tt
 
-rightward : (G : Table) (is : List PlainInst) (n : ℕ) (i : PlainInst) → slice_get is n ≡ Some i → FitsShape G i → IsTypedIn is n i → IsTypedAt G is n
+rightward : (G : Table) (is : List PlainInst) (n : ℕ) (i : PlainInst) → slice_get is n ≡ Some i → FitsShape G i
+    → IsTypedIn is n i → IsTypedAt G is n
 rightward G is n i at fits h = elim (free_or (places_of i.opcode)) [
   | inl e ↦ record { inst = i; there = at; typed = inl e }
   | inr ne ↦
@@ -40,18 +41,27 @@ rightward G is n i at fits h = elim (free_or (places_of i.opcode)) [
       record {
         inst = i;
         there = at;
-        typed = inr (values_of i, some.0, record { forms = fits.forms; has = fits.has; values = values_agree G i fits.forms fits.has ne }, some.1, some.2);
+        typed = inr (
+          values_of i,
+          some.0,
+          record
+              { forms = fits.forms; has = fits.has; values = values_agree G i fits.forms fits.has ne },
+          some.1,
+          some.2,
+        );
       }
 ]
 
-typed_by : (G : Table) (is : List PlainInst) (n : ℕ) (i : PlainInst) → places_of i.opcode ≢ places.Free → IsTyped G is n i → IsTypedIn is n i
+typed_by : (G : Table) (is : List PlainInst) (n : ℕ) (i : PlainInst) → places_of i.opcode ≢ places.Free
+    → IsTyped G is n i → IsTypedIn is n i
 typed_by G is n i ne (inl e) = absurd (ne e)
 typed_by G is n i ne (inr t) =
     let values : AreValues G i t.0 = t.2 in
     let same : values_of i ≡ t.0 = sym (values_agree G i values.forms values.has ne) ∙ values.values in
     (some_and (Typed is n i) (types_of is (values_of i))).1 (t.1, rw same t.3, t.4)
 
-leftward : (G : Table) (is : List PlainInst) (n : ℕ) (i : PlainInst) → slice_get is n ≡ Some i → IsTypedAt G is n → IsTypedIn is n i
+leftward : (G : Table) (is : List PlainInst) (n : ℕ) (i : PlainInst) → slice_get is n ≡ Some i → IsTypedAt G is n
+    → IsTypedIn is n i
 leftward G is n i at t = elim (free_or (places_of i.opcode)) [
   | inl e ↦ free_holds is n i e
   | inr ne ↦
@@ -59,5 +69,6 @@ leftward G is n i at t = elim (free_or (places_of i.opcode)) [
       typed_by G is n i ne (subst (λ j. IsTyped G is n j) same t.typed)
 ]
 
-pub told : (G : Table) (is : List PlainInst) (n : ℕ) (i : PlainInst) → slice_get is n ≡ Some i → FitsShape G i → IsTypedIn is n i ↔ IsTypedAt G is n
+pub told : (G : Table) (is : List PlainInst) (n : ℕ) (i : PlainInst) → slice_get is n ≡ Some i → FitsShape G i
+    → IsTypedIn is n i ↔ IsTypedAt G is n
 told G is n i at fits = (rightward G is n i at fits, leftward G is n i at)

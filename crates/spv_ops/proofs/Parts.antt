@@ -1,5 +1,6 @@
 -- *Typed* by its parts, and the lines that the code decides in its own ways.
-use Rattle.std.proofs.Common.{◌≡◌, ◌∙◌, ◌↔◌, ◌≤◌, ◌<◌, ◌+◌, ◌⊎◌, inl, inr, ℕ, List, [], ◌∷◌, Option, Some, None, true, false, refl, length, arith}
+use Rattle.std.proofs.Common.{◌≡◌, ◌∙◌, ◌↔◌, ◌≤◌, ◌<◌, ◌+◌, ◌⊎◌, inl, inr, ℕ, List, [], ◌∷◌, Option, Some, None, true}
+use Rattle.std.proofs.Common.{false, refl, length, arith}
 use Rattle.std.specs.Prelude.{IsSomeAnd}
 use Rattle.std.specs.List.{AllByRecursion}
 use Rattle.std.proofs.lemmas.Bool.{leb-true}
@@ -35,10 +36,13 @@ use Rattle.spv_ops.specs.inner.Declares.{DeclaresVariable}
 use Rattle.spv_ops.specs.inner.Wide.{AreSame, IsWide, binary_of, is_counted}
 use Rattle.spv_ops.proofs.Rows.{asks_first, places_first, many_first, pairs_first, initializers_first}
 use Rattle.spv_ops.proofs.Chaining.{chain_chosen, chain_leads, element_chosen, element_leads}
-use Rattle.spv_ops.proofs.Pointing.{chain_line, element_line, phi_line, variable_line, construct_line, chains_hold, elements_hold, hold_chains, hold_elements, no_chain, no_elements, same_hold, hold_same, no_same, variable_pointer, variable_fits, fits_variable}
+use Rattle.spv_ops.proofs.Pointing.{chain_line, element_line, phi_line, variable_line, construct_line, chains_hold}
+use Rattle.spv_ops.proofs.Pointing.{elements_hold, hold_chains, hold_elements, no_chain, no_elements, same_hold}
+use Rattle.spv_ops.proofs.Pointing.{hold_same, no_same, variable_pointer, variable_fits, fits_variable}
 use Rattle.spv_ops.proofs.Constructed.{construct_holds, holds_construct}
 
-pub some_iff : (P Q : List ℕ → Type 0) → ((ts : List ℕ) → P ts ↔ Q ts) → (o : Option (List ℕ)) → IsSomeAnd o P ↔ IsSomeAnd o Q
+pub some_iff : (P Q : List ℕ → Type 0) → ((ts : List ℕ) → P ts ↔ Q ts) → (o : Option (List ℕ))
+    → IsSomeAnd o P ↔ IsSomeAnd o Q
 some_iff P Q f None = (λ h. h, λ h. h)
 some_iff P Q f (Some ts) = f ts
 
@@ -50,16 +54,19 @@ pub iff_to : {A B C : Type 0} → A ↔ B → B ↔ C → A ↔ C
 iff_to f g = (λ a. g.0 (f.0 a), λ c. f.1 (g.1 c))
 
 -- what is asked, where these are the places, the line and the result type
-pub typed_by : (is : List PlainInst) (n : ℕ) (i : PlainInst) (p : Places) (line : List Asks) (r : Option ℕ) (os : List Plain) → places_of i.opcode ≡ p → asks_of i.opcode ≡ line
+pub typed_by : (is : List PlainInst) (n : ℕ) (i : PlainInst) (p : Places) (line : List Asks) (r : Option ℕ)
+    (os : List Plain) → places_of i.opcode ≡ p → asks_of i.opcode ≡ line
     → result_type_in i.operands ≡ r → after_head i.operands ≡ os → IsTypedBy is n i p line r os ↔ IsTypedIn is n i
 typed_by is n i p line r os e f g h = rw (e, f, g, h) (λ k. k, λ k. k)
 
 -- A line that says how many values there are holds of no other number of them.
 
-pub too_long : (is : List PlainInst) (n : ℕ) (i : PlainInst) (r : Option ℕ) (line : List Asks) (o : Option (List ℕ)) → is_counted line ≡ true → ((ts : List ℕ) → o ≡ Some ts → 6 < length ts)
+pub too_long : (is : List PlainInst) (n : ℕ) (i : PlainInst) (r : Option ℕ) (line : List Asks) (o : Option (List ℕ))
+    → is_counted line ≡ true → ((ts : List ℕ) → o ≡ Some ts → 6 < length ts)
     → ¬ (IsSomeAnd o (λ ts. AllByRecursion (HoldsOf is n i r ts) (conditions_in line (length ts))))
 too_long is n i r line None c l = λ h. h
-too_long is n i r (asks.Once (asked.Operands b k) ∷ line) (Some ts) c l = λ h. let more = l ts refl in let few : k ≤ 6 = leb-true k 6 c in let same : length ts ≡ k = h.0.1 in absurd (omega (arith, more, few, same))
+too_long is n i r (asks.Once (asked.Operands b k) ∷ line) (Some ts) c l = λ h. let more = l ts refl in
+    let few : k ≤ 6 = leb-true k 6 c in let same : length ts ≡ k = h.0.1 in absurd (omega (arith, more, few, same))
 too_long is n i r line (Some ts) c l = absurd (let no : is_counted line ≡ true = c in cc)
 
 -- The lines that most instructions have.
@@ -73,18 +80,23 @@ abbrev same_as : ℕ → Asks
 same_as k = asks.Once (asked.Relation relation.Same (seat.Value k) seat.Result)
 
 abbrev pub binary_line : Sort → List Asks
-binary_line s = asks.Once (asked.Operands true 2) ∷ asks.Once (asked.Kind (sort_kind s) seat.Result) ∷ same_as 0 ∷ same_as 1 ∷ []
+binary_line s = asks.Once (asked.Operands true 2) ∷ asks.Once (asked.Kind (sort_kind s) seat.Result) ∷ same_as 0
+    ∷ same_as 1 ∷ []
 
 abbrev pub load_line : List Asks
-load_line = asks.Once (asked.Operands true 1) ∷ asks.Once (asked.Relation relation.PointsTo (seat.Value 0) seat.Result) ∷ asks.Once (asked.Kind kind.Data seat.Result) ∷ []
+load_line = asks.Once (asked.Operands true 1) ∷ asks.Once (asked.Relation relation.PointsTo (seat.Value 0) seat.Result)
+    ∷ asks.Once (asked.Kind kind.Data seat.Result) ∷ []
 
 abbrev pub store_line : List Asks
-store_line = asks.Once (asked.Operands false 2) ∷ asks.Once (asked.Relation relation.PointsTo (seat.Value 0) (seat.Value 1)) ∷ []
+store_line = asks.Once (asked.Operands false 2)
+    ∷ asks.Once (asked.Relation relation.PointsTo (seat.Value 0) (seat.Value 1)) ∷ []
 
 abbrev pub branch_line : List Asks
-branch_line = asks.Once (asked.Operands false 1) ∷ asks.Once (asked.Kind kind.Bool (seat.Value 0)) ∷ asks.Once (asked.Rest beside.Weights) ∷ []
+branch_line = asks.Once (asked.Operands false 1) ∷ asks.Once (asked.Kind kind.Bool (seat.Value 0))
+    ∷ asks.Once (asked.Rest beside.Weights) ∷ []
 
-pub binary_asks : (n : ℕ) (s : Sort) → first_of n ≡ binary_of s → (places_of n ≡ places.Ids) × (asks_of n ≡ binary_line s)
+pub binary_asks : (n : ℕ) (s : Sort) → first_of n ≡ binary_of s
+    → (places_of n ≡ places.Ids) × (asks_of n ≡ binary_line s)
 unfolding lines
 binary_asks n sort.Int e = (places_first n opcode.I_ADD e, asks_first n opcode.I_ADD e)
 binary_asks n sort.Float e = (places_first n opcode.F_ADD e, asks_first n opcode.F_ADD e)
@@ -98,11 +110,13 @@ pub store_asks : (n : ℕ) → first_of n ≡ opcode.STORE → (places_of n ≡ 
 unfolding lines
 store_asks n e = (places_first n opcode.STORE e, asks_first n opcode.STORE e)
 
-pub branch_asks : (n : ℕ) → first_of n ≡ opcode.BRANCH_CONDITIONAL → (places_of n ≡ places.One) × (asks_of n ≡ branch_line)
+pub branch_asks : (n : ℕ) → first_of n ≡ opcode.BRANCH_CONDITIONAL
+    → (places_of n ≡ places.One) × (asks_of n ≡ branch_line)
 unfolding lines
 branch_asks n e = (places_first n opcode.BRANCH_CONDITIONAL e, asks_first n opcode.BRANCH_CONDITIONAL e)
 
-combines : (is : List PlainInst) (R : Rest → Type 0) (s : Sort) (r : ℕ) (ts : List ℕ) → Combines is s r ts ↔ AllByRecursion (Holds is R (Some r) ts) (conditions_in (binary_line s) (length ts))
+combines : (is : List PlainInst) (R : Rest → Type 0) (s : Sort) (r : ℕ) (ts : List ℕ)
+    → Combines is s r ts ↔ AllByRecursion (Holds is R (Some r) ts) (conditions_in (binary_line s) (length ts))
 combines is R s r [] = (λ h. absurd h, λ h. h.1.1.0)
 combines is R s r (o ∷ []) = (λ h. absurd h, λ h. h.1.1.1.0)
 combines is R sort.Int r (o ∷ p ∷ []) = (λ h. ((tt, refl), (h.2, (h.0, (h.1, tt)))), λ h. (h.1.1.0, h.1.1.1.0, h.1.0))
@@ -110,59 +124,92 @@ combines is R sort.Float r (o ∷ p ∷ []) = (λ h. ((tt, refl), (h.2, (h.0, (h
 combines is R sort.Bool r (o ∷ p ∷ []) = (λ h. ((tt, refl), (h.2, (h.0, (h.1, tt)))), λ h. (h.1.1.0, h.1.1.1.0, h.1.0))
 combines is R s r (o ∷ p ∷ q ∷ ts) = (λ h. absurd h, λ h. absurd (let e = h.0.1 in omega (arith, e)))
 
-loads : (is : List PlainInst) (R : Rest → Type 0) (r : ℕ) (ts : List ℕ) → Loads is r ts ↔ AllByRecursion (Holds is R (Some r) ts) (conditions_in load_line (length ts))
+loads : (is : List PlainInst) (R : Rest → Type 0) (r : ℕ) (ts : List ℕ)
+    → Loads is r ts ↔ AllByRecursion (Holds is R (Some r) ts) (conditions_in load_line (length ts))
 loads is R r [] = (λ h. absurd h, λ h. h.1.0)
 loads is R r (o ∷ []) = (λ h. ((tt, refl), (h.0, (h.1, tt))), λ h. (h.1.0, h.1.1.0))
 loads is R r (o ∷ p ∷ ts) = (λ h. absurd h, λ h. absurd (let e = h.0.1 in omega (arith, e)))
 
-stores : (is : List PlainInst) (R : Rest → Type 0) (ts : List ℕ) → Stores is ts ↔ AllByRecursion (Holds is R None ts) (conditions_in store_line (length ts))
+stores : (is : List PlainInst) (R : Rest → Type 0) (ts : List ℕ)
+    → Stores is ts ↔ AllByRecursion (Holds is R None ts) (conditions_in store_line (length ts))
 stores is R [] = (λ h. absurd h, λ h. h.1.0)
 stores is R (o ∷ []) = (λ h. absurd h, λ h. h.1.0)
 stores is R (o ∷ p ∷ []) = (λ h. ((tt, refl), (h, tt)), λ h. h.1.0)
 stores is R (o ∷ p ∷ q ∷ ts) = (λ h. absurd h, λ h. absurd (let e = h.0.1 in omega (arith, e)))
 
-branches : (is : List PlainInst) (R : Rest → Type 0) (ts : List ℕ) → R beside.Weights → IsCondition is ts ↔ AllByRecursion (Holds is R None ts) (conditions_in branch_line (length ts))
+branches : (is : List PlainInst) (R : Rest → Type 0) (ts : List ℕ) → R beside.Weights
+    → IsCondition is ts ↔ AllByRecursion (Holds is R None ts) (conditions_in branch_line (length ts))
 branches is R [] w = (λ h. absurd h, λ h. h.1.0)
 branches is R (o ∷ []) w = (λ h. ((tt, refl), (h, (w, tt))), λ h. h.1.0)
 branches is R (o ∷ p ∷ ts) w = (λ h. absurd h, λ h. absurd (let e = h.0.1 in omega (arith, e)))
 
-pub combines_in : (is : List PlainInst) (n : ℕ) (i : PlainInst) (s : Sort) (r : ℕ) (o : Option (List ℕ)) → IsSomeAnd o (Combines is s r) ↔ IsSomeAnd o (λ ts. AllByRecursion (HoldsOf is n i (Some r) ts) (conditions_in (binary_line s) (length ts)))
-combines_in is n i s r o = some_iff (Combines is s r) (λ ts. AllByRecursion (HoldsOf is n i (Some r) ts) (conditions_in (binary_line s) (length ts))) (λ ts. combines is (RestHolds is n i (Some r) ts) s r ts) o
+pub combines_in : (is : List PlainInst) (n : ℕ) (i : PlainInst) (s : Sort) (r : ℕ) (o : Option (List ℕ))
+    → IsSomeAnd o (Combines is s r) ↔ IsSomeAnd o
+    (λ ts. AllByRecursion (HoldsOf is n i (Some r) ts) (conditions_in (binary_line s) (length ts)))
+combines_in is n i s r o =
+    some_iff (Combines is s r) (λ ts. AllByRecursion (HoldsOf is n i (Some r) ts)
+    (conditions_in (binary_line s) (length ts))) (λ ts. combines is (RestHolds is n i (Some r) ts) s r ts) o
 
-pub loads_in : (is : List PlainInst) (n : ℕ) (i : PlainInst) (r : ℕ) (o : Option (List ℕ)) → IsSomeAnd o (Loads is r) ↔ IsSomeAnd o (λ ts. AllByRecursion (HoldsOf is n i (Some r) ts) (conditions_in load_line (length ts)))
-loads_in is n i r o = some_iff (Loads is r) (λ ts. AllByRecursion (HoldsOf is n i (Some r) ts) (conditions_in load_line (length ts))) (λ ts. loads is (RestHolds is n i (Some r) ts) r ts) o
+pub loads_in : (is : List PlainInst) (n : ℕ) (i : PlainInst) (r : ℕ) (o : Option (List ℕ))
+    → IsSomeAnd o (Loads is r) ↔ IsSomeAnd o
+    (λ ts. AllByRecursion (HoldsOf is n i (Some r) ts) (conditions_in load_line (length ts)))
+loads_in is n i r o =
+    some_iff (Loads is r) (λ ts. AllByRecursion (HoldsOf is n i (Some r) ts) (conditions_in load_line (length ts)))
+    (λ ts. loads is (RestHolds is n i (Some r) ts) r ts) o
 
-pub stores_in : (is : List PlainInst) (n : ℕ) (i : PlainInst) (o : Option (List ℕ)) → IsSomeAnd o (Stores is) ↔ IsSomeAnd o (λ ts. AllByRecursion (HoldsOf is n i None ts) (conditions_in store_line (length ts)))
-stores_in is n i o = some_iff (Stores is) (λ ts. AllByRecursion (HoldsOf is n i None ts) (conditions_in store_line (length ts))) (λ ts. stores is (RestHolds is n i None ts) ts) o
+pub stores_in : (is : List PlainInst) (n : ℕ) (i : PlainInst) (o : Option (List ℕ))
+    → IsSomeAnd o (Stores is) ↔ IsSomeAnd o
+    (λ ts. AllByRecursion (HoldsOf is n i None ts) (conditions_in store_line (length ts)))
+stores_in is n i o = some_iff (Stores is) (λ ts. AllByRecursion (HoldsOf is n i None ts)
+    (conditions_in store_line (length ts))) (λ ts. stores is (RestHolds is n i None ts) ts) o
 
-pub branches_in : (is : List PlainInst) (n : ℕ) (i : PlainInst) (o : Option (List ℕ)) → ((ts : List ℕ) → RestHolds is n i None ts beside.Weights)
-    → IsSomeAnd o (IsCondition is) ↔ IsSomeAnd o (λ ts. AllByRecursion (HoldsOf is n i None ts) (conditions_in branch_line (length ts)))
-branches_in is n i o w = some_iff (IsCondition is) (λ ts. AllByRecursion (HoldsOf is n i None ts) (conditions_in branch_line (length ts))) (λ ts. branches is (RestHolds is n i None ts) ts (w ts)) o
+pub branches_in : (is : List PlainInst) (n : ℕ) (i : PlainInst) (o : Option (List ℕ))
+    → ((ts : List ℕ) → RestHolds is n i None ts beside.Weights)
+    → IsSomeAnd o (IsCondition is) ↔ IsSomeAnd o
+    (λ ts. AllByRecursion (HoldsOf is n i None ts) (conditions_in branch_line (length ts)))
+branches_in is n i o w =
+    some_iff (IsCondition is) (λ ts. AllByRecursion (HoldsOf is n i None ts) (conditions_in branch_line (length ts)))
+    (λ ts. branches is (RestHolds is n i None ts) ts (w ts)) o
 
 -- The lines that take any number of values.
 
-pub phi_told : (is : List PlainInst) (n : ℕ) (i : PlainInst) (r : ℕ) (ts : List ℕ) → AreSame is r ts ↔ AllByRecursion (HoldsOf is n i (Some r) ts) (conditions_in phi_line (length ts))
-phi_told is n i r ts = (same_hold is (RestHolds is n i (Some r) ts) r ts, hold_same is (RestHolds is n i (Some r) ts) r ts)
+pub phi_told : (is : List PlainInst) (n : ℕ) (i : PlainInst) (r : ℕ) (ts : List ℕ)
+    → AreSame is r ts ↔ AllByRecursion (HoldsOf is n i (Some r) ts) (conditions_in phi_line (length ts))
+phi_told is n i r ts =
+    (same_hold is (RestHolds is n i (Some r) ts) r ts, hold_same is (RestHolds is n i (Some r) ts) r ts)
 
-pub variable_told : (is : List PlainInst) (n : ℕ) (i : PlainInst) (r : ℕ) (ts : List ℕ) → DeclaresVariable is n r (after_head i.operands) ts ↔ AllByRecursion (HoldsOf is n i (Some r) ts) (conditions_in variable_line (length ts))
+pub variable_told : (is : List PlainInst) (n : ℕ) (i : PlainInst) (r : ℕ) (ts : List ℕ)
+    → DeclaresVariable is n r (after_head i.operands) ts
+    ↔ AllByRecursion (HoldsOf is n i (Some r) ts) (conditions_in variable_line (length ts))
 variable_told is n i r ts = (
-  λ h. let f = variable_fits is n r (after_head i.operands) ts h in (variable_pointer is n r (after_head i.operands) ts h, (f.0, (f.1, (f.2, (f.3, tt))))),
+  λ h. let f = variable_fits is n r (after_head i.operands) ts h in
+      (variable_pointer is n r (after_head i.operands) ts h, (f.0, (f.1, (f.2, (f.3, tt))))),
   λ h. fits_variable is n r (after_head i.operands) ts (h.1.0, h.1.1.0, h.1.1.1.0, h.1.1.1.1.0),
 )
 
-pub chain_told : (is : List PlainInst) (n : ℕ) (i : PlainInst) (r : ℕ) (ts : List ℕ) → Chains is r ts (ids_in (after_head i.operands)) ↔ AllByRecursion (HoldsOf is n i (Some r) ts) (conditions_in chain_line (length ts))
+pub chain_told : (is : List PlainInst) (n : ℕ) (i : PlainInst) (r : ℕ) (ts : List ℕ)
+    → Chains is r ts (ids_in (after_head i.operands))
+    ↔ AllByRecursion (HoldsOf is n i (Some r) ts) (conditions_in chain_line (length ts))
 chain_told is n i r ts =
     let xs = ids_in (after_head i.operands) in
-    let R = RestHolds is n i (Some r) ts in
-    (λ h. chains_hold is R r ts xs (λ j. chain_chosen is r ts xs (j + 1) h) (chain_leads is r ts xs h) h, λ h. hold_chains is R r ts xs (λ l. l) h)
+    let R = RestHolds is n i (Some r) ts in (
+      λ h. chains_hold is R r ts xs (λ j. chain_chosen is r ts xs (j + 1) h) (chain_leads is r ts xs h) h,
+      λ h. hold_chains is R r ts xs (λ l. l) h,
+    )
 
-pub element_told : (is : List PlainInst) (n : ℕ) (i : PlainInst) (r : ℕ) (ts : List ℕ) → ChainsByElement is r ts (ids_in (after_head i.operands)) ↔ AllByRecursion (HoldsOf is n i (Some r) ts) (conditions_in element_line (length ts))
+pub element_told : (is : List PlainInst) (n : ℕ) (i : PlainInst) (r : ℕ) (ts : List ℕ)
+    → ChainsByElement is r ts (ids_in (after_head i.operands))
+    ↔ AllByRecursion (HoldsOf is n i (Some r) ts) (conditions_in element_line (length ts))
 element_told is n i r ts =
     let xs = ids_in (after_head i.operands) in
-    let R = RestHolds is n i (Some r) ts in
-    (λ h. elements_hold is R r ts xs (λ j. element_chosen is r ts xs (j + 1) h) (element_leads is r ts xs h) h, λ h. hold_elements is R r ts xs (λ l. l) h)
+    let R = RestHolds is n i (Some r) ts in (
+      λ h. elements_hold is R r ts xs (λ j. element_chosen is r ts xs (j + 1) h) (element_leads is r ts xs h) h,
+      λ h. hold_elements is R r ts xs (λ l. l) h,
+    )
 
-pub construct_told : (is : List PlainInst) (n : ℕ) (i : PlainInst) (r : ℕ) (ts : List ℕ) → Constructs is r ts (form_of is r) ↔ AllByRecursion (HoldsOf is n i (Some r) ts) (conditions_in construct_line (length ts))
+pub construct_told : (is : List PlainInst) (n : ℕ) (i : PlainInst) (r : ℕ) (ts : List ℕ)
+    → Constructs is r ts (form_of is r) ↔ AllByRecursion (HoldsOf is n i (Some r) ts)
+    (conditions_in construct_line (length ts))
 construct_told is n i r ts = (construct_holds is n i r ts, holds_construct is n i r ts)
 
 -- the line of the first opcode
@@ -199,48 +246,75 @@ wide_place p (inr (inl e)) = rw e tt
 wide_place p (inr (inr e)) = rw e tt
 
 abbrev Told : List PlainInst → ℕ → PlainInst → ℕ → ℕ → Places → List Asks → Type 0
-Told is n i first r p line = IsWide first is n r (after_head i.operands) ↔ IsTypedBy is n i p line (Some r) (after_head i.operands)
+Told is n i first r p line =
+    IsWide first is n r (after_head i.operands) ↔ IsTypedBy is n i p line (Some r) (after_head i.operands)
 
-by_line : (is : List PlainInst) (n : ℕ) (i : PlainInst) (first m r : ℕ) (p : Places) (line : List Asks) → first ≡ m → asks_of i.opcode ≡ line → Told is n i m r p line → Told is n i first r p (asks_of i.opcode)
+by_line : (is : List PlainInst) (n : ℕ) (i : PlainInst) (first m r : ℕ) (p : Places) (line : List Asks) → first ≡ m
+    → asks_of i.opcode ≡ line → Told is n i m r p line → Told is n i first r p (asks_of i.opcode)
 by_line is n i first m r p line e f t = rw (e, f) t
 
-pub wide_told : (is : List PlainInst) (n : ℕ) (i : PlainInst) (first r : ℕ) (p : Places) → first ≡ first_of i.opcode → places_of i.opcode ≡ p → IsWidePlace p → Told is n i first r p (asks_of i.opcode)
+pub wide_told : (is : List PlainInst) (n : ℕ) (i : PlainInst) (first r : ℕ) (p : Places) → first ≡ first_of i.opcode
+    → places_of i.opcode ≡ p → IsWidePlace p → Told is n i first r p (asks_of i.opcode)
 wide_told is n i first r places.Pairs e f w =
     let g = pairs_first i.opcode f in
     by_line is n i first opcode.PHI r places.Pairs phi_line (e ∙ g) (asks_first i.opcode opcode.PHI g ∙ phi_first)
-    (some_iff (AreSame is r) (λ ts. AllByRecursion (HoldsOf is n i (Some r) ts) (conditions_in phi_line (length ts))) (phi_told is n i r) (types_of is (paired_ids_in (after_head i.operands))))
+    (some_iff (AreSame is r) (λ ts. AllByRecursion (HoldsOf is n i (Some r) ts) (conditions_in phi_line (length ts)))
+    (phi_told is n i r) (types_of is (paired_ids_in (after_head i.operands))))
 wide_told is n i first r places.Initializers e f w =
     let g = initializers_first i.opcode f in
-    by_line is n i first opcode.VARIABLE r places.Initializers variable_line (e ∙ g) (asks_first i.opcode opcode.VARIABLE g ∙ variable_first)
-    (some_iff (DeclaresVariable is n r (after_head i.operands)) (λ ts. AllByRecursion (HoldsOf is n i (Some r) ts) (conditions_in variable_line (length ts))) (variable_told is n i r) (types_of is (initializers_in (after_head i.operands))))
+    by_line is n i first opcode.VARIABLE r places.Initializers variable_line (e ∙ g)
+    (asks_first i.opcode opcode.VARIABLE g ∙ variable_first)
+    (some_iff (DeclaresVariable is n r (after_head i.operands))
+    (λ ts. AllByRecursion (HoldsOf is n i (Some r) ts) (conditions_in variable_line (length ts)))
+    (variable_told is n i r) (types_of is (initializers_in (after_head i.operands))))
 wide_told is n i first r places.Many e f w = elim (many_first i.opcode f) [
-  | inl g ↦ by_line is n i first opcode.ACCESS_CHAIN r places.Many chain_line (e ∙ g) (asks_first i.opcode opcode.ACCESS_CHAIN g ∙ chain_first)
-      (some_iff (λ ts. Chains is r ts (ids_in (after_head i.operands))) (λ ts. AllByRecursion (HoldsOf is n i (Some r) ts) (conditions_in chain_line (length ts))) (chain_told is n i r) (types_of is (ids_in (after_head i.operands))))
+  | inl g ↦ by_line is n i first opcode.ACCESS_CHAIN r places.Many chain_line (e ∙ g)
+      (asks_first i.opcode opcode.ACCESS_CHAIN g ∙ chain_first)
+      (some_iff (λ ts. Chains is r ts (ids_in (after_head i.operands)))
+      (λ ts. AllByRecursion (HoldsOf is n i (Some r) ts) (conditions_in chain_line (length ts)))
+      (chain_told is n i r) (types_of is (ids_in (after_head i.operands))))
   | inr h ↦ elim h [
-    | inl g ↦ by_line is n i first opcode.PTR_ACCESS_CHAIN r places.Many element_line (e ∙ g) (asks_first i.opcode opcode.PTR_ACCESS_CHAIN g ∙ element_first)
-        (some_iff (λ ts. ChainsByElement is r ts (ids_in (after_head i.operands))) (λ ts. AllByRecursion (HoldsOf is n i (Some r) ts) (conditions_in element_line (length ts))) (element_told is n i r) (types_of is (ids_in (after_head i.operands))))
-    | inr g ↦ by_line is n i first opcode.COMPOSITE_CONSTRUCT r places.Many construct_line (e ∙ g) (asks_first i.opcode opcode.COMPOSITE_CONSTRUCT g ∙ construct_first)
-        (some_iff (λ ts. Constructs is r ts (form_of is r)) (λ ts. AllByRecursion (HoldsOf is n i (Some r) ts) (conditions_in construct_line (length ts))) (construct_told is n i r) (types_of is (ids_in (after_head i.operands))))
+    | inl g ↦ by_line is n i first opcode.PTR_ACCESS_CHAIN r places.Many element_line (e ∙ g)
+        (asks_first i.opcode opcode.PTR_ACCESS_CHAIN g ∙ element_first)
+        (some_iff (λ ts. ChainsByElement is r ts (ids_in (after_head i.operands)))
+        (λ ts. AllByRecursion (HoldsOf is n i (Some r) ts) (conditions_in element_line (length ts)))
+        (element_told is n i r) (types_of is (ids_in (after_head i.operands))))
+    | inr g ↦ by_line is n i first opcode.COMPOSITE_CONSTRUCT r places.Many construct_line (e ∙ g)
+        (asks_first i.opcode opcode.COMPOSITE_CONSTRUCT g ∙ construct_first)
+        (some_iff (λ ts. Constructs is r ts (form_of is r))
+        (λ ts. AllByRecursion (HoldsOf is n i (Some r) ts) (conditions_in construct_line (length ts)))
+        (construct_told is n i r) (types_of is (ids_in (after_head i.operands))))
   ]
 ]
 wide_told is n i first r p e f w = absurd w
 
 -- they have a result type
 
-without : (is : List PlainInst) (n : ℕ) (i : PlainInst) (line : List Asks) (o : Option (List ℕ)) → ((ts : List ℕ) → ¬ (AllByRecursion (HoldsOf is n i None ts) (conditions_in line (length ts)))) → asks_of i.opcode ≡ line
+without : (is : List PlainInst) (n : ℕ) (i : PlainInst) (line : List Asks) (o : Option (List ℕ))
+    → ((ts : List ℕ) → ¬ (AllByRecursion (HoldsOf is n i None ts) (conditions_in line (length ts))))
+    → asks_of i.opcode ≡ line
     → ¬ (IsSomeAnd o (λ ts. AllByRecursion (HoldsOf is n i None ts) (conditions_in (asks_of i.opcode) (length ts))))
-without is n i line o f e = rw e (none_of (λ ts. AllByRecursion (HoldsOf is n i None ts) (conditions_in line (length ts))) f o)
+without is n i line o f e =
+    rw e (none_of (λ ts. AllByRecursion (HoldsOf is n i None ts) (conditions_in line (length ts))) f o)
 
-pub wide_result : (is : List PlainInst) (n : ℕ) (i : PlainInst) (p : Places) → places_of i.opcode ≡ p → IsWidePlace p → ¬ (IsTypedBy is n i p (asks_of i.opcode) None (after_head i.operands))
+pub wide_result : (is : List PlainInst) (n : ℕ) (i : PlainInst) (p : Places) → places_of i.opcode ≡ p → IsWidePlace p
+    → ¬ (IsTypedBy is n i p (asks_of i.opcode) None (after_head i.operands))
 wide_result is n i places.Pairs f w =
-    without is n i phi_line (types_of is (paired_ids_in (after_head i.operands))) (λ ts. no_same is (RestHolds is n i None ts) ts) (asks_first i.opcode opcode.PHI (pairs_first i.opcode f) ∙ phi_first)
+    without is n i phi_line (types_of is (paired_ids_in (after_head i.operands)))
+    (λ ts. no_same is (RestHolds is n i None ts) ts)
+    (asks_first i.opcode opcode.PHI (pairs_first i.opcode f) ∙ phi_first)
 wide_result is n i places.Initializers f w =
-    without is n i variable_line (types_of is (initializers_in (after_head i.operands))) (λ ts h. h.0) (asks_first i.opcode opcode.VARIABLE (initializers_first i.opcode f) ∙ variable_first)
+    without is n i variable_line (types_of is (initializers_in (after_head i.operands))) (λ ts h. h.0)
+    (asks_first i.opcode opcode.VARIABLE (initializers_first i.opcode f) ∙ variable_first)
 wide_result is n i places.Many f w = elim (many_first i.opcode f) [
-  | inl g ↦ without is n i chain_line (types_of is (ids_in (after_head i.operands))) (λ ts. no_chain is (RestHolds is n i None ts) ts) (asks_first i.opcode opcode.ACCESS_CHAIN g ∙ chain_first)
+  | inl g ↦ without is n i chain_line (types_of is (ids_in (after_head i.operands)))
+      (λ ts. no_chain is (RestHolds is n i None ts) ts) (asks_first i.opcode opcode.ACCESS_CHAIN g ∙ chain_first)
   | inr h ↦ elim h [
-    | inl g ↦ without is n i element_line (types_of is (ids_in (after_head i.operands))) (λ ts. no_elements is (RestHolds is n i None ts) ts) (asks_first i.opcode opcode.PTR_ACCESS_CHAIN g ∙ element_first)
-    | inr g ↦ without is n i construct_line (types_of is (ids_in (after_head i.operands))) (λ ts k. k.0) (asks_first i.opcode opcode.COMPOSITE_CONSTRUCT g ∙ construct_first)
+    | inl g ↦ without is n i element_line (types_of is (ids_in (after_head i.operands)))
+        (λ ts. no_elements is (RestHolds is n i None ts) ts)
+        (asks_first i.opcode opcode.PTR_ACCESS_CHAIN g ∙ element_first)
+    | inr g ↦ without is n i construct_line (types_of is (ids_in (after_head i.operands))) (λ ts k. k.0)
+        (asks_first i.opcode opcode.COMPOSITE_CONSTRUCT g ∙ construct_first)
   ]
 ]
 wide_result is n i p f w = absurd w

@@ -1,5 +1,7 @@
 -- What the code finds by numbers is what the table says, and what holds of its lines.
-use Rattle.std.proofs.Common.{◌≡◌, ◌∙◌, ◌<◌, ◌≤◌, ◌+◌, ℕ, zero, suc, nat_le, nat_lt, nat_eq, List, [], ◌∷◌, refl, sym, ap, subst, Bool, true, false, ◌&&◌, ◌||◌, if◌then◌else◌, Option, Some, None, length, arith, inl, inr, ◌⊎◌}
+use Rattle.std.proofs.Common.{◌≡◌, ◌∙◌, ◌<◌, ◌≤◌, ◌+◌, ℕ, zero, suc, nat_le, nat_lt, nat_eq, List, [], ◌∷◌, refl, sym}
+use Rattle.std.proofs.Common.{ap, subst, Bool, true, false, ◌&&◌, ◌||◌, if◌then◌else◌, Option, Some, None, length}
+use Rattle.std.proofs.Common.{arith, inl, inr, ◌⊎◌}
 use Rattle.std.specs.Prelude.{slice_get}
 use Rattle.std.proofs.lemmas.Bool.{cases_lt, ltb-true, lt-leb, eqb-true}
 use Rattle.std.proofs.lemmas.Option.{slice_get_past, none-some}
@@ -23,7 +25,8 @@ abbrev pub told_from : {T : Type 0} → (ℕ → T) → ℕ → ℕ → List T
 told_from f n zero = []
 told_from f n (suc count) = f n ∷ told_from f (n + 1) count
 
-found_at : {T : Type 0} → (g : Option ℕ → T) (ks : List ℕ) (n : ℕ) (r : T) → slice_get (all_found g ks) n ≡ Some r → g (slice_get ks n) ≡ r
+found_at : {T : Type 0} → (g : Option ℕ → T) (ks : List ℕ) (n : ℕ) (r : T) → slice_get (all_found g ks) n ≡ Some r
+    → g (slice_get ks n) ≡ r
 found_at g [] n r e = absurd (none-some r e)
 found_at g (k ∷ ks) zero r e = cc
 found_at g (k ∷ ks) (suc n) r e = found_at g ks n r e
@@ -84,12 +87,14 @@ pub late_asks : (n : ℕ) → count ≤ n → asks_of n ≡ []
 late_asks n l = ap (λ (h : Line). h.2.now) (late_line n l)
 
 -- what the code finds, by its list of lines and of numbers
-pub found : {T : Type 0} → (g : Option ℕ → T) (f : Line → T) (ks : List ℕ) (n : ℕ) → all_found g ks ≡ told_from (λ m. f (line_of m)) 0 count → g None ≡ f no_line → length ks ≡ count
+pub found : {T : Type 0} → (g : Option ℕ → T) (f : Line → T) (ks : List ℕ) (n : ℕ)
+    → all_found g ks ≡ told_from (λ m. f (line_of m)) 0 count → g None ≡ f no_line → length ks ≡ count
     → g (slice_get ks n) ≡ f (line_of n)
 found g f ks n e z c = elim (cases_lt n count) [
   | inl h ↦
       let q : 0 + n ≡ n = omega arith in
-      found_at g ks n (f (line_of n)) (ap (λ all. slice_get all n) e ∙ told_at (λ m. f (line_of m)) 0 count n h ∙ ap (λ m. Some (f (line_of m))) q)
+      found_at g ks n (f (line_of n)) (ap (λ all. slice_get all n) e ∙ told_at (λ m. f (line_of m)) 0 count n h
+      ∙ ap (λ m. Some (f (line_of m))) q)
   | inr h ↦ ap g (slice_get_past ks n (omega arith)) ∙ z ∙ sym (ap f (late_line n (omega arith)))
 ]
 
@@ -112,7 +117,8 @@ line_first n = elim (cases_lt n count) [
       let q : 0 + n ≡ n = omega arith in
       let a = told_at (λ m. line_of (first_of m)) 0 count n h in
       let b = told_at line_of 0 count n h in
-      let same = same_item (line_of (first_of (0 + n))) (line_of (0 + n)) (sym a ∙ ap (λ all. slice_get all n) all_first ∙ b) in
+      let same = same_item (line_of (first_of (0 + n))) (line_of (0 + n))
+      (sym a ∙ ap (λ all. slice_get all n) all_first ∙ b) in
       rw q at same)
   | inr h ↦ ap line_of (ap (λ (l : Line). first_from l.0.now) (late_line n h)) ∙ none_first ∙ sym (late_line n h)
 ]
@@ -132,7 +138,9 @@ is_empty _ = false
 abbrev is_right : Places → ℕ → List Asks → Bool
 is_right places.Free first line = is_empty line
 is_right places.Ids first line = is_counted line
-is_right places.Many first line = nat_eq first opcode.ACCESS_CHAIN || (nat_eq first opcode.PTR_ACCESS_CHAIN || nat_eq first opcode.COMPOSITE_CONSTRUCT)
+is_right places.Many first line =
+    nat_eq first opcode.ACCESS_CHAIN || (nat_eq first opcode.PTR_ACCESS_CHAIN
+    || nat_eq first opcode.COMPOSITE_CONSTRUCT)
 is_right places.Pairs first line = nat_eq first opcode.PHI
 is_right places.Initializers first line = nat_eq first opcode.VARIABLE
 is_right _ first line = true
@@ -155,7 +163,8 @@ empty [] h = refl
 empty (a ∷ line) h = cc
 
 pub free_asks : (n : ℕ) → places_of n ≡ places.Free → asks_of n ≡ []
-free_asks n e = empty (asks_of n) (let h : is_right (places_of n) (first_of n) (asks_of n) ≡ true = right n in rw e at h)
+free_asks n e = empty (asks_of n) (let h : is_right (places_of n) (first_of n) (asks_of n) ≡ true = right n in
+    rw e at h)
 
 pub counted : (n : ℕ) → places_of n ≡ places.Ids → is_counted (asks_of n) ≡ true
 counted n e = let h : is_right (places_of n) (first_of n) (asks_of n) ≡ true = right n in rw e at h
@@ -164,12 +173,15 @@ one_of_two : (a b : Bool) → a || b ≡ true → (a ≡ true) ⊎ (b ≡ true)
 one_of_two true b h = inl refl
 one_of_two false b h = inr h
 
-pub many_first : (n : ℕ) → places_of n ≡ places.Many → (first_of n ≡ opcode.ACCESS_CHAIN) ⊎ (first_of n ≡ opcode.PTR_ACCESS_CHAIN) ⊎ (first_of n ≡ opcode.COMPOSITE_CONSTRUCT)
+pub many_first : (n : ℕ) → places_of n ≡ places.Many
+    → (first_of n ≡ opcode.ACCESS_CHAIN) ⊎ (first_of n ≡ opcode.PTR_ACCESS_CHAIN)
+    ⊎ (first_of n ≡ opcode.COMPOSITE_CONSTRUCT)
 many_first n e =
     let h : is_right (places_of n) (first_of n) (asks_of n) ≡ true = right n in
     let k = rw e at h in
     let f = first_of n in
-    elim (one_of_two (nat_eq f opcode.ACCESS_CHAIN) (nat_eq f opcode.PTR_ACCESS_CHAIN || nat_eq f opcode.COMPOSITE_CONSTRUCT) k) [
+    elim (one_of_two (nat_eq f opcode.ACCESS_CHAIN)
+    (nat_eq f opcode.PTR_ACCESS_CHAIN || nat_eq f opcode.COMPOSITE_CONSTRUCT) k) [
       | inl a ↦ inl (eqb-true f opcode.ACCESS_CHAIN a)
       | inr b ↦ elim (one_of_two (nat_eq f opcode.PTR_ACCESS_CHAIN) (nat_eq f opcode.COMPOSITE_CONSTRUCT) b) [
         | inl a ↦ inr (inl (eqb-true f opcode.PTR_ACCESS_CHAIN a))
@@ -178,7 +190,9 @@ many_first n e =
     ]
 
 pub pairs_first : (n : ℕ) → places_of n ≡ places.Pairs → first_of n ≡ opcode.PHI
-pairs_first n e = let h : is_right (places_of n) (first_of n) (asks_of n) ≡ true = right n in eqb-true (first_of n) opcode.PHI (rw e at h)
+pairs_first n e = let h : is_right (places_of n) (first_of n) (asks_of n) ≡ true = right n in
+    eqb-true (first_of n) opcode.PHI (rw e at h)
 
 pub initializers_first : (n : ℕ) → places_of n ≡ places.Initializers → first_of n ≡ opcode.VARIABLE
-initializers_first n e = let h : is_right (places_of n) (first_of n) (asks_of n) ≡ true = right n in eqb-true (first_of n) opcode.VARIABLE (rw e at h)
+initializers_first n e = let h : is_right (places_of n) (first_of n) (asks_of n) ≡ true = right n in
+    eqb-true (first_of n) opcode.VARIABLE (rw e at h)

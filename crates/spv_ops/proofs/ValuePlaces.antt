@@ -1,5 +1,6 @@
 -- Where the code looks for value operands is where the rows of the table of shapes have them.
-use Rattle.std.proofs.Common.{◌≡◌, ◌≢◌, ◌++◌, ◌&&◌, ◌||◌, ℕ, not, List, [], ◌∷◌, Some, Bool, true, false, if◌then◌else◌, take, refl, sym, ap, ◌∙◌}
+use Rattle.std.proofs.Common.{◌≡◌, ◌≢◌, ◌++◌, ◌&&◌, ◌||◌, ℕ, not, List, [], ◌∷◌, Some, Bool, true, false, if◌then◌else◌}
+use Rattle.std.proofs.Common.{take, refl, sym, ap, ◌∙◌}
 use Rattle.spv_table.specs.Table.{Table}
 use Rattle.spv_module.specs.Operand.{Plain, PlainInst}
 use Rattle.spv_module.specs.Operand as operand
@@ -7,7 +8,8 @@ use Rattle.spv_layout.specs.declared.form.Form.{Form}
 use Rattle.spv_layout.specs.declared.form.Form.TheVariants as form
 use Rattle.spv_layout.specs.declared.form.Role.TheVariants as role
 use Rattle.spv_layout.specs.declared.form.Named.TheVariants as kind
-use Rattle.spv_layout.specs.Row.{PlainRow, RowEnding, closed, maybe, file_and_text, repeated, others, maybe_others, row_in}
+use Rattle.spv_layout.specs.Row.{PlainRow, RowEnding, closed, maybe, file_and_text, repeated, others, maybe_others}
+use Rattle.spv_layout.specs.Row.{row_in}
 use Rattle.spv_layout.specs.Rows.{rows}
 use Rattle.spv_layout.specs.Shape.{is_of, AreOf, Ends, HasForms}
 use Rattle.spv_ops.specs.declared.table.Places.{Places}
@@ -131,7 +133,8 @@ a_result G (operand.Text a) h = cc
 a_result G (operand.Value a b) h = cc
 a_result G (operand.Mask a b) h = cc
 
-not_an_id : (G : Table) (f : Form) (o : Plain) (os : List Plain) → is_no_id f ≡ true → is_of G f o ≡ true → ids_in (o ∷ os) ≡ []
+not_an_id : (G : Table) (f : Form) (o : Plain) (os : List Plain) → is_no_id f ≡ true → is_of G f o ≡ true
+    → ids_in (o ∷ os) ≡ []
 not_an_id G form.OfType o os e h = cc
 not_an_id G form.Result o os e h = cc
 not_an_id G form.Word (operand.OfType a) os e h = refl
@@ -176,7 +179,8 @@ none_used G (f ∷ fs) (o ∷ os) h =
     let e : value_in f o ≡ [] = no_value f o (not_true (is_value f) two.0) in
     rw e (none_used G fs os two.1)
 
-after_used : (G : Table) (fs : List Form) (os : List Plain) → are_after fs ≡ true → AreOf G fs os → used_in fs os ≡ ids_in os
+after_used : (G : Table) (fs : List Form) (os : List Plain) → are_after fs ≡ true → AreOf G fs os
+    → used_in fs os ≡ ids_in os
 after_used G [] [] h AreOf.none = refl
 after_used G [] (o ∷ os) h a = elim a [ ]
 after_used G (f ∷ fs) [] h a = elim a [ ]
@@ -193,11 +197,13 @@ front_more G f fs o os true e h i a rest =
     let x = an_id G o (rw (← same) i) in
     rw (same, x.1) (ap (λ xs. x.0 ∷ xs) (rest h))
 
-front_used : (G : Table) (fs : List Form) (os : List Plain) → are_front fs ≡ true → AreOf G fs os → used_in fs os ≡ ids_in os
+front_used : (G : Table) (fs : List Form) (os : List Plain) → are_front fs ≡ true → AreOf G fs os
+    → used_in fs os ≡ ids_in os
 front_used G [] [] h AreOf.none = refl
 front_used G [] (o ∷ os) h a = elim a [ ]
 front_used G (f ∷ fs) [] h a = elim a [ ]
-front_used G (f ∷ fs) (o ∷ os) h (AreOf.more _ _ _ _ i a) = front_more G f fs o os (is_value f) refl h i a (λ r. front_used G fs os r a)
+front_used G (f ∷ fs) (o ∷ os) h (AreOf.more _ _ _ _ i a) =
+    front_more G f fs o os (is_value f) refl h i a (λ r. front_used G fs os r a)
 
 -- Tests of endings.
 abbrev is_free_ending : RowEnding → Bool
@@ -208,7 +214,8 @@ is_free_ending (repeated fs) = have_no_value fs
 is_free_ending others = true
 is_free_ending (maybe_others f) = not (is_value f)
 
-no_value_append : (fs gs : List Form) → have_no_value fs ≡ true → have_no_value gs ≡ true → have_no_value (fs ++ gs) ≡ true
+no_value_append : (fs gs : List Form) → have_no_value fs ≡ true → have_no_value gs ≡ true
+    → have_no_value (fs ++ gs) ≡ true
 no_value_append [] gs h k = k
 no_value_append (f ∷ fs) gs h k =
     let two = both (not (is_value f)) (have_no_value fs) h in
@@ -230,7 +237,8 @@ free_ending (repeated fs) gs h (Ends.done _) = refl
 free_ending (repeated fs) gs h (Ends.again _ hs e) = no_value_append fs hs h (free_ending (repeated fs) hs h e)
 free_ending others gs h e = free_others gs e
 free_ending (maybe_others f) gs h (Ends.no_kind _) = refl
-free_ending (maybe_others f) gs h (Ends.kind _ hs e) = and_yes (not (is_value f)) (have_no_value hs) h (free_others hs e)
+free_ending (maybe_others f) gs h (Ends.kind _ hs e) =
+    and_yes (not (is_value f)) (have_no_value hs) h (free_others hs e)
 
 no_id_no_value : (f : Form) → is_no_id f ≡ true → is_value f ≡ false
 no_id_no_value form.OfType h = cc
@@ -280,10 +288,12 @@ one_more f hs false e h r n = front_other f hs h (n e)
 free_of : (f : Form) → is_value f ≡ false → have_no_value (f ∷ []) ≡ true
 free_of f e = rw e refl
 
-plain_repeated : (f : Form) (gs : List Form) → is_value f || is_no_id f ≡ true → Ends (repeated (f ∷ [])) gs → are_front gs ≡ true
+plain_repeated : (f : Form) (gs : List Form) → is_value f || is_no_id f ≡ true → Ends (repeated (f ∷ [])) gs
+    → are_front gs ≡ true
 plain_repeated f [] h _ = refl
 plain_repeated f gs h (Ends.again _ hs e) =
-    one_more f hs (is_value f) refl h (plain_repeated f hs h e) (λ n. free_ending (repeated (f ∷ [])) hs (free_of f n) e)
+    one_more f hs (is_value f) refl h (plain_repeated f hs h e)
+    (λ n. free_ending (repeated (f ∷ [])) hs (free_of f n) e)
 
 plain_ending : (e : RowEnding) (gs : List Form) → is_plain_ending e ≡ true → Ends e gs → are_front gs ≡ true
 plain_ending closed gs h Ends.nothing = refl
@@ -301,7 +311,8 @@ abbrev is_plain : List Form → RowEnding → Bool
 is_plain [] e = is_plain_ending e
 is_plain (f ∷ fs) e = if is_value f then is_plain fs e else (is_no_id f && (have_no_value fs && is_free_ending e))
 
-plain_more : (f : Form) (fs gs : List Form) (e : RowEnding) (b : Bool) → is_value f ≡ b → (if b then is_plain fs e else (is_no_id f && (have_no_value fs && is_free_ending e))) ≡ true
+plain_more : (f : Form) (fs gs : List Form) (e : RowEnding) (b : Bool) → is_value f ≡ b
+    → (if b then is_plain fs e else (is_no_id f && (have_no_value fs && is_free_ending e))) ≡ true
     → Ends e gs → (is_plain fs e ≡ true → are_front (fs ++ gs) ≡ true) → are_front (f ∷ (fs ++ gs)) ≡ true
 plain_more f fs gs e true v h n rest = front_value f (fs ++ gs) v (rest h)
 plain_more f fs gs e false v h n rest =
@@ -313,7 +324,8 @@ plain_front : (fs gs : List Form) (e : RowEnding) → is_plain fs e ≡ true →
 plain_front [] gs e h n = plain_ending e gs h n
 plain_front (f ∷ fs) gs e h n = plain_more f fs gs e (is_value f) refl h n (λ r. plain_front fs gs e r n)
 
-plain_used : (G : Table) (fs gs : List Form) (e : RowEnding) (os : List Plain) → is_plain fs e ≡ true → Ends e gs → AreOf G (fs ++ gs) os → used_in (fs ++ gs) os ≡ ids_in os
+plain_used : (G : Table) (fs gs : List Form) (e : RowEnding) (os : List Plain) → is_plain fs e ≡ true → Ends e gs
+    → AreOf G (fs ++ gs) os → used_in (fs ++ gs) os ≡ ids_in os
 plain_used G fs gs e os h n a = front_used G (fs ++ gs) os (plain_front fs gs e h n) a
 
 -- a variable: its storage class, and then values
@@ -366,7 +378,8 @@ a_value G (operand.Text a) h = cc
 a_value G (operand.Value a b) h = (a, b, refl)
 a_value G (operand.Mask a b) h = cc
 
-variable_used : (G : Table) (fs gs : List Form) (e : RowEnding) (os : List Plain) → is_variable fs e ≡ true → Ends e gs → AreOf G (fs ++ gs) os
+variable_used : (G : Table) (fs gs : List Form) (e : RowEnding) (os : List Plain) → is_variable fs e ≡ true → Ends e gs
+    → AreOf G (fs ++ gs) os
     → used_in (fs ++ gs) os ≡ initializers_in os
 variable_used G [] gs e os h n a = cc
 variable_used G (f ∷ fs) gs e [] h n a = elim a [ ]
@@ -409,7 +422,9 @@ abbrev is_phi : List Form → RowEnding → Bool
 is_phi [] (repeated fs) = are_pairs fs
 is_phi _ _ = false
 
-pairs_used : (G : Table) (gs : List Form) (os : List Plain) → Ends (repeated (form.Id role.Value ∷ form.Id role.Label ∷ [])) gs → AreOf G gs os → used_in gs os ≡ paired_ids_in os
+pairs_used : (G : Table) (gs : List Form) (os : List Plain)
+    → Ends (repeated (form.Id role.Value ∷ form.Id role.Label ∷ [])) gs → AreOf G gs os
+    → used_in gs os ≡ paired_ids_in os
 pairs_used G [] [] e a = refl
 pairs_used G gs (o ∷ os) (Ends.done _) a = elim a [ ]
 pairs_used G gs [] (Ends.again _ hs e) a = elim a [ ]
@@ -419,7 +434,8 @@ pairs_used G gs (o ∷ p ∷ os) (Ends.again _ hs e) (AreOf.more _ _ _ _ i (AreO
     let y = a_label G p j in
     rw (x.1, y.1) (ap (λ xs. x.0 ∷ xs) (pairs_used G hs os e a))
 
-phi_used : (G : Table) (fs gs : List Form) (e : RowEnding) (os : List Plain) → is_phi fs e ≡ true → Ends e gs → AreOf G (fs ++ gs) os → used_in (fs ++ gs) os ≡ paired_ids_in os
+phi_used : (G : Table) (fs gs : List Form) (e : RowEnding) (os : List Plain) → is_phi fs e ≡ true → Ends e gs
+    → AreOf G (fs ++ gs) os → used_in (fs ++ gs) os ≡ paired_ids_in os
 phi_used G [] gs closed os h n a = cc
 phi_used G [] gs (maybe f) os h n a = cc
 phi_used G [] gs file_and_text os h n a = cc
@@ -440,7 +456,8 @@ abbrev is_one : List Form → RowEnding → Bool
 is_one [] e = false
 is_one (f ∷ fs) e = is_value f && (have_no_value fs && is_free_ending e)
 
-one_used : (G : Table) (fs gs : List Form) (e : RowEnding) (os : List Plain) → is_one fs e ≡ true → Ends e gs → AreOf G (fs ++ gs) os → used_in (fs ++ gs) os ≡ take 1 (ids_in os)
+one_used : (G : Table) (fs gs : List Form) (e : RowEnding) (os : List Plain) → is_one fs e ≡ true → Ends e gs
+    → AreOf G (fs ++ gs) os → used_in (fs ++ gs) os ≡ take 1 (ids_in os)
 one_used G [] gs e os h n a = cc
 one_used G (f ∷ fs) gs e [] h n a = elim a [ ]
 one_used G (f ∷ fs) gs e (o ∷ os) h n (AreOf.more _ _ _ _ i a) =
@@ -448,7 +465,8 @@ one_used G (f ∷ fs) gs e (o ∷ os) h n (AreOf.more _ _ _ _ i a) =
     let more = both (have_no_value fs) (is_free_ending e) two.1 in
     let same : f ≡ form.Id role.Value = is_it f two.0 in
     let x = an_id G o (rw (← same) i) in
-    rw (same, x.1) (ap (λ xs. x.0 ∷ xs) (none_used G (fs ++ gs) os (no_value_append fs gs more.0 (free_ending e gs more.1 n))))
+    rw (same, x.1) (ap (λ xs. x.0 ∷ xs) (none_used G (fs ++ gs) os
+    (no_value_append fs gs more.0 (free_ending e gs more.1 n))))
 
 -- Whether a row of types looks for its values where forms and an ending, without the type and the result, have them.
 abbrev agrees : Places → List Form → RowEnding → Bool
@@ -460,7 +478,8 @@ agrees places.One fs e = is_one fs e
 agrees places.Ids fs e = is_plain fs e
 agrees places.Many fs e = is_plain fs e
 
-agreed : (G : Table) (r : Places) (fs gs : List Form) (e : RowEnding) (os : List Plain) → agrees r fs e ≡ true → Ends e gs → AreOf G (fs ++ gs) os
+agreed : (G : Table) (r : Places) (fs gs : List Form) (e : RowEnding) (os : List Plain) → agrees r fs e ≡ true
+    → Ends e gs → AreOf G (fs ++ gs) os
     → used_in (fs ++ gs) os ≡ value_ids r os
 agreed G places.Free fs gs e os h n a = cc
 agreed G places.Nothing fs gs e os h n a =
@@ -527,7 +546,8 @@ agrees_whole r [] e = false
 agrees_whole r (f ∷ []) e = is_value f && agrees r (f ∷ []) e
 agrees_whole r (f ∷ g ∷ fs) e = (is_type f && (is_result g && agrees r fs e)) || (is_value f && agrees r (f ∷ g ∷ fs) e)
 
-value_first : (G : Table) (r : Places) (f : Form) (fs gs : List Form) (e : RowEnding) (os : List Plain) → is_value f && agrees r (f ∷ fs) e ≡ true → Ends e gs → AreOf G (f ∷ (fs ++ gs)) os
+value_first : (G : Table) (r : Places) (f : Form) (fs gs : List Form) (e : RowEnding) (os : List Plain)
+    → is_value f && agrees r (f ∷ fs) e ≡ true → Ends e gs → AreOf G (f ∷ (fs ++ gs)) os
     → used_in (f ∷ (fs ++ gs)) os ≡ value_ids r (after_head os)
 value_first G r f fs gs e [] h n a = elim a [ ]
 value_first G r f fs gs e (o ∷ os) h n (AreOf.more _ _ _ _ i a) =
@@ -537,7 +557,8 @@ value_first G r f fs gs e (o ∷ os) h n (AreOf.more _ _ _ _ i a) =
     let front : after_head (o ∷ os) ≡ o ∷ os = rw x.1 refl in
     agreed G r (f ∷ fs) gs e (o ∷ os) two.1 n (AreOf.more f o (fs ++ gs) os i a) ∙ ap (value_ids r) (sym front)
 
-head_first : (G : Table) (r : Places) (f g : Form) (fs gs : List Form) (e : RowEnding) (os : List Plain) → is_type f && (is_result g && agrees r fs e) ≡ true → Ends e gs → AreOf G (f ∷ g ∷ (fs ++ gs)) os
+head_first : (G : Table) (r : Places) (f g : Form) (fs gs : List Form) (e : RowEnding) (os : List Plain)
+    → is_type f && (is_result g && agrees r fs e) ≡ true → Ends e gs → AreOf G (f ∷ g ∷ (fs ++ gs)) os
     → used_in (f ∷ g ∷ (fs ++ gs)) os ≡ value_ids r (after_head os)
 head_first G r f g fs gs e [] h n a = elim a [ ]
 head_first G r f g fs gs e (o ∷ []) h n (AreOf.more _ _ _ _ i a) = elim a [ ]
@@ -550,16 +571,20 @@ head_first G r f g fs gs e (o ∷ p ∷ os) h n (AreOf.more _ _ _ _ i (AreOf.mor
     let x = a_result G p (rw (← second) j) in
     rw (first, second, t.1, x.1) (agreed G r fs gs e os more.1 n a)
 
-whole_two : (G : Table) (r : Places) (f g : Form) (fs gs : List Form) (e : RowEnding) (os : List Plain) (b : Bool) → is_type f && (is_result g && agrees r fs e) ≡ b
-    → b || (is_value f && agrees r (f ∷ g ∷ fs) e) ≡ true → Ends e gs → AreOf G (f ∷ g ∷ (fs ++ gs)) os → used_in (f ∷ g ∷ (fs ++ gs)) os ≡ value_ids r (after_head os)
+whole_two : (G : Table) (r : Places) (f g : Form) (fs gs : List Form) (e : RowEnding) (os : List Plain) (b : Bool)
+    → is_type f && (is_result g && agrees r fs e) ≡ b
+    → b || (is_value f && agrees r (f ∷ g ∷ fs) e) ≡ true → Ends e gs → AreOf G (f ∷ g ∷ (fs ++ gs)) os
+    → used_in (f ∷ g ∷ (fs ++ gs)) os ≡ value_ids r (after_head os)
 whole_two G r f g fs gs e os true y h n a = head_first G r f g fs gs e os y n a
 whole_two G r f g fs gs e os false y h n a = value_first G r f (g ∷ fs) gs e os h n a
 
-whole : (G : Table) (r : Places) (fs gs : List Form) (e : RowEnding) (os : List Plain) → agrees_whole r fs e ≡ true → Ends e gs → AreOf G (fs ++ gs) os
+whole : (G : Table) (r : Places) (fs gs : List Form) (e : RowEnding) (os : List Plain) → agrees_whole r fs e ≡ true
+    → Ends e gs → AreOf G (fs ++ gs) os
     → used_in (fs ++ gs) os ≡ value_ids r (after_head os)
 whole G r [] gs e os h n a = cc
 whole G r (f ∷ []) gs e os h n a = value_first G r f [] gs e os h n a
-whole G r (f ∷ g ∷ fs) gs e os h n a = whole_two G r f g fs gs e os (is_type f && (is_result g && agrees r fs e)) refl h n a
+whole G r (f ∷ g ∷ fs) gs e os h n a =
+    whole_two G r f g fs gs e os (is_type f && (is_result g && agrees r fs e)) refl h n a
 
 -- The test of all rows of the table of shapes, opcode by opcode.
 abbrev agrees_with : ℕ → PlainRow → Bool
@@ -579,9 +604,12 @@ freed places.Ids b h n = h
 freed places.Many b h n = h
 
 -- The code's places of value operands are those of the instruction's forms.
-pub values_agree : (G : Table) (i : PlainInst) (fs : List Form) → HasForms G i fs → places_of i.opcode ≢ places.Free → used_in fs i.operands ≡ values_of i
+pub values_agree : (G : Table) (i : PlainInst) (fs : List Form) → HasForms G i fs → places_of i.opcode ≢ places.Free
+    → used_in fs i.operands ≡ values_of i
 values_agree G i fs has n =
     let known : row_in rows i.opcode ≡ Some has.row = has.known in
-    let h = freed (places_of i.opcode) (agrees_whole (places_of i.opcode) has.row.fixed has.row.ending) (one_passes agrees_with rows i.opcode has.row all_fit known) n in
+    let h = freed (places_of i.opcode) (agrees_whole (places_of i.opcode) has.row.fixed has.row.ending)
+    (one_passes agrees_with rows i.opcode has.row all_fit known) n in
     let e : fs ≡ has.row.fixed ++ has.rest = has.forms in
-    rw e (whole G (places_of i.opcode) has.row.fixed has.rest has.row.ending i.operands h has.ending (rw (← e) has.each))
+    rw e (whole G (places_of i.opcode) has.row.fixed has.rest has.row.ending i.operands h has.ending
+    (rw (← e) has.each))

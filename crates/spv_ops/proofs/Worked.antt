@@ -20,7 +20,8 @@ chain_forms = record {
   known = refl;
   forms = refl;
   ending = Ends.again (form.Id role.Value ∷ []) [] (Ends.done (form.Id role.Value ∷ []));
-  each = AreOf.more _ _ _ _ refl (AreOf.more _ _ _ _ refl (AreOf.more _ _ _ _ refl (AreOf.more _ _ _ _ refl AreOf.none)));
+  each = AreOf.more _ _ _ _ refl (AreOf.more _ _ _ _ refl
+      (AreOf.more _ _ _ _ refl (AreOf.more _ _ _ _ refl AreOf.none)));
 }
 
 pub add_forms : HasForms table add (form.OfType ∷ form.Result ∷ form.Id role.Value ∷ form.Id role.Value ∷ [])
@@ -31,7 +32,8 @@ add_forms = record {
   known = refl;
   forms = refl;
   ending = Ends.nothing;
-  each = AreOf.more _ _ _ _ refl (AreOf.more _ _ _ _ refl (AreOf.more _ _ _ _ refl (AreOf.more _ _ _ _ refl AreOf.none)));
+  each = AreOf.more _ _ _ _ refl (AreOf.more _ _ _ _ refl
+      (AreOf.more _ _ _ _ refl (AreOf.more _ _ _ _ refl AreOf.none)));
 }
 
 -- nor are a type and a variable

@@ -3,7 +3,8 @@ use Rattle.std.proofs.Common.{◌≡◌, ◌++◌, ◌∙◌, ℕ, List, [], ◌
 use Rattle.std.proofs.lemmas.Bool.Decides.{nat_tests}
 use Rattle.std.specs.Option.{option_or}
 use Rattle.std.specs.Prelude.{if◌then◌else◌}
-use Rattle.spv_module.specs.Operand.{Plain, OfType, Result, Id, Word, Number, Text, Value, Mask, Argument, Mention, result_in, type_in}
+use Rattle.spv_module.specs.Operand.{Plain, OfType, Result, Id, Word, Number, Text, Value, Mask, Argument, Mention}
+use Rattle.spv_module.specs.Operand.{result_in, type_in}
 use Rattle.spv_module.specs.Width.{first_id, width_in}
 use Rattle.spv_lines.proofs.OneMore.{result_snoc, type_snoc}
 use Rattle.spv_parser.specs.declared.operands.Known.{Known}
@@ -84,7 +85,8 @@ more_widths (Text t) o xs ys = refl
 more_widths (Value k x) o xs ys = refl
 more_widths (Mask k x) o xs ys = refl
 
-width_snoc : (os : List Plain) (o : Plain) → width_after (count_of os) (result_in os) (width_in os) o ≡ width_in (os ++ (o ∷ []))
+width_snoc : (os : List Plain) (o : Plain)
+    → width_after (count_of os) (result_in os) (width_in os) o ≡ width_in (os ++ (o ∷ []))
 width_snoc [] o = one_width o
 width_snoc (x ∷ []) o = two_widths x o
 width_snoc (x ∷ y ∷ os) o = more_widths x y os (os ++ (o ∷ []))
@@ -94,15 +96,21 @@ count_snoc [] o = refl
 count_snoc (x ∷ []) o = refl
 count_snoc (x ∷ y ∷ os) o = refl
 
-pub of_more : (known next : Known) (opcode : ℕ) (os : List Plain) (o : Plain) → next.opcode ≡ known.opcode → next.result ≡ option_or known.result (result_in (o ∷ [])) → next.type_id ≡ option_or known.type_id (type_in (o ∷ []))
-    → next.first ≡ first_after known.count known.first o → next.width ≡ width_after known.count known.result known.width o → next.count ≡ count_more known.count
+pub of_more : (known next : Known) (opcode : ℕ) (os : List Plain) (o : Plain) → next.opcode ≡ known.opcode
+    → next.result ≡ option_or known.result (result_in (o ∷ []))
+    → next.type_id ≡ option_or known.type_id (type_in (o ∷ []))
+    → next.first ≡ first_after known.count known.first o
+    → next.width ≡ width_after known.count known.result known.width o → next.count ≡ count_more known.count
     → IsOfOperands known opcode os → IsOfOperands next opcode (os ++ (o ∷ []))
 of_more known next opcode os o n a b c w d h = record {
   opcode = n ∙ h.opcode;
   result = a ∙ (ap (λ x. option_or x (result_in (o ∷ []))) h.result ∙ result_snoc os o);
   type_id = b ∙ (ap (λ x. option_or x (type_in (o ∷ []))) h.type_id ∙ type_snoc os o);
-  first = c ∙ (ap (λ x. first_after x known.first o) h.count ∙ (ap (λ x. first_after (count_of os) x o) h.first ∙ first_snoc os o));
-  width = w ∙ (ap (λ x. width_after x known.result known.width o) h.count ∙ (ap (λ x. width_after (count_of os) x known.width o) h.result ∙ (ap (λ x. width_after (count_of os) (result_in os) x o) h.width ∙ width_snoc os o)));
+  first = c ∙ (ap (λ x. first_after x known.first o) h.count
+      ∙ (ap (λ x. first_after (count_of os) x o) h.first ∙ first_snoc os o));
+  width = w ∙ (ap (λ x. width_after x known.result known.width o) h.count
+      ∙ (ap (λ x. width_after (count_of os) x known.width o) h.result
+      ∙ (ap (λ x. width_after (count_of os) (result_in os) x o) h.width ∙ width_snoc os o)));
   count = d ∙ (ap count_more h.count ∙ count_snoc os o);
 }
 

@@ -1,9 +1,11 @@
 -- Where the first ` = ` stands in a line.
-use Rattle.std.proofs.Common.{◌≡◌, ◌≢◌, ◌++◌, ◌∙◌, ◌<◌, ◌≤◌, ℕ, zero, suc, List, [], ◌∷◌, Option, Some, None, Bool, true, false, ◌&&◌, nat_eq, length, take, drop, option_map, refl, sym, ap, arith}
+use Rattle.std.proofs.Common.{◌≡◌, ◌≢◌, ◌++◌, ◌∙◌, ◌<◌, ◌≤◌, ℕ, zero, suc, List, [], ◌∷◌, Option, Some, None, Bool}
+use Rattle.std.proofs.Common.{true, false, ◌&&◌, nat_eq, length, take, drop, option_map, refl, sym, ap, arith}
 use Rattle.std.specs.Prelude.{codes}
 use Rattle.std.proofs.lemmas.Bool.Decides.{nat_tests}
 use Rattle.std.specs.Str.Pattern.{FindsText, SplitsAroundMatch}
-use Rattle.spv_lines.specs.Line.{Halves, begins_equals, begins_percent, behind_equals, cut_at_equals, parts_behind, parts_of}
+use Rattle.spv_lines.specs.Line.{Halves, begins_equals, begins_percent, behind_equals, cut_at_equals, parts_behind}
+use Rattle.spv_lines.specs.Line.{parts_of}
 
 abbrev pub equals_text : List ℕ
 equals_text = codes " = "
@@ -37,11 +39,13 @@ no_equals t n = by (begins_equals t) refl
 abbrev cut : List ℕ → List ℕ → Option Halves
 cut front back = Some (record { front = front; back = back })
 
-one_cut : (b : ℕ) (t : List ℕ) → begins_equals (b ∷ t) ≡ false → cut_at_equals (b ∷ t) ≡ option_map (λ h. record { front = b ∷ h.front; back = h.back }) (cut_at_equals t)
+one_cut : (b : ℕ) (t : List ℕ) → begins_equals (b ∷ t) ≡ false
+    → cut_at_equals (b ∷ t) ≡ option_map (λ h. record { front = b ∷ h.front; back = h.back }) (cut_at_equals t)
 one_cut b t e = rw e refl
 
 -- none stands at any place
-pub uncut : (t : List ℕ) → ((i : ℕ) → i ≤ length t → (rest : List ℕ) → drop i t ≢ equals_text ++ rest) → cut_at_equals t ≡ None
+pub uncut : (t : List ℕ) → ((i : ℕ) → i ≤ length t → (rest : List ℕ) → drop i t ≢ equals_text ++ rest)
+    → cut_at_equals t ≡ None
 uncut [] n = refl
 uncut (b ∷ t) n =
     let l : 0 ≤ length (b ∷ t) = omega arith in
@@ -50,7 +54,8 @@ uncut (b ∷ t) n =
     one_cut b t e ∙ ap (option_map (λ h. record { front = b ∷ h.front; back = h.back })) k
 
 -- the first stands at a place
-pub cut_at : (t : List ℕ) (i : ℕ) (back : List ℕ) → ((j : ℕ) → j < i → (rest : List ℕ) → drop j t ≢ equals_text ++ rest) → drop i t ≡ equals_text ++ back → cut_at_equals t ≡ cut (take i t) back
+pub cut_at : (t : List ℕ) (i : ℕ) (back : List ℕ) → ((j : ℕ) → j < i → (rest : List ℕ) → drop j t ≢ equals_text ++ rest)
+    → drop i t ≡ equals_text ++ back → cut_at_equals t ≡ cut (take i t) back
 cut_at [] zero back n e = cc
 cut_at [] (suc i) back n e = cc
 cut_at (b ∷ t) zero back n e = here (b ∷ t) e
@@ -81,7 +86,8 @@ percent_parts line u e = rw e refl
 pub front_uncut : (line u : List ℕ) → line ≡ 37 ∷ u → FindsText equals_text line None → None ≡ parts_of line
 front_uncut line u e n = sym (ap parts_cut (uncut line n)) ∙ percent_parts line u e
 
-pub front_cut : (line u front back : List ℕ) → line ≡ 37 ∷ u → SplitsAroundMatch (FindsText equals_text) line front back → Some (parts_behind (Some front) back) ≡ parts_of line
+pub front_cut : (line u front back : List ℕ) → line ≡ 37 ∷ u → SplitsAroundMatch (FindsText equals_text) line front back
+    → Some (parts_behind (Some front) back) ≡ parts_of line
 front_cut line u front back e h =
     let f = h.2 in
     let k : cut_at_equals line ≡ cut (take h.0 line) (drop h.1 line) = cut_at line h.0 (drop h.1 line) f.0 f.1.split in

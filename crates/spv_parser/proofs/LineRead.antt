@@ -16,13 +16,17 @@ use Rattle.spv_lines.proofs.Whole.{parts_break}
 use Rattle.spv_parser.specs.declared.operands.Line.{Line}
 use Rattle.spv_parser.specs.inner.Reading.{AreRead, IsLine, LineFailsOr, OperandsFailOr}
 
-pub line_undivided : (G : Table) (before : List PlainInst) (written : ℕ) (line : List ℕ) → parts_of line ≡ None → LineFailsOr G before written line S2
+pub line_undivided : (G : Table) (before : List PlainInst) (written : ℕ) (line : List ℕ) → parts_of line ≡ None
+    → LineFailsOr G before written line S2
 line_undivided G before written line e = LineFails.undivided e
 
-pub line_unnamed : (G : Table) (before : List PlainInst) (written : ℕ) (line : List ℕ) (P : Parts) → parts_of line ≡ Some P → ((opcode : ℕ) (entry : Entry) → IsInstName G P.name opcode entry → ⊥) → LineFailsOr G before written line S2
+pub line_unnamed : (G : Table) (before : List PlainInst) (written : ℕ) (line : List ℕ) (P : Parts)
+    → parts_of line ≡ Some P → ((opcode : ℕ) (entry : Entry) → IsInstName G P.name opcode entry → ⊥)
+    → LineFailsOr G before written line S2
 line_unnamed G before written line P e n = LineFails.name P e n
 
-pub line_result_failed : (G : Table) (before : List PlainInst) (written : ℕ) (line : List ℕ) (P : Parts) (opcode : ℕ) (entry : Entry) (code : AsmCode) → parts_of line ≡ Some P → IsInstName G P.name opcode entry
+pub line_result_failed : (G : Table) (before : List PlainInst) (written : ℕ) (line : List ℕ) (P : Parts) (opcode : ℕ)
+    (entry : Entry) (code : AsmCode) → parts_of line ≡ Some P → IsInstName G P.name opcode entry
     → ResultFails G (start before opcode) (pattern_of entry) P.result code → LineFailsOr G before written line code
 line_result_failed G before written line P opcode entry S1 e n f = LineFails.result P opcode entry S1 e n f
 line_result_failed G before written line P opcode entry S2 e n f = LineFails.result P opcode entry S2 e n f
@@ -31,23 +35,43 @@ line_result_failed G before written line P opcode entry S4 e n f = LineFails.res
 line_result_failed G before written line P opcode entry S5 e n f = LineFails.result P opcode entry S5 e n f
 line_result_failed G before written line P opcode entry S6 e n f = tt
 
-pub line_operands_failed : (G : Table) (before : List PlainInst) (written : ℕ) (line : List ℕ) (P : Parts) (opcode : ℕ) (entry : Entry) (r : Option ℕ) (code : AsmCode) → parts_of line ≡ Some P → IsInstName G P.name opcode entry
-    → IsResult P.result r × ((wrong : AsmCode) → ¬ (ResultFails G (start before opcode) (pattern_of entry) P.result wrong)) → OperandsFailOr G r (start before opcode) (map due (pattern_of entry)) P.operands code → LineFailsOr G before written line code
-line_operands_failed G before written line P opcode entry r S1 e n f h = LineFails.operands P opcode entry r S1 e n f.1 f.0 h
-line_operands_failed G before written line P opcode entry r S2 e n f h = LineFails.operands P opcode entry r S2 e n f.1 f.0 h
-line_operands_failed G before written line P opcode entry r S3 e n f h = LineFails.operands P opcode entry r S3 e n f.1 f.0 h
-line_operands_failed G before written line P opcode entry r S4 e n f h = LineFails.operands P opcode entry r S4 e n f.1 f.0 h
-line_operands_failed G before written line P opcode entry r S5 e n f h = LineFails.operands P opcode entry r S5 e n f.1 f.0 h
+pub line_operands_failed : (G : Table) (before : List PlainInst) (written : ℕ) (line : List ℕ) (P : Parts) (opcode : ℕ)
+    (entry : Entry) (r : Option ℕ) (code : AsmCode) → parts_of line ≡ Some P → IsInstName G P.name opcode entry
+    → IsResult P.result r × ((wrong : AsmCode)
+    → ¬ (ResultFails G (start before opcode) (pattern_of entry) P.result wrong))
+    → OperandsFailOr G r (start before opcode) (map due (pattern_of entry)) P.operands code
+    → LineFailsOr G before written line code
+line_operands_failed G before written line P opcode entry r S1 e n f h =
+    LineFails.operands P opcode entry r S1 e n f.1 f.0 h
+line_operands_failed G before written line P opcode entry r S2 e n f h =
+    LineFails.operands P opcode entry r S2 e n f.1 f.0 h
+line_operands_failed G before written line P opcode entry r S3 e n f h =
+    LineFails.operands P opcode entry r S3 e n f.1 f.0 h
+line_operands_failed G before written line P opcode entry r S4 e n f h =
+    LineFails.operands P opcode entry r S4 e n f.1 f.0 h
+line_operands_failed G before written line P opcode entry r S5 e n f h =
+    LineFails.operands P opcode entry r S5 e n f.1 f.0 h
 line_operands_failed G before written line P opcode entry r S6 e n f h = tt
 
-pub line_read : (G : Table) (before : List PlainInst) (octets words : List ℕ) (P : Parts) (opcode : ℕ) (entry : Entry) (r : Option ℕ) (line : Line) → parts_of octets ≡ Some P → IsInstName G P.name opcode entry → P.result ≡ option_map id_text r
+pub line_read : (G : Table) (before : List PlainInst) (octets words : List ℕ) (P : Parts) (opcode : ℕ) (entry : Entry)
+    (r : Option ℕ) (line : Line) → parts_of octets ≡ Some P → IsInstName G P.name opcode entry
+    → P.result ≡ option_map id_text r
     → AreRead G r before opcode (map due (pattern_of entry)) P.operands words line → IsLine G before octets words line
 line_read G before octets words P opcode entry r line e n f a =
     let m = a.written in
-    let m' : Written (IsRead G) G (result_in a.operands) (start before opcode) (map due (pattern_of entry)) a.operands words P.operands = rw a.result at m in
+    let m' : Written (IsRead G) G (result_in a.operands) (start before opcode)
+    (map due (pattern_of entry)) a.operands words P.operands = rw a.result at m in
     record {
       inst = record { opcode = opcode; operands = a.operands };
-      read = record { parts = P; entry = entry; divided = e; name = n; result = f ∙ ap (option_map id_text) a.result; written = m'; small = a.small };
+      read = record {
+        parts = P;
+        entry = entry;
+        divided = e;
+        name = n;
+        result = f ∙ ap (option_map id_text) a.result;
+        written = m';
+        small = a.small;
+      };
       kept = a.kept;
     }
 

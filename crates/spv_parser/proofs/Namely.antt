@@ -13,7 +13,8 @@ pub stripped : (p s x : List ℕ) → StripsPrefix (FindsTextPrefix p) s x → s
 stripped p s x h = h.1.1 ∙ ap (λ z. p ++ z) (sym h.2)
 
 -- a name, and behind it a break
-pub name_again : (G : Table) (n text rest : List ℕ) (x : ℕ) (e : Entry) → IsInstName G n x e → text ≡ n ++ rest → IsBreak rest → IsInstName G (before_space text) x e × (rest ≡ from_space text)
+pub name_again : (G : Table) (n text rest : List ℕ) (x : ℕ) (e : Entry) → IsInstName G n x e → text ≡ n ++ rest
+    → IsBreak rest → IsInstName G (before_space text) x e × (rest ≡ from_space text)
 name_again G n text rest x e i a b =
     let r = i.range in
     let m = names_tame _ x n (omega (arith, r)) i.named in

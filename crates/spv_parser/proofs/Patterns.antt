@@ -15,7 +15,8 @@ use Rattle.spv_lines.specs.Fault.{is_result_shape, may_have_result, must_have_re
 use Rattle.spv_parser.proofs.Headed.{kind_result, kind_other, kind_parts}
 
 module _ (G : Table) (c : Context) where
-  leaf_same : (k : ℕ) (l : declared.Leaf) → Leaf l ≡ form_at (kind_of G k) → is_result_form (Leaf l) ≡ is_result_shape (shape_of G c (alone k))
+  leaf_same : (k : ℕ) (l : declared.Leaf) → Leaf l ≡ form_at (kind_of G k)
+      → is_result_form (Leaf l) ≡ is_result_shape (shape_of G c (alone k))
   leaf_same k leaf.Result e = kind_result G c k leaf.Result e refl
   leaf_same k leaf.ResultType e = kind_other G c k leaf.ResultType e (λ n. cc)
   leaf_same k leaf.Id e = kind_other G c k leaf.Id e (λ n. cc)
@@ -27,7 +28,8 @@ module _ (G : Table) (c : Context) where
   leaf_same k leaf.Mask e = kind_other G c k leaf.Mask e (λ n. cc)
   leaf_same k leaf.Nothing e = kind_other G c k leaf.Nothing e (λ n. cc)
 
-  form_same : (k : ℕ) (f : Form) → f ≡ form_at (kind_of G k) → is_result_form f ≡ is_result_shape (shape_of G c (alone k))
+  form_same : (k : ℕ) (f : Form) → f ≡ form_at (kind_of G k)
+      → is_result_form f ≡ is_result_shape (shape_of G c (alone k))
   form_same k (Leaf l) e = leaf_same k l e
   form_same k (Parts p) e = kind_parts G c k p e
 
@@ -50,8 +52,13 @@ module _ (G : Table) (c : Context) where
   any_same f g h (i ∷ is) = rw (h i, any_same f g h is) refl
 
   -- what the table tells of an entry
-  pub may_have : (o : Option Entry) (e : Entry) (r : Bool) → r ≡ entry_has_result true G o → o ≡ Some e → list_any (may_have_result G c) (pattern_of e) ≡ r
-  may_have o e r h k = sym (h ∙ (ap (entry_has_result true G) k ∙ any_same (has_result true G) (may_have_result G c) may_item (pattern_of e)))
+  pub may_have : (o : Option Entry) (e : Entry) (r : Bool) → r ≡ entry_has_result true G o → o ≡ Some e
+      → list_any (may_have_result G c) (pattern_of e) ≡ r
+  may_have o e r h k = sym (h ∙ (ap (entry_has_result true G) k
+      ∙ any_same (has_result true G) (may_have_result G c) may_item (pattern_of e)))
 
-  pub must_have : (o : Option Entry) (e : Entry) (r : Bool) → r ≡ entry_has_result false G o → o ≡ Some e → list_any (must_have_result G c) (pattern_of e) ≡ r
-  must_have o e r h k = sym (h ∙ (ap (entry_has_result false G) k ∙ any_same (has_result false G) (must_have_result G c) must_item (pattern_of e)))
+  pub must_have : (o : Option Entry) (e : Entry) (r : Bool) → r ≡ entry_has_result false G o → o ≡ Some e
+      → list_any (must_have_result G c) (pattern_of e) ≡ r
+  must_have o e r h k =
+      sym (h ∙ (ap (entry_has_result false G) k
+      ∙ any_same (has_result false G) (must_have_result G c) must_item (pattern_of e)))

@@ -2,7 +2,8 @@
 use Rattle.std.proofs.Common.{◌≡◌, ◌++◌, ◌∙◌, ℕ, List, ap, append_assoc}
 use Rattle.std.specs.Prelude.{Result as Answer, Ok, Err, IfOk, OnOk, is_ok, if◌then◌else◌}
 
-pub on_pushed : {T E : Type 0} (r : Answer T E) (P : Type 0) (out old t : List ℕ) → out ≡ (if is_ok r then old ++ t else old) → (out ≡ old ++ t → P) → OnOk r P
+pub on_pushed : {T E : Type 0} (r : Answer T E) (P : Type 0) (out old t : List ℕ)
+    → out ≡ (if is_ok r then old ++ t else old) → (out ≡ old ++ t → P) → OnOk r P
 on_pushed (Ok _) P out old t e f = f e
 on_pushed (Err _) P out old t e f = tt
 

@@ -1,12 +1,15 @@
 -- Pictures that differ in the texts of labels alone have one frame.
-use Rattle.std.proofs.Common.{◌≡◌, ◌++◌, ◌+◌, ◌*◌, ◌/◌, ◌%◌, ◌∙◌, ℕ, zero, suc, Bool, true, false, not, List, [], ◌∷◌, Option, Some, None, flat_map, nat_eq, refl, sym, ap, append_assoc, arith}
+use Rattle.std.proofs.Common.{◌≡◌, ◌++◌, ◌+◌, ◌*◌, ◌/◌, ◌%◌, ◌∙◌, ℕ, zero, suc, Bool, true, false, not, List, [], ◌∷◌}
+use Rattle.std.proofs.Common.{Option, Some, None, flat_map, nat_eq, refl, sym, ap, append_assoc, arith}
 use Rattle.std.specs.Prelude.{◌==◌, ◌&&◌, codes, decimal, if◌then◌else◌}
 use Rattle.std.specs.List.{list_all}
 use Rattle.std.specs.Fmt.{digit_glyph, digits, digits_onto}
 use Rattle.std.proofs.lemmas.Bool.Decides.{nat_tests}
-use Rattle.spv_module.specs.Operand.{Plain, OfType, Result, Id, Word, Number, Text, Value, Mask, Argument, Mention, PlainInst}
+use Rattle.spv_module.specs.Operand.{Plain, OfType, Result, Id, Word, Number, Text, Value, Mask, Argument, Mention}
+use Rattle.spv_module.specs.Operand.{PlainInst}
 use Rattle.spv_module.specs.declared.opcode.TheConstants.{BRANCH, BRANCH_CONDITIONAL, SWITCH}
-use Rattle.spv_pictures.specs.Blocks.{Row, Edge, branch_edges, case_edges, conditional_edges, edge_text, edge_to, edges_of, goes_from, step_mark, switch_edges, walk_of, word_mark}
+use Rattle.spv_pictures.specs.Blocks.{Row, Edge, branch_edges, case_edges, conditional_edges, edge_text, edge_to}
+use Rattle.spv_pictures.specs.Blocks.{edges_of, goes_from, step_mark, switch_edges, walk_of, word_mark}
 use Rattle.spv_pictures.specs.Label.{node_name}
 use Rattle.spv_pictures.specs.Reading.{depth_behind, frame_in, is_mark, is_text}
 use Rattle.spv_pictures.specs.declared.marks.Finding.{Finding}
@@ -98,10 +101,14 @@ digits_unmarked zero n acc h = h
 digits_unmarked (suc k) n acc h = by (n / 10 == 0) (digits_unmarked k (n / 10) (digit_glyph false (n % 10) ∷ acc) more)
   where
     more : HasNoMark (digit_glyph false (n % 10) ∷ acc)
-    more = record { all = join (not (is_mark (digit_glyph false (n % 10)))) (list_all (λ b. not (is_mark b)) acc) (glyph_unmarked (n % 10)) h.all }
+    more = record {
+      all = join (not (is_mark (digit_glyph false (n % 10)))) (list_all (λ b. not (is_mark b)) acc)
+          (glyph_unmarked (n % 10)) h.all;
+    }
 
     by : (b : Bool) → HasNoMark (digits_onto k 10 false (n / 10) (digit_glyph false (n % 10) ∷ acc))
-        → HasNoMark (if b then digit_glyph false (n % 10) ∷ acc else digits_onto k 10 false (n / 10) (digit_glyph false (n % 10) ∷ acc))
+        → HasNoMark (if b then digit_glyph false (n % 10)
+        ∷ acc else digits_onto k 10 false (n / 10) (digit_glyph false (n % 10) ∷ acc))
     by true later = more
     by false later = later
 
@@ -111,7 +118,9 @@ decimal_unmarked n = digits_unmarked 64 n [] (record { all = refl })
 
 pub name_level : (x : Option ℕ) → IsLevel (node_name x)
 name_level None = record { level = refl }
-name_level (Some x) = level-append (codes "\"") (decimal x ++ codes "\"") (record { level = refl }) (level-append (decimal x) (codes "\"") (unmarked_level (decimal x) (decimal_unmarked x)) (record { level = refl }))
+name_level (Some x) =
+    level-append (codes "\"") (decimal x ++ codes "\"") (record { level = refl })
+    (level-append (decimal x) (codes "\"") (unmarked_level (decimal x) (decimal_unmarked x)) (record { level = refl }))
 
 step_level : (b : Bool) → IsLevel (step_mark b)
 step_level true = record { level = refl }
@@ -119,7 +128,9 @@ step_level false = record { level = refl }
 
 word_level : (w : List ℕ) → HasNoMark w → IsLevel (word_mark w)
 word_level [] h = record { level = refl }
-word_level (b ∷ w) h = level-append (codes " [label=\"") ((b ∷ w) ++ codes "\"]") (record { level = refl }) (level-append (b ∷ w) (codes "\"]") (unmarked_level (b ∷ w) h) (record { level = refl }))
+word_level (b ∷ w) h =
+    level-append (codes " [label=\"") ((b ∷ w) ++ codes "\"]") (record { level = refl })
+    (level-append (b ∷ w) (codes "\"]") (unmarked_level (b ∷ w) h) (record { level = refl }))
 
 spaces_level : IsLevel (codes "  ")
 spaces_level = record { level = refl }
@@ -131,14 +142,20 @@ end_level : IsLevel (codes ";\n")
 end_level = record { level = refl }
 
 -- seven texts in a row
-seven : (a b c d e f g : List ℕ) → IsLevel a → IsLevel b → IsLevel c → IsLevel d → IsLevel e → IsLevel f → IsLevel g → IsLevel (a ++ (b ++ (c ++ (d ++ (e ++ (f ++ g))))))
+seven : (a b c d e f g : List ℕ) → IsLevel a → IsLevel b → IsLevel c → IsLevel d → IsLevel e → IsLevel f → IsLevel g
+    → IsLevel (a ++ (b ++ (c ++ (d ++ (e ++ (f ++ g))))))
 seven a b c d e f g ha hb hc hd he hf hg =
-    level-append a (b ++ (c ++ (d ++ (e ++ (f ++ g))))) ha (level-append b (c ++ (d ++ (e ++ (f ++ g)))) hb (level-append c (d ++ (e ++ (f ++ g))) hc (level-append d (e ++ (f ++ g)) hd (level-append e (f ++ g) he (level-append f g hf hg)))))
+    level-append a (b ++ (c ++ (d ++ (e ++ (f ++ g))))) ha
+    (level-append b (c ++ (d ++ (e ++ (f ++ g)))) hb
+    (level-append c (d ++ (e ++ (f ++ g))) hc
+    (level-append d (e ++ (f ++ g)) hd (level-append e (f ++ g) he (level-append f g hf hg)))))
 
 edge_level : (f : Option Finding) (from : Option ℕ) (e : Edge) → HasNoMark e.word → IsLevel (edge_text f from e)
 edge_level f from e h =
-    seven (codes "  ") (node_name from) (codes " -> ") (node_name (Some e.to)) (word_mark e.word) (step_mark (goes_from (walk_of f) from e.to)) (codes ";\n")
-    spaces_level (name_level from) arrow_level (name_level (Some e.to)) (word_level e.word h) (step_level (goes_from (walk_of f) from e.to)) end_level
+    seven (codes "  ") (node_name from) (codes " -> ") (node_name (Some e.to)) (word_mark e.word)
+    (step_mark (goes_from (walk_of f) from e.to)) (codes ";\n")
+    spaces_level (name_level from) arrow_level (name_level (Some e.to)) (word_level e.word h)
+    (step_level (goes_from (walk_of f) from e.to)) end_level
 
 -- the edges of an instruction have words without marks
 pub record AreUnmarked (es : List Edge) : Type 0 where
@@ -147,8 +164,13 @@ pub record AreUnmarked (es : List Edge) : Type 0 where
 no_edges : AreUnmarked []
 no_edges = record { words = refl }
 
-one_edge : (x : ℕ) (word : List ℕ) (es : List Edge) → HasNoMark word → AreUnmarked es → AreUnmarked (edge_to x word ∷ es)
-one_edge x word es h g = record { words = join (list_all (λ b. not (is_mark b)) word) (list_all (λ (e : Edge). list_all (λ b. not (is_mark b)) e.word) es) h.all g.words }
+one_edge : (x : ℕ) (word : List ℕ) (es : List Edge) → HasNoMark word → AreUnmarked es
+    → AreUnmarked (edge_to x word ∷ es)
+one_edge x word es h g =
+    record {
+      words = join (list_all (λ b. not (is_mark b)) word)
+          (list_all (λ (e : Edge). list_all (λ b. not (is_mark b)) e.word) es) h.all g.words;
+    }
 
 cases_unmarked : (os : List Plain) → AreUnmarked (case_edges os)
 cases_unmarked [] = no_edges
@@ -171,7 +193,9 @@ cases_unmarked (Number low high words ∷ Text t ∷ os) = no_edges
 cases_unmarked (Number low high words ∷ Value k x ∷ os) = no_edges
 cases_unmarked (Number low high words ∷ Mask k x ∷ os) = no_edges
 cases_unmarked (Number low high words ∷ Number a b c ∷ os) = no_edges
-cases_unmarked (Number low high words ∷ Id x ∷ os) = one_edge x (decimal (low + 4294967296 * high)) (case_edges os) (decimal_unmarked (low + 4294967296 * high)) (cases_unmarked os)
+cases_unmarked (Number low high words ∷ Id x ∷ os) =
+    one_edge x (decimal (low + 4294967296 * high)) (case_edges os) (decimal_unmarked (low + 4294967296 * high))
+    (cases_unmarked os)
 
 branches_unmarked : (os : List Plain) → AreUnmarked (branch_edges os)
 branches_unmarked [] = no_edges
@@ -187,7 +211,8 @@ branches_unmarked (Value k x ∷ os) = no_edges
 branches_unmarked (Mask k x ∷ os) = no_edges
 
 two_unmarked : (x y : ℕ) → AreUnmarked (edge_to x (codes "true") ∷ edge_to y (codes "false") ∷ [])
-two_unmarked x y = one_edge x (codes "true") (edge_to y (codes "false") ∷ []) (record { all = refl }) (one_edge y (codes "false") [] (record { all = refl }) no_edges)
+two_unmarked x y = one_edge x (codes "true") (edge_to y (codes "false") ∷ []) (record { all = refl })
+    (one_edge y (codes "false") [] (record { all = refl }) no_edges)
 
 third_unmarked : (c x : ℕ) (os : List Plain) → AreUnmarked (conditional_edges (Id c ∷ Id x ∷ os))
 third_unmarked c x [] = no_edges
@@ -232,7 +257,8 @@ default_unmarked : (c : ℕ) (os : List Plain) → AreUnmarked (switch_edges (Id
 default_unmarked c [] = no_edges
 default_unmarked c (OfType y ∷ os) = no_edges
 default_unmarked c (Result y ∷ os) = no_edges
-default_unmarked c (Id y ∷ os) = one_edge y (codes "default") (case_edges os) (record { all = refl }) (cases_unmarked os)
+default_unmarked c (Id y ∷ os) =
+    one_edge y (codes "default") (case_edges os) (record { all = refl }) (cases_unmarked os)
 default_unmarked c (Word y ∷ os) = no_edges
 default_unmarked c (Argument y ∷ os) = no_edges
 default_unmarked c (Mention y ∷ os) = no_edges
@@ -257,20 +283,27 @@ switches_unmarked (Mask k x ∷ os) = no_edges
 edges_unmarked : (i : PlainInst) → AreUnmarked (edges_of i)
 edges_unmarked i = by (nat_eq i.opcode BRANCH) (nat_eq i.opcode BRANCH_CONDITIONAL) (nat_eq i.opcode SWITCH)
   where
-    by : (x y z : Bool) → AreUnmarked (if x then branch_edges i.operands else (if y then conditional_edges i.operands else (if z then switch_edges i.operands else [])))
+    by : (x y z : Bool) → AreUnmarked (if x then branch_edges i.operands
+        else (if y then conditional_edges i.operands else (if z then switch_edges i.operands else [])))
     by true y z = branches_unmarked i.operands
     by false true z = conditionals_unmarked i.operands
     by false false true = switches_unmarked i.operands
     by false false false = no_edges
 
-edges_level : (f : Option Finding) (from : Option ℕ) (es : List Edge) → AreUnmarked es → IsLevel (flat_map (edge_text f from) es)
+edges_level : (f : Option Finding) (from : Option ℕ) (es : List Edge) → AreUnmarked es
+    → IsLevel (flat_map (edge_text f from) es)
 edges_level f from [] h = record { level = refl }
 edges_level f from (e ∷ es) h =
-    let r = both (list_all (λ b. not (is_mark b)) e.word) (list_all (λ (e : Edge). list_all (λ b. not (is_mark b)) e.word) es) h.words in
-    level-append (edge_text f from e) (flat_map (edge_text f from) es) (edge_level f from e (record { all = r.0 })) (edges_level f from es (record { words = r.1 }))
+    let r = both (list_all (λ b. not (is_mark b)) e.word)
+    (list_all (λ (e : Edge). list_all (λ b. not (is_mark b)) e.word) es) h.words in
+    level-append (edge_text f from e) (flat_map (edge_text f from) es) (edge_level f from e (record { all = r.0 }))
+    (edges_level f from es (record { words = r.1 }))
 
-pub part_edges_level : (f : Option Finding) (from : Option ℕ) (part : List Row) → IsLevel (flat_map (λ (r : Row). flat_map (edge_text f from) (edges_of r.inst)) part)
+pub part_edges_level : (f : Option Finding) (from : Option ℕ) (part : List Row)
+    → IsLevel (flat_map (λ (r : Row). flat_map (edge_text f from) (edges_of r.inst)) part)
 part_edges_level f from [] = record { level = refl }
 part_edges_level f from (r ∷ part) =
-    level-append (flat_map (edge_text f from) (edges_of r.inst)) (flat_map (λ (r : Row). flat_map (edge_text f from) (edges_of r.inst)) part) (edges_level f from (edges_of r.inst) (edges_unmarked r.inst))
+    level-append (flat_map (edge_text f from) (edges_of r.inst))
+    (flat_map (λ (r : Row). flat_map (edge_text f from) (edges_of r.inst)) part)
+    (edges_level f from (edges_of r.inst) (edges_unmarked r.inst))
     (part_edges_level f from part)

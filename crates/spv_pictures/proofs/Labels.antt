@@ -1,5 +1,6 @@
 -- Labels are read back, and no text of a label ends it.
-use Rattle.std.proofs.Common.{◌≡◌, ◌++◌, ◌<◌, ◌≤◌, ◌+◌, ◌/◌, ◌%◌, ◌∙◌, ℕ, zero, suc, Bool, true, false, not, cond, List, [], ◌∷◌, flat_map, nat_lt, nat_le, refl, ap, arith}
+use Rattle.std.proofs.Common.{◌≡◌, ◌++◌, ◌<◌, ◌≤◌, ◌+◌, ◌/◌, ◌%◌, ◌∙◌, ℕ, zero, suc, Bool, true, false, not, cond, List}
+use Rattle.std.proofs.Common.{[], ◌∷◌, flat_map, nat_lt, nat_le, refl, ap, arith}
 use Rattle.std.specs.Prelude.{◌==◌, ◌&&◌, ◌||◌, codes, if◌then◌else◌}
 use Rattle.std.specs.List.{list_all}
 use Rattle.std.proofs.lemmas.Bool.Decides.{nat_tests}
@@ -42,12 +43,18 @@ unfolding encode
 encode_free c h = by (ltb c 128) (ltb c 2048) (ltb c 65536)
   where
     by : (x y z : Bool)
-        → AreFree (cond x (c ∷ []) (cond y ((192 + c / 64) ∷ next c ∷ []) (cond z ((224 + c / 4096) ∷ next (c / 64) ∷ next c ∷ []) ((240 + c / 262144) ∷ next (c / 4096) ∷ next (c / 64) ∷ next c ∷ []))))
+        → AreFree (cond x (c ∷ []) (cond y ((192 + c / 64) ∷ next c ∷ [])
+        (cond z ((224 + c / 4096) ∷ next (c / 64) ∷ next c ∷ [])
+        ((240 + c / 262144) ∷ next (c / 4096) ∷ next (c / 64) ∷ next c ∷ []))))
     by true y z = one_more c [] h no_bytes
     by false true z = one_more _ _ (late_free (192 + c / 64) (omega arith)) (one_more _ _ (next_free c) no_bytes)
-    by false false true = one_more _ _ (late_free (224 + c / 4096) (omega arith)) (one_more _ _ (next_free (c / 64)) (one_more _ _ (next_free c) no_bytes))
+    by false false true =
+        one_more _ _ (late_free (224 + c / 4096) (omega arith))
+        (one_more _ _ (next_free (c / 64)) (one_more _ _ (next_free c) no_bytes))
     by false false false =
-        one_more _ _ (late_free (240 + c / 262144) (omega arith)) (one_more _ _ (next_free (c / 4096)) (one_more _ _ (next_free (c / 64)) (one_more _ _ (next_free c) no_bytes)))
+        one_more _ _ (late_free (240 + c / 262144) (omega arith))
+        (one_more _ _ (next_free (c / 4096))
+        (one_more _ _ (next_free (c / 64)) (one_more _ _ (next_free c) no_bytes)))
 
 -- which of the six a byte is, if it is one
 pub data Kind (c : ℕ) : Type 0 where
@@ -62,7 +69,8 @@ pub data Kind (c : ℕ) : Type 0 where
 kind_of : (c : ℕ) → Kind c
 kind_of c = by (c == 38) (c == 60) (c == 62) (c == 34) (c == 39) (c == 92) refl refl refl refl refl refl
   where
-    by : (u v w x y z : Bool) → (c == 38) ≡ u → (c == 60) ≡ v → (c == 62) ≡ w → (c == 34) ≡ x → (c == 39) ≡ y → (c == 92) ≡ z → Kind c
+    by : (u v w x y z : Bool) → (c == 38) ≡ u → (c == 60) ≡ v → (c == 62) ≡ w → (c == 34) ≡ x → (c == 39) ≡ y
+        → (c == 92) ≡ z → Kind c
     by true v w x y z a b d e f g = Kind.and_sign (grind (arith, nat_tests))
     by false true w x y z a b d e f g = Kind.less (grind (arith, nat_tests))
     by false false true x y z a b d e f g = Kind.greater (grind (arith, nat_tests))
@@ -75,7 +83,9 @@ pub marked_as_is : (c : ℕ) → is_free c ≡ true → marked c ≡ c ∷ []
 marked_as_is c h = by (c == 38) (c == 60) (c == 62) (c == 34) (c == 39) (c == 92) h
   where
     by : (u v w x y z : Bool) → not (u || (v || (w || (x || (y || z))))) ≡ true
-        → (if u then codes "&amp;" else (if v then codes "&lt;" else (if w then codes "&gt;" else (if x then codes "&quot;" else (if y then codes "&#39;" else (if z then codes "\\\\" else c ∷ [])))))) ≡ c ∷ []
+        → (if u then codes "&amp;" else (if v
+        then codes "&lt;" else (if w then codes "&gt;" else (if x
+        then codes "&quot;" else (if y then codes "&#39;" else (if z then codes "\\\\" else c ∷ [])))))) ≡ c ∷ []
     by true v w x y z h = cc
     by false true w x y z h = cc
     by false false true x y z h = cc
@@ -94,7 +104,8 @@ hex_as_is : (d : ℕ) → marked (hex_digit d) ≡ hex_digit d ∷ []
 hex_as_is d = marked_as_is (hex_digit d) (grind (arith, nat_tests))
 
 -- a byte as `\xNN` in a label
-pub escaped_marked : (b : ℕ) → flat_map marked (escaped b) ≡ 92 ∷ 92 ∷ 120 ∷ hex_digit (b / 16) ∷ hex_digit (b % 16) ∷ []
+pub escaped_marked : (b : ℕ)
+    → flat_map marked (escaped b) ≡ 92 ∷ 92 ∷ 120 ∷ hex_digit (b / 16) ∷ hex_digit (b % 16) ∷ []
 escaped_marked b =
     let x = hex_as_is (b / 16) in
     let y = hex_as_is (b % 16) in
@@ -137,7 +148,10 @@ pub unmarked-append : (s t : List ℕ) → HasNoMark s → HasNoMark t → HasNo
 unmarked-append [] t h g = g
 unmarked-append (b ∷ s) t h g =
     let r = both (not (is_mark b)) (list_all (λ b. not (is_mark b)) s) h.all in
-    record { all = join (not (is_mark b)) (list_all (λ b. not (is_mark b)) (s ++ t)) r.0 (unmarked-append s t (record { all = r.1 }) g).all }
+    record {
+      all = join (not (is_mark b)) (list_all (λ b. not (is_mark b)) (s ++ t)) r.0
+          (unmarked-append s t (record { all = r.1 }) g).all;
+    }
 
 one_unmarked : (b : ℕ) → is_free b ≡ true → HasNoMark (b ∷ [])
 one_unmarked b h =
@@ -166,7 +180,8 @@ label_unmarked t = all_unmarked (drawn_text t)
 -- a label character by character
 pub by_character : (cs : List ℕ) → flat_map marked (flat_map drawn cs) ≡ flat_map (λ c. flat_map marked (drawn c)) cs
 by_character [] = refl
-by_character (c ∷ cs) = flat_map-append marked (drawn c) (flat_map drawn cs) ∙ ap (λ z. flat_map marked (drawn c) ++ z) (by_character cs)
+by_character (c ∷ cs) =
+    flat_map-append marked (drawn c) (flat_map drawn cs) ∙ ap (λ z. flat_map marked (drawn c) ++ z) (by_character cs)
 
 -- a text that stands in a label as it is
 plain_parts : (b : ℕ) → is_plain b ≡ true → (b < 128) × (is_hidden b ≡ false) × (is_free b ≡ true)
@@ -195,4 +210,5 @@ plain_drawn (b ∷ t) h =
     ap (λ z. z ++ flat_map drawn t) e ∙ ap (λ z. b ∷ z) (plain_drawn t r.1)
 
 pub plain_label : (t : List ℕ) → list_all is_plain t ≡ true → label_text t ≡ t
-plain_label t h = ap (λ z. flat_map marked (flat_map drawn z)) (chars-IsAscii t (plain_ascii t h)) ∙ (ap (flat_map marked) (plain_drawn t h) ∙ all_as_is t (plain_free t h))
+plain_label t h = ap (λ z. flat_map marked (flat_map drawn z)) (chars-IsAscii t (plain_ascii t h))
+    ∙ (ap (flat_map marked) (plain_drawn t h) ∙ all_as_is t (plain_free t h))

@@ -43,7 +43,11 @@ pub none_example : block_graph_text None kernel kernel_lines 9 ≡ no_blocks
 unfolding chars encode digits
 none_example = refl
 
-pub red_example : marked_row true (record { number = 3; inst = inst 253 []; line = codes "OpReturn" }) ≡ codes "<FONT COLOR=\"red\">3: OpReturn</FONT><BR ALIGN=\"LEFT\"/>"
+pub red_example : marked_row true (record {
+  number = 3;
+  inst = inst 253 [];
+  line = codes "OpReturn";
+}) ≡ codes "<FONT COLOR=\"red\">3: OpReturn</FONT><BR ALIGN=\"LEFT\"/>"
 unfolding chars encode digits
 red_example = refl
 

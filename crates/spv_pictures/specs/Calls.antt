@@ -2,34 +2,12 @@
 use Rattle.std.specs.Prelude.{◌++◌, ℕ, List, [], ◌∷◌, Option, Some, None, Bool, true, false, codes, flat_map}
 use Rattle.std.specs.Prelude.{nat_eq, option_and_then, if◌then◌else◌}
 use Rattle.std.specs.List.{list_any}
-use Rattle.spv_module.specs.Operand.{Plain, OfType, Result, Id, Text, Value, PlainInst, result_in}
-use Rattle.spv_module.specs.declared.opcode.TheConstants.{ENTRY_POINT, FUNCTION_CALL, LABEL, NAME}
+use Rattle.spv_module.specs.Operand.{Plain, OfType, Result, Id, PlainInst, result_in}
+use Rattle.spv_module.specs.declared.opcode.TheConstants.{FUNCTION_CALL, LABEL}
 use Rattle.spv_pictures.specs.Function.{begins_function, ends_function, groups}
 use Rattle.spv_pictures.specs.Label.{label_text, node_name, shown_id}
-use Rattle.spv_pictures.specs.declared.names.Naming.{Naming}
-use Rattle.spv_pictures.specs.declared.names.Naming.TheVariants.{Name, EntryPoint}
-
--- the id that an OpName names, and its name [3.49.3]; the function of an OpEntryPoint, and the name of that [3.49.5]
-abbrev pub name_in : List Plain → Option (ℕ × List ℕ)
-name_in (Id x ∷ Text t ∷ _) = Some (x, t)
-name_in _ = None
-
-abbrev pub entry_in : List Plain → Option (ℕ × List ℕ)
-entry_in (Value _ _ ∷ Id x ∷ Text t ∷ _) = Some (x, t)
-entry_in _ = None
-
-abbrev pub named_by : Naming → PlainInst → Option (ℕ × List ℕ)
-named_by Name i = if nat_eq i.opcode NAME then name_in i.operands else None
-named_by EntryPoint i = if nat_eq i.opcode ENTRY_POINT then entry_in i.operands else None
-
--- the first name that a list gives to an id, if it gives one
-abbrev pub or_later : ℕ → Option (ℕ × List ℕ) → Option (List ℕ) → Option (List ℕ)
-or_later x None later = later
-or_later x (Some p) later = if nat_eq p.0 x then Some p.1 else later
-
-abbrev pub name_of : Naming → List PlainInst → ℕ → Option (List ℕ)
-name_of naming [] x = None
-name_of naming (i ∷ is) x = or_later x (named_by naming i) (name_of naming is x)
+use Rattle.spv_names.specs.Names.{name_of, named_by}
+use Rattle.spv_names.specs.declared.naming.Naming.TheVariants.{Name, EntryPoint}
 
 -- all names that OpEntryPoints give to an id
 abbrev pub given_to : ℕ → Option (ℕ × List ℕ) → List (List ℕ)

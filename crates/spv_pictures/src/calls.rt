@@ -5,15 +5,17 @@ ghost use Rattle.spv_module.specs.Module.{plain_inst, plain_insts, plain_operand
 ghost use Rattle.spv_module.specs.Operand.{result_in};
 ghost use Rattle.spv_pictures.specs.Calls as calls;
 ghost use Rattle.spv_pictures.specs.Calls.{call_edge, call_graph_text, entry_line, function_label, function_node};
-ghost use Rattle.spv_pictures.specs.Calls.{function_text, functions, given_to, name_line, named_by};
-ghost use Rattle.spv_pictures.specs.declared.names.Naming.TheVariants.{EntryPoint};
+ghost use Rattle.spv_pictures.specs.Calls.{function_text, functions, given_to, name_line};
+ghost use Rattle.spv_names.specs.Names.{named_by};
+ghost use Rattle.spv_names.specs.declared.naming.Naming.TheVariants.{EntryPoint};
 ghost use Rattle.spv_pictures.specs.inner.Adds.{Adds};
 ghost use Rattle.spv_pictures.specs.inner.Names.{AreKnown, HasEntries, kept};
 
 use crate::function::body_of;
 use crate::label::{push_id, push_label, push_node_name};
-use crate::names::{Naming, first_name, named, places_of};
+use crate::names::{first_name, places_of};
 use spv_module::{Inst, Module, Operand, opcode};
+use spv_names::{Naming, named};
 use std::alloc::{AllocError, Global};
 use std::collections::BTreeMap;
 

@@ -1,43 +1,13 @@
-//! The names that a module gives to ids.
+//! The names that a module gives to ids, found once for all of them.
 ghost use Rattle.std.specs.Prelude.{◌≡◌, IfOk, map, option_and_then, option_map};
 ghost use Rattle.spv_module.specs.Module.{plain_inst};
-ghost use Rattle.spv_pictures.specs.Calls.{name_of, named_by};
+ghost use Rattle.spv_names.specs.Names.{name_of};
 ghost use Rattle.spv_pictures.specs.inner.Names.{Finds};
 
-use spv_module::{Inst, Operand, opcode};
+use spv_module::Inst;
+use spv_names::{Naming, named};
 use std::alloc::{AllocError, Global};
 use std::collections::BTreeMap;
-
-/// What gives a name to an id.
-#[derive(Clone, Copy)]
-pub enum Naming {
-    /// An OpName.
-    Name,
-    /// An OpEntryPoint, which names a function.
-    EntryPoint,
-}
-
-/// The id that an instruction names in that way, and its name.
-pub fn named<'a>(naming: Naming, inst: &Inst<'a>) -> Option<(u32, &'a str)>
-    ensures { option_map (λ p. (p.0, p.1.now)) result ≡ named_by naming (plain_inst inst.now) }
-{
-    match (naming, inst.opcode, inst.operands.as_slice()) {
-        (Naming::Name, opcode::NAME, [Operand::Id(id), Operand::Text(name), ..]) => {
-            Some((*id, *name))
-        }
-        (
-            Naming::EntryPoint,
-            opcode::ENTRY_POINT,
-            [
-                Operand::Value { .. },
-                Operand::Id(id),
-                Operand::Text(name),
-                ..
-            ],
-        ) => Some((*id, *name)),
-        _ => None,
-    }
-}
 
 /// The place of the first instruction that names an id in that way, for each id.
 pub fn places_of(

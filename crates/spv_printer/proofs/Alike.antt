@@ -1,5 +1,6 @@
 -- Operands that are shown alike wherever they stand, and numbers of a type that is no float.
-use Rattle.std.proofs.Common.{◌≡◌, ◌≢◌, ◌++◌, ◌∙◌, ℕ, List, [], ◌∷◌, Some, Bool, true, false, ◌&&◌, nat_eq, refl, ap, arith}
+use Rattle.std.proofs.Common.{◌≡◌, ◌≢◌, ◌++◌, ◌∙◌, ℕ, List, [], ◌∷◌, Some, Bool, true, false, ◌&&◌, nat_eq, refl, ap}
+use Rattle.std.proofs.Common.{arith}
 use Rattle.std.specs.Prelude.{decimal, ◌+◌, ◌*◌}
 use Rattle.std.proofs.lemmas.Bool.Decides.{nat_tests}
 use Rattle.spv_table.specs.Table.{Table, kind_of}
@@ -26,19 +27,24 @@ alike_by G c (Number a b w) e s ws ss t = cc
 alike_by G c _ e s ws ss t = refl
 
 -- one operand more
-pub alike_snoc : (G : Table) (c : Context) (os : List Plain) (o : Plain) → AreShownAlike G c os → IsShownAlike G (after c os) o → AreShownAlike G c (os ++ (o ∷ []))
+pub alike_snoc : (G : Table) (c : Context) (os : List Plain) (o : Plain) → AreShownAlike G c os
+    → IsShownAlike G (after c os) o → AreShownAlike G c (os ++ (o ∷ []))
 alike_snoc G c [] o a h = (h, tt)
 alike_snoc G c (p ∷ os) o a h = (a.0, alike_snoc G (and_then c p) os o a.1 h)
 
 -- the word of a number of a type of at most 32 bits
-pub narrow_takes : (G : Table) (c : Context) (l : declared.Leaf) (kind x : ℕ) → form_at (kind_of G kind) ≡ Leaf l → l ≡ leaf.ContextNumber → IsNarrow c.before (type_in c.operands) → Takes kind (shape_of G c (alone kind)) (Number x 0 1) (x ∷ []) []
+pub narrow_takes : (G : Table) (c : Context) (l : declared.Leaf) (kind x : ℕ) → form_at (kind_of G kind) ≡ Leaf l
+    → l ≡ leaf.ContextNumber → IsNarrow c.before (type_in c.operands)
+    → Takes kind (shape_of G c (alone kind)) (Number x 0 1) (x ∷ []) []
 narrow_takes G c l kind x e i n =
     let s = shape_leaf G c (alone kind) l leaf.ContextNumber e i in
-    let f : leaf_shape c false (enumerants_at (kind_of G kind)) leaf.ContextNumber ≡ AsNumber (Some n.width) = ap AsNumber n.is in
+    let f : leaf_shape c false (enumerants_at (kind_of G kind)) leaf.ContextNumber ≡ AsNumber
+    (Some n.width) = ap AsNumber n.is in
     rw (s, f) (Takes.narrow n.width x n.least)
 
 -- a number in an instruction other than OpSwitch has the type of the instruction
-no_word : (k : ℕ) (a b n : ℕ) (sh : Shape) (o : Plain) (ws : List ℕ) (ss : List Slot) → Takes k sh o ws ss → sh ≡ AsWord → o ≡ Number a b n → ⊥
+no_word : (k : ℕ) (a b n : ℕ) (sh : Shape) (o : Plain) (ws : List ℕ) (ss : List Slot) → Takes k sh o ws ss → sh ≡ AsWord
+    → o ≡ Number a b n → ⊥
 no_word k a b n _ _ _ _ (Takes.result_type x) e f = cc
 no_word k a b n _ _ _ _ _ e f = cc
 
@@ -46,7 +52,8 @@ other_opcode : (p : Bool) (x : ℕ) → x ≢ SWITCH → (p && nat_eq x SWITCH) 
 other_opcode true x n = grind (arith, nat_tests)
 other_opcode false x n = refl
 
-context_leaf : (G : Table) (c : Context) (s : Slot) (l : declared.Leaf) (a b n : ℕ) (ws : List ℕ) (ss : List Slot) → c.opcode ≢ SWITCH → form_at (kind_of G s.kind) ≡ Leaf l
+context_leaf : (G : Table) (c : Context) (s : Slot) (l : declared.Leaf) (a b n : ℕ) (ws : List ℕ) (ss : List Slot)
+    → c.opcode ≢ SWITCH → form_at (kind_of G s.kind) ≡ Leaf l
     → Takes s.kind (shape_of G c s) (Number a b n) ws ss → Wide c l → l ≡ leaf.ContextNumber
 context_leaf G c s l a b n ws ss m e t (Wide.context w f h) = f
 context_leaf G c s l a b n ws ss m e t (Wide.switch w f h) =
@@ -56,13 +63,15 @@ context_leaf G c s l a b n ws ss m e t (Wide.switch w f h) =
     absurd (no_word s.kind a b n (shape_of G c s) (Number a b n) ws ss t (g ∙ k) refl)
 
 -- of a type that is no float it is shown alike
-pub narrow_alike : (G : Table) (c : Context) (x : ℕ) → c.opcode ≢ SWITCH → IsNarrow c.before (type_in c.operands) → IsShownAlike G c (Number x 0 1)
+pub narrow_alike : (G : Table) (c : Context) (x : ℕ) → c.opcode ≢ SWITCH → IsNarrow c.before (type_in c.operands)
+    → IsShownAlike G c (Number x 0 1)
 narrow_alike G c x m n s ws ss t = ap (λ b. shown_operand G b (Number x 0 1)) (step (form_at (kind_of G s.kind)) refl)
   where
     step : (f : forms.Form) → form_at (kind_of G s.kind) ≡ f → is_float G c s ≡ false
     step (Leaf l) e =
         let i = context_leaf G c s l x 0 1 ws ss m e t (number_wide G c s l x 0 1 ws ss e t) in
-        let j : number_type c (kind_of G s.kind) ≡ type_in c.operands = type_by_context c (kind_of G s.kind) (e ∙ ap Leaf i) in
+        let j : number_type c (kind_of G s.kind) ≡ type_in c.operands = type_by_context c (kind_of G s.kind)
+        (e ∙ ap Leaf i) in
         ap (is_float_type c.before) j ∙ n.no_float
     step (Parts p) e = absurd (takes_no_parts s.kind (shape_of G c s) (Number x 0 1) ws ss _ t (shape_parts G c s p e))
 

@@ -21,14 +21,20 @@ header_same ws h k s t =
     let z : h.schema ≡ k.schema = s.schema ∙ sym t.schema in
     λ i. record { version = v i; generator = g i; bound = b i; schema = z i }
 
-pub module_same : (G : Table) (m d : Module) (ws : List ℕ) → IsImageOf G m ws → IsListing G (plain_insts d) (drop 5 ws) → IsHeaderOf ws d.header → (plain_insts d ≡ plain_insts m) × (d.header ≡ m.header)
-module_same G m d ws i l h =
-    (listing_same G [] (plain_insts d) (plain_insts m) (drop 5 ws) (drop 5 ws) l i.spelled refl, header_same ws d.header m.header h i.same)
+pub module_same : (G : Table) (m d : Module) (ws : List ℕ) → IsImageOf G m ws → IsListing G (plain_insts d) (drop 5 ws)
+    → IsHeaderOf ws d.header → (plain_insts d ≡ plain_insts m) × (d.header ≡ m.header)
+module_same G m d ws i l h = (
+  listing_same G [] (plain_insts d) (plain_insts m) (drop 5 ws) (drop 5 ws) l i.spelled refl,
+  header_same ws d.header m.header h i.same,
+)
 
-pub dies_for_memory : (G : Table) (m : Module) (ws : List ℕ) (stop : Stop) → IsImageOf G m ws → IsDecodeFault G ws stop → stop ≡ Memory
+pub dies_for_memory : (G : Table) (m : Module) (ws : List ℕ) (stop : Stop) → IsImageOf G m ws → IsDecodeFault G ws stop
+    → stop ≡ Memory
 dies_for_memory G m ws Memory i d = refl
-dies_for_memory G m ws (Fault f) i d = absurd (dies_not G [] (plain_insts m) (drop 5 ws) (drop 5 ws) f.rule f.inst (f.word - 5) d.1 i.spelled refl)
+dies_for_memory G m ws (Fault f) i d =
+    absurd (dies_not G [] (plain_insts m) (drop 5 ws) (drop 5 ws) f.rule f.inst (f.word - 5) d.1 i.spelled refl)
 
 -- the image that was decoded
-pub decoded_image : (G : Table) (m : Module) (ws : List ℕ) → IsHeader ws → IsListing G (plain_insts m) (drop 5 ws) → IsHeaderOf ws m.header → IsImageOf G m ws
+pub decoded_image : (G : Table) (m : Module) (ws : List ℕ) → IsHeader ws → IsListing G (plain_insts m) (drop 5 ws)
+    → IsHeaderOf ws m.header → IsImageOf G m ws
 decoded_image G m ws h l s = record { header = h; same = s; spelled = l }

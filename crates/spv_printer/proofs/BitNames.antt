@@ -1,5 +1,7 @@
 -- The names of a mask, bit by bit.
-use Rattle.std.proofs.Common.{◌≡◌, ◌≢◌, ◌++◌, ◌∙◌, ◌<◌, ◌≤◌, ◌+◌, ◌-◌, ◌*◌, ◌/◌, ◌%◌, ◌^◌, ℕ, zero, suc, List, [], ◌∷◌, Option, Some, None, Bool, true, false, ◌&&◌, nat_eq, option_map, option_and_then, is_some, refl, sym, ap, arith, append_assoc, append-nil}
+use Rattle.std.proofs.Common.{◌≡◌, ◌≢◌, ◌++◌, ◌∙◌, ◌<◌, ◌≤◌, ◌+◌, ◌-◌, ◌*◌, ◌/◌, ◌%◌, ◌^◌, ℕ, zero, suc, List, [], ◌∷◌}
+use Rattle.std.proofs.Common.{Option, Some, None, Bool, true, false, ◌&&◌, nat_eq, option_map, option_and_then, is_some}
+use Rattle.std.proofs.Common.{refl, sym, ap, arith, append_assoc, append-nil}
 use Rattle.std.specs.Prelude.{Result, OnOk, unwrap_or, if◌then◌else◌}
 use Rattle.std.specs.List.{filter, list_all}
 use Rattle.std.proofs.Math.Nat.{pow-succ', div-div-eq-div-mul}
@@ -9,7 +11,8 @@ use Rattle.spv_table.specs.declared.table.Enumerant.{Enumerant}
 use Rattle.spv_table.specs.Table.{enumerant_of}
 use Rattle.spv_table.specs.Lookups.{value_named, is_number}
 use Rattle.spv_module.specs.Spelling.{bits_from, set_bits}
-use Rattle.spv_lines.specs.Name.{is_plain, is_name_octet, joined, by_number, mask_values, first_name, first_names, if_plain, names_from, shown_value, shown_mask}
+use Rattle.spv_lines.specs.Name.{is_plain, is_name_octet, joined, by_number, mask_values, first_name, first_names}
+use Rattle.spv_lines.specs.Name.{if_plain, names_from, shown_value, shown_mask}
 
 pub plain_by : (t : List ℕ) → 0 < Rattle.std.proofs.Common.length t → list_all is_name_octet t ≡ is_plain t
 plain_by [] h = absurd (omega arith)
@@ -52,13 +55,15 @@ next_count p h = omega arith
 abbrev pub and_names : Option (List ℕ) → Option (List (List ℕ)) → Option (List (List ℕ))
 and_names o r = option_and_then (λ t. option_map (λ ts. t ∷ ts) r) o
 
-set_names : (es : List Enumerant) (mask p : ℕ) → p < 32 → mask / 2 ^ p % 2 ≡ 1 → names_from es mask p ≡ and_names (first_name es (2 ^ p)) (names_from es mask (p + 1))
+set_names : (es : List Enumerant) (mask p : ℕ) → p < 32 → mask / 2 ^ p % 2 ≡ 1
+    → names_from es mask p ≡ and_names (first_name es (2 ^ p)) (names_from es mask (p + 1))
 unfolding names_from
 set_names es mask p h g =
     let e = is_set_by (mask / 2 ^ p) g in
     rw (next_count p h, next_power p, e) refl
 
-pub clear_names : (es : List Enumerant) (mask p : ℕ) → p < 32 → mask / 2 ^ p % 2 ≢ 1 → names_from es mask p ≡ names_from es mask (p + 1)
+pub clear_names : (es : List Enumerant) (mask p : ℕ) → p < 32 → mask / 2 ^ p % 2 ≢ 1
+    → names_from es mask p ≡ names_from es mask (p + 1)
 unfolding names_from
 clear_names es mask p h g =
     let e = is_clear_by (mask / 2 ^ p) g in
@@ -81,12 +86,15 @@ some_less : (o : Option (List ℕ)) (r : Option (List (List ℕ))) → is_some o
 some_less None r h = refl
 some_less (Some t) r h = cc
 
-pub named_bit : (es : List Enumerant) (mask p : ℕ) → p < 32 → mask / 2 ^ p % 2 ≡ 1 → is_some (first_name es ((1 * 2 ^ p) % 2 ^ 32)) ≡ true → is_some (names_from es mask p) ≡ is_some (names_from es mask (p + 1))
+pub named_bit : (es : List Enumerant) (mask p : ℕ) → p < 32 → mask / 2 ^ p % 2 ≡ 1
+    → is_some (first_name es ((1 * 2 ^ p) % 2 ^ 32)) ≡ true
+    → is_some (names_from es mask p) ≡ is_some (names_from es mask (p + 1))
 named_bit es mask p h g n =
     let b : is_some (first_name es (2 ^ p)) ≡ true = ap (λ b. is_some (first_name es b)) (sym (the_bit p h)) ∙ n in
     ap is_some (set_names es mask p h g) ∙ some_more (first_name es (2 ^ p)) (names_from es mask (p + 1)) b
 
-pub nameless_bit : (es : List Enumerant) (mask p : ℕ) → p < 32 → mask / 2 ^ p % 2 ≡ 1 → is_some (first_name es ((1 * 2 ^ p) % 2 ^ 32)) ≡ false → is_some (names_from es mask p) ≡ false
+pub nameless_bit : (es : List Enumerant) (mask p : ℕ) → p < 32 → mask / 2 ^ p % 2 ≡ 1
+    → is_some (first_name es ((1 * 2 ^ p) % 2 ^ 32)) ≡ false → is_some (names_from es mask p) ≡ false
 nameless_bit es mask p h g n =
     let b : is_some (first_name es (2 ^ p)) ≡ false = ap (λ b. is_some (first_name es b)) (sym (the_bit p h)) ∙ n in
     ap is_some (set_names es mask p h g) ∙ some_less (first_name es (2 ^ p)) (names_from es mask (p + 1)) b
@@ -101,7 +109,8 @@ joined_tail : (t : List ℕ) (ts : List (List ℕ)) → joined (t ∷ ts) ≡ t 
 joined_tail t [] = sym (append-nil t)
 joined_tail t (u ∷ ts) = refl
 
-tail_more : (is_first : Bool) (t : List ℕ) (ts : List (List ℕ)) → tail is_first (t ∷ ts) ≡ (if is_first then [] else 124 ∷ []) ++ (t ++ tail false ts)
+tail_more : (is_first : Bool) (t : List ℕ) (ts : List (List ℕ))
+    → tail is_first (t ∷ ts) ≡ (if is_first then [] else 124 ∷ []) ++ (t ++ tail false ts)
 tail_more true t ts = joined_tail t ts
 tail_more false t ts = ap (λ z. 124 ∷ z) (joined_tail t ts)
 
@@ -115,7 +124,8 @@ pub record Left (es : List Enumerant) (mask : ℕ) (goal out : List ℕ) (is_fir
   pub found : names_from es mask p ≡ Some names
   pub all : out ++ tail is_first names ≡ goal
 
-pub left_first : (es : List Enumerant) (mask : ℕ) (ts : List (List ℕ)) (out : List ℕ) → names_from es mask 0 ≡ Some ts → Left es mask (out ++ joined ts) out true 0
+pub left_first : (es : List Enumerant) (mask : ℕ) (ts : List (List ℕ)) (out : List ℕ) → names_from es mask 0 ≡ Some ts
+    → Left es mask (out ++ joined ts) out true 0
 left_first es mask ts out e = record { names = ts; found = e; all = refl }
 
 record Both (o : Option (List ℕ)) (r : Option (List (List ℕ))) (ts : List (List ℕ)) : Type 0 where
@@ -125,41 +135,58 @@ record Both (o : Option (List ℕ)) (r : Option (List (List ℕ))) (ts : List (L
   pub rest_is : r ≡ Some rest
   pub all : ts ≡ first ∷ rest
 
-both : (o : Option (List ℕ)) (r : Option (List (List ℕ))) (ts : List (List ℕ)) → option_and_then (λ t. option_map (λ us. t ∷ us) r) o ≡ Some ts → Both o r ts
+both : (o : Option (List ℕ)) (r : Option (List (List ℕ))) (ts : List (List ℕ))
+    → option_and_then (λ t. option_map (λ us. t ∷ us) r) o ≡ Some ts → Both o r ts
 both None r ts e = cc
 both (Some t) None ts e = cc
 both (Some t) (Some us) ts e = record { first = t; rest = us; first_is = refl; rest_is = refl; all = cc }
 
-pub left_set : (es : List Enumerant) (mask : ℕ) (goal out barred more : List ℕ) (is_first : Bool) (p : ℕ) → Left es mask goal out is_first p → p < 32 → mask / 2 ^ p % 2 ≡ 1
-    → barred ≡ out ++ (if is_first then [] else 124 ∷ []) → more ≡ barred ++ shown_value es ((1 * 2 ^ p) % 2 ^ 32) → Left es mask goal more false (p + 1)
+pub left_set : (es : List Enumerant) (mask : ℕ) (goal out barred more : List ℕ) (is_first : Bool) (p : ℕ)
+    → Left es mask goal out is_first p → p < 32 → mask / 2 ^ p % 2 ≡ 1
+    → barred ≡ out ++ (if is_first then [] else 124 ∷ []) → more ≡ barred ++ shown_value es ((1 * 2 ^ p) % 2 ^ 32)
+    → Left es mask goal more false (p + 1)
 left_set es mask goal out barred more is_first p l h g e f =
-    let n : and_names (first_name es (2 ^ p)) (names_from es mask (p + 1)) ≡ Some l.names = sym (set_names es mask p h g) ∙ l.found in
+    let n : and_names (first_name es (2 ^ p)) (names_from es mask (p + 1)) ≡ Some l.names = sym
+    (set_names es mask p h g) ∙ l.found in
     let b = both (first_name es (2 ^ p)) (names_from es mask (p + 1)) l.names n in
-    let v : shown_value es ((1 * 2 ^ p) % 2 ^ 32) ≡ b.first = ap (shown_value es) (the_bit p h) ∙ ap (λ o. unwrap_or o (by_number (2 ^ p))) b.first_is in
+    let v : shown_value es ((1 * 2 ^ p) % 2 ^ 32) ≡ b.first = ap (shown_value es) (the_bit p h)
+    ∙ ap (λ o. unwrap_or o (by_number (2 ^ p))) b.first_is in
     let bar : List ℕ = if is_first then [] else 124 ∷ [] in
-    let m : more ≡ (out ++ bar) ++ b.first = f ∙ (ap (λ z. z ++ shown_value es ((1 * 2 ^ p) % 2 ^ 32)) e ∙ ap (λ z. (out ++ bar) ++ z) v) in
-    let k : more ++ tail false b.rest ≡ out ++ (bar ++ (b.first ++ tail false b.rest)) = ap (λ z. z ++ tail false b.rest) m ∙ simp append_assoc in
-    let j : out ++ tail is_first l.names ≡ out ++ (bar ++ (b.first ++ tail false b.rest)) = ap (λ z. out ++ tail is_first z) b.all ∙ ap (λ z. out ++ z) (tail_more is_first b.first b.rest) in
+    let m : more ≡ (out ++ bar) ++ b.first = f
+    ∙ (ap (λ z. z ++ shown_value es ((1 * 2 ^ p) % 2 ^ 32)) e ∙ ap (λ z. (out ++ bar) ++ z) v) in
+    let k : more ++ tail false b.rest ≡ out
+    ++ (bar ++ (b.first ++ tail false b.rest)) = ap (λ z. z ++ tail false b.rest) m ∙ simp append_assoc in
+    let j : out ++ tail is_first l.names ≡ out
+    ++ (bar ++ (b.first ++ tail false b.rest)) =
+    ap (λ z. out ++ tail is_first z) b.all ∙ ap (λ z. out ++ z) (tail_more is_first b.first b.rest) in
     record { names = b.rest; found = b.rest_is; all = k ∙ (sym j ∙ l.all) }
 
 -- what is shown of a value whose enumerant's name is shown
-named_by : (es : List Enumerant) (x : ℕ) (e : Enumerant) (b : Bool) → is_some (if b then Some e.name else None) ≡ true → unwrap_or (if b then Some e.name else None) (by_number x) ≡ e.name
+named_by : (es : List Enumerant) (x : ℕ) (e : Enumerant) (b : Bool) → is_some (if b then Some e.name else None) ≡ true
+    → unwrap_or (if b then Some e.name else None) (by_number x) ≡ e.name
 named_by es x e true h = refl
 named_by es x e false h = cc
 
-pub named_shown : (es : List Enumerant) (x : ℕ) (e : Enumerant) → enumerant_of es x ≡ Some e → is_some (first_name es x) ≡ true → shown_value es x ≡ e.name
+pub named_shown : (es : List Enumerant) (x : ℕ) (e : Enumerant) → enumerant_of es x ≡ Some e
+    → is_some (first_name es x) ≡ true → shown_value es x ≡ e.name
 named_shown es x e f h =
-    let first : first_name es x ≡ if_plain (value_named es) x e.name = ap (λ o. option_and_then (λ (a : Enumerant). if_plain (value_named es) x a.name) o) f in
-    ap (λ o. unwrap_or o (by_number x)) first ∙ named_by es x e (is_plain e.name && is_number x (value_named es e.name)) (sym (ap is_some first) ∙ h)
+    let first : first_name es x ≡ if_plain (value_named es) x e.name = ap
+    (λ o. option_and_then (λ (a : Enumerant). if_plain (value_named es) x a.name) o) f in
+    ap (λ o. unwrap_or o (by_number x)) first
+    ∙ named_by es x e (is_plain e.name && is_number x (value_named es e.name)) (sym (ap is_some first) ∙ h)
 
 -- a value without an enumerant has no name
 pub unnamed : (es : List Enumerant) (x : ℕ) → enumerant_of es x ≡ None → is_some (first_name es x) ≡ true → ⊥
-unnamed es x f h = let e : is_some (first_name es x) ≡ false = ap (λ o. is_some (option_and_then (λ (a : Enumerant). if_plain (value_named es) x a.name) o)) f in cc
+unnamed es x f h = let e : is_some (first_name es x) ≡ false = ap
+    (λ o. is_some (option_and_then (λ (a : Enumerant). if_plain (value_named es) x a.name) o)) f in cc
 
-pub left_clear : (es : List Enumerant) (mask : ℕ) (goal out : List ℕ) (is_first : Bool) (p : ℕ) → Left es mask goal out is_first p → p < 32 → mask / 2 ^ p % 2 ≢ 1 → Left es mask goal out is_first (p + 1)
-left_clear es mask goal out is_first p l h g = record { names = l.names; found = sym (clear_names es mask p h g) ∙ l.found; all = l.all }
+pub left_clear : (es : List Enumerant) (mask : ℕ) (goal out : List ℕ) (is_first : Bool) (p : ℕ)
+    → Left es mask goal out is_first p → p < 32 → mask / 2 ^ p % 2 ≢ 1 → Left es mask goal out is_first (p + 1)
+left_clear es mask goal out is_first p l h g =
+    record { names = l.names; found = sym (clear_names es mask p h g) ∙ l.found; all = l.all }
 
-pub left_none : (es : List Enumerant) (mask : ℕ) (goal out : List ℕ) (is_first : Bool) (p : ℕ) → Left es mask goal out is_first p → names_from es mask p ≡ Some [] → out ≡ goal
+pub left_none : (es : List Enumerant) (mask : ℕ) (goal out : List ℕ) (is_first : Bool) (p : ℕ)
+    → Left es mask goal out is_first p → names_from es mask p ≡ Some [] → out ≡ goal
 left_none es mask goal out is_first p l e =
     let f : Some [] ≡ Some l.names = sym e ∙ l.found in
     let g : [] ≡ l.names = cc in
@@ -167,7 +194,8 @@ left_none es mask goal out is_first p l e =
     sym (append-nil out) ∙ (ap (λ z. out ++ z) (sym h) ∙ l.all)
 
 -- 0 is shown as a value
-zero_by : (o : Option (List ℕ)) (t : List ℕ) → unwrap_or (option_map joined (option_and_then (λ t. option_map (λ ts. t ∷ ts) (Some [])) o)) t ≡ unwrap_or o t
+zero_by : (o : Option (List ℕ)) (t : List ℕ)
+    → unwrap_or (option_map joined (option_and_then (λ t. option_map (λ ts. t ∷ ts) (Some [])) o)) t ≡ unwrap_or o t
 zero_by None t = refl
 zero_by (Some u) t = refl
 
@@ -177,20 +205,29 @@ zero_mask es = sym (zero_by (first_name es 0) (by_number 0))
 bits_of : (x : ℕ) → x ≢ 0 → mask_values x ≡ set_bits x
 bits_of x n = let e : nat_eq x 0 ≡ false = grind (arith, nat_tests) in rw e refl
 
-pub nameless_mask : (es : List Enumerant) (x : ℕ) → x ≢ 0 → false ≡ is_some (names_from es x 0) → by_number x ≡ shown_mask es x
+pub nameless_mask : (es : List Enumerant) (x : ℕ) → x ≢ 0 → false ≡ is_some (names_from es x 0)
+    → by_number x ≡ shown_mask es x
 nameless_mask es x n e = step (first_names es (set_bits x)) refl (e ∙ ap is_some (all_names es x))
   where
-    step : (o : Option (List (List ℕ))) → first_names es (set_bits x) ≡ o → false ≡ is_some o → by_number x ≡ shown_mask es x
-    step None f g = sym (ap (λ bs. unwrap_or (option_map joined (first_names es bs)) (by_number x)) (bits_of x n) ∙ ap (λ o. unwrap_or (option_map joined o) (by_number x)) f)
+    step : (o : Option (List (List ℕ))) → first_names es (set_bits x) ≡ o → false ≡ is_some o
+        → by_number x ≡ shown_mask es x
+    step None f g = sym (ap (λ bs. unwrap_or (option_map joined (first_names es bs)) (by_number x)) (bits_of x n)
+        ∙ ap (λ o. unwrap_or (option_map joined o) (by_number x)) f)
     step (Some ts) f g = cc
 
-pub named_mask : (es : List Enumerant) (x : ℕ) (ts : List (List ℕ)) → x ≢ 0 → first_names es (set_bits x) ≡ Some ts → joined ts ≡ shown_mask es x
-named_mask es x ts n f = sym (ap (λ bs. unwrap_or (option_map joined (first_names es bs)) (by_number x)) (bits_of x n) ∙ ap (λ o. unwrap_or (option_map joined o) (by_number x)) f)
+pub named_mask : (es : List Enumerant) (x : ℕ) (ts : List (List ℕ)) → x ≢ 0 → first_names es (set_bits x) ≡ Some ts
+    → joined ts ≡ shown_mask es x
+named_mask es x ts n f =
+    sym (ap (λ bs. unwrap_or (option_map joined (first_names es bs)) (by_number x)) (bits_of x n)
+    ∙ ap (λ o. unwrap_or (option_map joined o) (by_number x)) f)
 
-pub mask_shown : {T E : Type 0} (r : Result T E) (es : List Enumerant) (x : ℕ) (old out : List ℕ) → x ≢ 0 → true ≡ is_some (names_from es x 0)
-    → ((ts : List (List ℕ)) → names_from es x 0 ≡ Some ts → OnOk r (out ≡ old ++ joined ts)) → OnOk r (out ≡ old ++ shown_mask es x)
+pub mask_shown : {T E : Type 0} (r : Result T E) (es : List Enumerant) (x : ℕ) (old out : List ℕ) → x ≢ 0
+    → true ≡ is_some (names_from es x 0)
+    → ((ts : List (List ℕ)) → names_from es x 0 ≡ Some ts → OnOk r (out ≡ old ++ joined ts))
+    → OnOk r (out ≡ old ++ shown_mask es x)
 mask_shown r es x old out n e h = step (first_names es (set_bits x)) refl (e ∙ ap is_some (all_names es x))
   where
-    step : (o : Option (List (List ℕ))) → first_names es (set_bits x) ≡ o → true ≡ is_some o → OnOk r (out ≡ old ++ shown_mask es x)
+    step : (o : Option (List (List ℕ))) → first_names es (set_bits x) ≡ o → true ≡ is_some o
+        → OnOk r (out ≡ old ++ shown_mask es x)
     step None f g = cc
     step (Some ts) f g = rw (← named_mask es x ts n f) (h ts (all_names es x ∙ f))

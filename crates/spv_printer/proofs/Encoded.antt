@@ -1,5 +1,6 @@
 -- What an encoder keeps over the instructions of a module.
-use Rattle.std.proofs.Common.{◌≡◌, ◌++◌, ◌∙◌, ◌<◌, ◌≤◌, ◌+◌, ℕ, List, [], ◌∷◌, map, length, take, drop, get_or, refl, sym, ap, arith, append_assoc, append-nil, length-append}
+use Rattle.std.proofs.Common.{◌≡◌, ◌++◌, ◌∙◌, ◌<◌, ◌≤◌, ◌+◌, ℕ, List, [], ◌∷◌, map, length, take, drop, get_or, refl}
+use Rattle.std.proofs.Common.{sym, ap, arith, append_assoc, append-nil, length-append}
 use Rattle.std.proofs.lemmas.List.{drop_more, take_more, length-take-le, take-append-drop}
 use Rattle.std.proofs.Math.ListN.{drop_of_length-le}
 use Rattle.spv_words.specs.declared.words.Header.{Header}
@@ -21,16 +22,19 @@ use Rattle.spv_inst.specs.inner.Written.{header_words}
 use Rattle.spv_printer.specs.inner.Written.{Adds, IsWritten, PreventsOrMemory, told}
 
 -- one instruction more
-pub listing_more : (G : Table) (b is : List PlainInst) (ws : List ℕ) (i : PlainInst) (vs : List ℕ) → Listing G b is ws → IsInstruction G (b ++ is) i vs → Listing G b (is ++ (i ∷ [])) (ws ++ vs)
+pub listing_more : (G : Table) (b is : List PlainInst) (ws : List ℕ) (i : PlainInst) (vs : List ℕ) → Listing G b is ws
+    → IsInstruction G (b ++ is) i vs → Listing G b (is ++ (i ∷ [])) (ws ++ vs)
 listing_more G _ _ _ i vs (Listing.end b) a =
     let a' : IsInstruction G b i vs = rw append-nil at a in
     rw (← append-nil vs) (Listing.more b i [] vs [] a' (Listing.end (b ++ (i ∷ []))))
 listing_more G _ _ _ i vs (Listing.more b j is us ws h l) a =
     let a' : IsInstruction G ((b ++ (j ∷ [])) ++ is) i vs = rw (append_assoc b (j ∷ []) is) a in
-    rw (append_assoc us ws vs) (Listing.more b j (is ++ (i ∷ [])) us (ws ++ vs) h (listing_more G (b ++ (j ∷ [])) is ws i vs l a'))
+    rw (append_assoc us ws vs) (Listing.more b j (is ++ (i ∷ [])) us (ws ++ vs) h
+    (listing_more G (b ++ (j ∷ [])) is ws i vs l a'))
 
 -- Before the instruction of that number: what is known, and the words written.
-pub record Put (G : Table) (insts : List Inst) (d : Definitions) (header : Header) (draft : List ℕ) (i : ℕ) : Type 0 where
+pub record Put (G : Table) (insts : List Inst) (d : Definitions) (header : Header) (draft : List ℕ)
+    (i : ℕ) : Type 0 where
   pub words : List ℕ
   pub all : draft ≡ header_words header ++ words
   pub spelled : IsListing G (map plain_inst (take i insts)) words
@@ -38,7 +42,8 @@ pub record Put (G : Table) (insts : List Inst) (d : Definitions) (header : Heade
   pub short : length draft ≤ greatest_length
   pub many : i ≤ length words
 
-pub put_first : (G : Table) (insts : List Inst) (d : Definitions) (header : Header) (draft : List ℕ) → draft ≡ header_words header → Knows d [] → Put G insts d header draft 0
+pub put_first : (G : Table) (insts : List Inst) (d : Definitions) (header : Header) (draft : List ℕ)
+    → draft ≡ header_words header → Knows d [] → Put G insts d header draft 0
 put_first G insts d header draft e k = record {
   words = [];
   all = e;
@@ -49,7 +54,8 @@ put_first G insts d header draft e k = record {
 }
 
 -- the number of words so far
-pub put_length : (G : Table) (insts : List Inst) (d : Definitions) (header : Header) (draft : List ℕ) (i : ℕ) → (p : Put G insts d header draft i) → length draft ≡ 5 + length p.words
+pub put_length : (G : Table) (insts : List Inst) (d : Definitions) (header : Header) (draft : List ℕ) (i : ℕ)
+    → (p : Put G insts d header draft i) → length draft ≡ 5 + length p.words
 put_length G insts d header draft i p = ap length p.all ∙ omega arith
 
 one_at_least : (G : Table) (b : List PlainInst) (i : PlainInst) (ws : List ℕ) → IsInstruction G b i ws → 1 ≤ length ws
@@ -59,12 +65,15 @@ map_snoc : (xs : List Inst) (o : Inst) → map plain_inst (xs ++ (o ∷ [])) ≡
 map_snoc [] o = refl
 map_snoc (x ∷ xs) o = ap (λ zs. plain_inst x ∷ zs) (map_snoc xs o)
 
-so_far : (insts : List Inst) (i : ℕ) (o x : Inst) → i < length insts → o ≡ get_or insts i x → map plain_inst (take (i + 1) insts) ≡ map plain_inst (take i insts) ++ (plain_inst o ∷ [])
+so_far : (insts : List Inst) (i : ℕ) (o x : Inst) → i < length insts → o ≡ get_or insts i x
+    → map plain_inst (take (i + 1) insts) ≡ map plain_inst (take i insts) ++ (plain_inst o ∷ [])
 so_far insts i o x h e = let f = take_more insts i x h in rw (f, ← e) (map_snoc (take i insts) o)
 
-pub put_step : (G : Table) (insts : List Inst) (d next : Definitions) (header : Header) (draft more : List ℕ) (i : ℕ) (o x : Inst) → Put G insts d header draft i
+pub put_step : (G : Table) (insts : List Inst) (d next : Definitions) (header : Header) (draft more : List ℕ) (i : ℕ)
+    (o x : Inst) → Put G insts d header draft i
     → i < length insts → o ≡ get_or insts i x → Adds G (map plain_inst (take i insts)) (plain_inst o) draft more
-    → Knows next (map plain_inst (take i insts) ++ (plain_inst o ∷ [])) → length more ≤ greatest_length → Put G insts next header more (i + 1)
+    → Knows next (map plain_inst (take i insts) ++ (plain_inst o ∷ [])) → length more ≤ greatest_length
+    → Put G insts next header more (i + 1)
 put_step G insts d next header draft more i o x p h e a k l =
     let s = so_far insts i o x h e in
     let m = listing_more G [] (map plain_inst (take i insts)) p.words (plain_inst o) a.words p.spelled a.spelled in
@@ -81,7 +90,8 @@ put_step G insts d next header draft more i o x p h e a k l =
     }
 
 -- after the last instruction
-pub put_done : (G : Table) (m : Module) (d : Definitions) (draft : List ℕ) (i : ℕ) → Put G m.insts.items d m.header draft i → length m.insts.items ≤ i → IsWritten G m draft
+pub put_done : (G : Table) (m : Module) (d : Definitions) (draft : List ℕ) (i : ℕ)
+    → Put G m.insts.items d m.header draft i → length m.insts.items ≤ i → IsWritten G m draft
 put_done G m d draft i p h =
     let t : take i m.insts.items ≡ m.insts.items = take_all m.insts.items i h in
     let s : IsListing G (plain_insts m) p.words = rw t at p.spelled in
@@ -99,15 +109,19 @@ map_append : (xs ys : List Inst) → map plain_inst (xs ++ ys) ≡ map plain_ins
 map_append [] ys = refl
 map_append (x ∷ xs) ys = ap (λ zs. plain_inst x ∷ zs) (map_append xs ys)
 
-whole : (insts : List Inst) (i : ℕ) (o x : Inst) → i < length insts → o ≡ get_or insts i x → map plain_inst insts ≡ map plain_inst (take i insts) ++ (plain_inst o ∷ map plain_inst (drop (i + 1) insts))
+whole : (insts : List Inst) (i : ℕ) (o x : Inst) → i < length insts → o ≡ get_or insts i x
+    → map plain_inst insts ≡ map plain_inst (take i insts) ++ (plain_inst o ∷ map plain_inst (drop (i + 1) insts))
 whole insts i o x h e =
     let f = drop_more insts i x h in
     let g : insts ≡ take i insts ++ drop i insts = sym (take-append-drop i insts) in
     let k : drop i insts ≡ o ∷ drop (i + 1) insts = rw (f, ← e) refl in
-    ap (map plain_inst) g ∙ (map_append (take i insts) (drop i insts) ∙ ap (λ zs. map plain_inst (take i insts) ++ map plain_inst zs) k)
+    ap (map plain_inst) g ∙ (map_append (take i insts) (drop i insts)
+    ∙ ap (λ zs. map plain_inst (take i insts) ++ map plain_inst zs) k)
 
-stops : (G : Table) (m : Module) (d : Definitions) (draft : List ℕ) (i : ℕ) (o x : Inst) (code : EncodeCode) → Put G m.insts.items d m.header draft i → i < length m.insts.items → o ≡ get_or m.insts.items i x
-    → Prevents code G (map plain_inst (take i m.insts.items)) (length draft) (plain_inst o) → StopsAt G (plain_insts m) code i
+stops : (G : Table) (m : Module) (d : Definitions) (draft : List ℕ) (i : ℕ) (o x : Inst) (code : EncodeCode)
+    → Put G m.insts.items d m.header draft i → i < length m.insts.items → o ≡ get_or m.insts.items i x
+    → Prevents code G (map plain_inst (take i m.insts.items)) (length draft) (plain_inst o)
+    → StopsAt G (plain_insts m) code i
 stops G m d draft i o x code p h e s =
     let n = put_length G m.insts.items d m.header draft i p in
     let q = p.short in
@@ -124,8 +138,11 @@ stops G m d draft i o x code p h e s =
     }
 
 -- an instruction that is hindered, or that memory ran out
-pub put_refused : (G : Table) (m : Module) (d : Definitions) (draft : List ℕ) (i : ℕ) (o x : Inst) (code : EncodeCode) → Put G m.insts.items d m.header draft i → HeaderFits m.header → i < length m.insts.items → o ≡ get_or m.insts.items i x
-    → PreventsOrMemory code G (map plain_inst (take i m.insts.items)) (length draft) (plain_inst o) → RefusesModule code G m (told code i)
+pub put_refused : (G : Table) (m : Module) (d : Definitions) (draft : List ℕ) (i : ℕ) (o x : Inst) (code : EncodeCode)
+    → Put G m.insts.items d m.header draft i → HeaderFits m.header → i < length m.insts.items
+    → o ≡ get_or m.insts.items i x
+    → PreventsOrMemory code G (map plain_inst (take i m.insts.items)) (length draft) (plain_inst o)
+    → RefusesModule code G m (told code i)
 put_refused G m d draft i o x N1 p f h e s = absurd s
 put_refused G m d draft i o x N2 p f h e s = (f, stops G m d draft i o x N2 p h e s)
 put_refused G m d draft i o x N3 p f h e s = (f, stops G m d draft i o x N3 p h e s)
@@ -133,9 +150,18 @@ put_refused G m d draft i o x Memory p f h e s = refl
 
 -- the header of what is written
 pub written_header : (G : Table) (m : Module) (words : List ℕ) → IsWritten G m words → IsHeaderOf words m.header
-written_header G m words w = let f = w.front in rw f (record { version = refl; generator = refl; bound = refl; schema = refl })
+written_header G m words w = let f = w.front in
+    rw f (record { version = refl; generator = refl; bound = refl; schema = refl })
 
-pub written_fits : (G : Table) (m : Module) (words : List ℕ) → IsWritten G m words → HeaderFits m.header → IsHeader words
+pub written_fits : (G : Table) (m : Module) (words : List ℕ) → IsWritten G m words → HeaderFits m.header
+    → IsHeader words
 written_fits G m words w f =
     let e = w.front in
-    rw e (record { five = omega arith; magic = refl; version = f.version; bound_least = f.bound_least; bound_most = f.bound_most; schema = f.schema })
+    rw e (record {
+      five = omega arith;
+      magic = refl;
+      version = f.version;
+      bound_least = f.bound_least;
+      bound_most = f.bound_most;
+      schema = f.schema;
+    })

@@ -1,5 +1,6 @@
 -- The lines of an image's instructions, one after another.
-use Rattle.std.proofs.Common.{◌≡◌, ◌++◌, ◌∙◌, ◌+◌, ℕ, List, [], ◌∷◌, map, length, refl, sym, ap, arith, append_assoc, append-nil, length-append}
+use Rattle.std.proofs.Common.{◌≡◌, ◌++◌, ◌∙◌, ◌+◌, ℕ, List, [], ◌∷◌, map, length, refl, sym, ap, arith, append_assoc}
+use Rattle.std.proofs.Common.{append-nil, length-append}
 use Rattle.spv_table.specs.Table.{Table, pattern_of}
 use Rattle.spv_module.specs.declared.opcode.TheConstants.{TYPE_FLOAT, TYPE_INT}
 use Rattle.spv_inst.specs.declared.definitions.Definitions.{Definitions}
@@ -36,7 +37,8 @@ pub record LineOf (G : Table) (before : List PlainInst) (i : PlainInst) : Type 0
   pub line : List ℕ
   pub shown : IsShownLine G before i further line
 
-pub line_of : (G : Table) (before : List PlainInst) (i : PlainInst) (words : List ℕ) → IsInstruction G before i words → LineOf G before i
+pub line_of : (G : Table) (before : List PlainInst) (i : PlainInst) (words : List ℕ) → IsInstruction G before i words
+    → LineOf G before i
 line_of G before i words b =
     let c = start before i.opcode in
     let m = match_flat G c (pattern_of b.entry) i.operands b.further b.matches in
@@ -48,20 +50,26 @@ line_of G before i words b =
     }
 
 -- one line more
-pub lines_more : (G : Table) (before is : List PlainInst) (ls : List (List ℕ)) (i : PlainInst) (further line : List ℕ) → ShownLines G before is ls → IsShownLine G (before ++ is) i further line
+pub lines_more : (G : Table) (before is : List PlainInst) (ls : List (List ℕ)) (i : PlainInst) (further line : List ℕ)
+    → ShownLines G before is ls → IsShownLine G (before ++ is) i further line
     → ShownLines G before (is ++ (i ∷ [])) (ls ++ (line ∷ []))
-lines_more G _ _ _ i further line (ShownLines.end before) s = ShownLines.more before i [] further line [] (rw append-nil at s) (ShownLines.end (before ++ (i ∷ [])))
+lines_more G _ _ _ i further line (ShownLines.end before) s =
+    ShownLines.more before i [] further line [] (rw append-nil at s) (ShownLines.end (before ++ (i ∷ [])))
 lines_more G _ _ _ i further line (ShownLines.more before j js us l ls a m) s =
     let e : before ++ (j ∷ js) ≡ (before ++ (j ∷ [])) ++ js = sym (append_assoc before (j ∷ []) js) in
-    ShownLines.more before j (js ++ (i ∷ [])) us l (ls ++ (line ∷ [])) a (lines_more G (before ++ (j ∷ [])) js ls i further line m (rw e at s))
+    ShownLines.more before j (js ++ (i ∷ [])) us l (ls ++ (line ∷ [])) a
+    (lines_more G (before ++ (j ∷ [])) js ls i further line m (rw e at s))
 
-pub text_more : (lines : List (List ℕ)) (line old new more : List ℕ) → new ≡ old ++ ended lines → more ≡ new ++ (line ++ (10 ∷ [])) → more ≡ old ++ ended (lines ++ (line ∷ []))
+pub text_more : (lines : List (List ℕ)) (line old new more : List ℕ) → new ≡ old ++ ended lines
+    → more ≡ new ++ (line ++ (10 ∷ [])) → more ≡ old ++ ended (lines ++ (line ∷ []))
 text_more lines line old new more e f =
     let g : ended (lines ++ (line ∷ [])) ≡ ended lines ++ (line ++ (10 ∷ [])) = ended-append lines (line ∷ []) in
-    f ∙ (ap (λ z. z ++ (line ++ (10 ∷ []))) e ∙ (append_assoc old (ended lines) (line ++ (10 ∷ [])) ∙ sym (ap (λ z. old ++ z) g)))
+    f ∙ (ap (λ z. z ++ (line ++ (10 ∷ []))) e
+    ∙ (append_assoc old (ended lines) (line ++ (10 ∷ [])) ∙ sym (ap (λ z. old ++ z) g)))
 
 -- one instruction more
-pub upto_next : (G : Table) (words old out more : List ℕ) (d d' : Definitions) (number at end : ℕ) (u : ShownUpto G words old out d number at) → IsNext G words u.insts out more d' at end
+pub upto_next : (G : Table) (words old out more : List ℕ) (d d' : Definitions) (number at end : ℕ)
+    (u : ShownUpto G words old out d number at) → IsNext G words u.insts out more d' at end
     → ShownUpto G words old more d' (number + 1) end
 upto_next G words old out more d d' number at end u n =
     let l = length-append u.insts (n.inst ∷ []) in
@@ -77,7 +85,8 @@ upto_next G words old out more d d' number at end u n =
     }
 
 -- an instruction whose line was added the fast way
-pub fast_next : (G : Table) (words : List ℕ) (before : List PlainInst) (old new : List ℕ) (known d : Definitions) (at : ℕ) (f : FastLine) → IsFastLine G known words old new at f → Knows known before
+pub fast_next : (G : Table) (words : List ℕ) (before : List PlainInst) (old new : List ℕ) (known d : Definitions)
+    (at : ℕ) (f : FastLine) → IsFastLine G known words old new at f → Knows known before
     → ((i : PlainInst) → IsTold i f → Knows d (before ++ (i ∷ []))) → IsNext G words before old new d at f.end
 fast_next G words before old new known d at f l h k =
     let b = l.read before h in

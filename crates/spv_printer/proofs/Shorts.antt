@@ -1,5 +1,6 @@
 -- Short texts in quotes, put straight from words.
-use Rattle.std.proofs.Common.{◌≡◌, ◌++◌, ◌∙◌, ◌<◌, ◌≤◌, ◌+◌, ℕ, List, [], ◌∷◌, length, take, set, ap, arith, append_assoc, get_or}
+use Rattle.std.proofs.Common.{◌≡◌, ◌++◌, ◌∙◌, ◌<◌, ◌≤◌, ◌+◌, ℕ, List, [], ◌∷◌, length, take, set, ap, arith}
+use Rattle.std.proofs.Common.{append_assoc, get_or}
 use Rattle.std.specs.Prelude.{IsUtf8}
 use Rattle.std.specs.Str.{IsAscii}
 use Rattle.std.specs.List.{AllByRecursion}
@@ -24,29 +25,37 @@ pub ascii_utf8 : (bs : List ℕ) → AllByRecursion (λ b. b < 128) bs → IsUtf
 ascii_utf8 bs h = IsUtf8-from_ascii bs (ascii_by bs h)
 
 -- one octet more
-pub copied_next : (old buffer octets : List ℕ) (at count : ℕ) → at + count < length buffer → count < length octets → take (at + count) buffer ≡ take at old ++ take count octets
+pub copied_next : (old buffer octets : List ℕ) (at count : ℕ) → at + count < length buffer → count < length octets
+    → take (at + count) buffer ≡ take at old ++ take count octets
     → take (at + (count + 1)) (set buffer (at + count) (get_or octets count 0)) ≡ take at old ++ take (count + 1) octets
 copied_next old buffer octets at count h l e =
     let i : at + (count + 1) ≡ at + count + 1 = omega arith in
     let m = take_more octets count 0 l in
     let b = get_or octets count 0 in
-    rw (i, m) (take_more_set buffer (at + count) b h ∙ (ap (λ z. z ++ (b ∷ [])) e ∙ append_assoc (take at old) (take count octets) (b ∷ [])))
+    rw (i, m) (take_more_set buffer (at + count) b h
+    ∙ (ap (λ z. z ++ (b ∷ [])) e ∙ append_assoc (take at old) (take count octets) (b ∷ [])))
 
 -- the quotes around the octets
-pub quotes_put : (old copied octets : List ℕ) (at count : ℕ) → at + 96 ≤ length old → at + 2 + count < length copied → escaped octets ≡ octets
+pub quotes_put : (old copied octets : List ℕ) (at count : ℕ) → at + 96 ≤ length old → at + 2 + count < length copied
+    → escaped octets ≡ octets
     → take (at + 2 + count) copied ≡ take (at + 2) (set (set old at 32) (at + 1) 34) ++ octets
     → take (at + 3 + count) (set copied (at + 2 + count) 34) ≡ take at old ++ (32 ∷ quoted octets)
 quotes_put old copied octets at count r h q e =
     let i : at + 3 + count ≡ at + 2 + count + 1 = omega arith in
     let z : at + 2 + 0 ≡ at + 2 = omega arith in
-    let b : take (at + 2) (set (set old at 32) (at + 1) 34) ≡ take at old ++ (32 ∷ 34 ∷ []) = rw z at (quoted_begun old at r) in
-    let f : take (at + 2 + count) copied ≡ take at old ++ (32 ∷ 34 ∷ octets) = e ∙ (ap (λ z. z ++ octets) b ∙ append_assoc (take at old) (32 ∷ 34 ∷ []) octets) in
-    rw (i, q) (take_more_set copied (at + 2 + count) 34 h ∙ (ap (λ z. z ++ (34 ∷ [])) f ∙ append_assoc (take at old) (32 ∷ 34 ∷ octets) (34 ∷ [])))
+    let b : take (at + 2) (set (set old at 32) (at + 1) 34) ≡ take at old
+    ++ (32 ∷ 34 ∷ []) = rw z at (quoted_begun old at r) in
+    let f : take (at + 2 + count) copied ≡ take at old ++ (32 ∷ 34 ∷ octets) = e
+    ∙ (ap (λ z. z ++ octets) b ∙ append_assoc (take at old) (32 ∷ 34 ∷ []) octets) in
+    rw (i, q) (take_more_set copied (at + 2 + count) 34 h
+    ∙ (ap (λ z. z ++ (34 ∷ [])) f ∙ append_assoc (take at old) (32 ∷ 34 ∷ octets) (34 ∷ [])))
 
 -- a text that is copied between quotes
-pub short_put : (old octets text rest : List ℕ) (k at : ℕ) → at + 96 ≤ length old → length octets ≤ 64 → escaped text ≡ text → octets ≡ text
+pub short_put : (old octets text rest : List ℕ) (k at : ℕ) → at + 96 ≤ length old → length octets ≤ 64
+    → escaped text ≡ text → octets ≡ text
     → rest ≡ drop k (drop (at + 2) (set (set old at 32) (at + 1) 34)) → k ≡ length octets
-    → take (at + 3 + length octets) (set (take (at + 2) (set (set old at 32) (at + 1) 34) ++ (octets ++ rest)) (at + 2 + length octets) 34) ≡ take at old ++ (32 ∷ quoted text)
+    → take (at + 3 + length octets) (set (take (at + 2) (set (set old at 32) (at + 1) 34) ++ (octets ++ rest))
+    (at + 2 + length octets) 34) ≡ take at old ++ (32 ∷ quoted text)
 short_put old octets text rest k at r f q v e m =
     let a = length-set old at 32 in
     let b = length-set (set old at 32) (at + 1) 34 in
@@ -59,5 +68,6 @@ short_put old octets text rest k at r f q v e m =
     let g = length-drop k (drop (at + 2) marked) in
     let s = ap length e in
     let h : at + 2 + length octets < length (take (at + 2) marked ++ (octets ++ rest)) = omega arith in
-    let c = front_copied marked octets rest (at + 2) (length octets) (omega arith) (omega arith) ∙ ap (λ z. take (at + 2) marked ++ z) (take-length octets) in
+    let c = front_copied marked octets rest (at + 2) (length octets) (omega arith) (omega arith)
+    ∙ ap (λ z. take (at + 2) marked ++ z) (take-length octets) in
     rw (← v) (quotes_put old (take (at + 2) marked ++ (octets ++ rest)) octets at (length octets) r h w c)

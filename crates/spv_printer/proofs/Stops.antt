@@ -1,5 +1,6 @@
 -- Where encoding stops, and that it does not where there is an image.
-use Rattle.std.proofs.Common.{◌≡◌, ◌++◌, ◌∙◌, ◌<◌, ◌≤◌, ◌+◌, ◌⊎◌, inl, inr, ℕ, zero, suc, List, [], ◌∷◌, Some, map, length, drop, refl, sym, ap, arith, append_assoc, append-nil, length-append}
+use Rattle.std.proofs.Common.{◌≡◌, ◌++◌, ◌∙◌, ◌<◌, ◌≤◌, ◌+◌, ◌⊎◌, inl, inr, ℕ, zero, suc, List, [], ◌∷◌, Some, map}
+use Rattle.std.proofs.Common.{length, drop, refl, sym, ap, arith, append_assoc, append-nil, length-append}
 use Rattle.spv_words.specs.declared.words.Header.{Header}
 use Rattle.spv_words.specs.Header.{IsHeader, greatest_length}
 use Rattle.spv_table.specs.declared.table.Entry.{Entry}
@@ -29,10 +30,12 @@ record Cut (G : Table) (b before : List PlainInst) (i : PlainInst) (ws : List �
   pub listed : Listing G b before front
   pub spelled : IsInstruction G (b ++ before) i words
 
-inst_moved : (G : Table) (b : List PlainInst) (i j : PlainInst) (ws : List ℕ) → i ≡ j → IsInstruction G b i ws → IsInstruction G (b ++ []) j ws
+inst_moved : (G : Table) (b : List PlainInst) (i j : PlainInst) (ws : List ℕ) → i ≡ j → IsInstruction G b i ws
+    → IsInstruction G (b ++ []) j ws
 inst_moved G b i j ws e a = rw (append-nil, ← e) a
 
-cut_more : (G : Table) (b before : List PlainInst) (i j p : PlainInst) (us vs : List ℕ) → j ≡ p → IsInstruction G b j us → Cut G (b ++ (j ∷ [])) before i vs → Cut G b (p ∷ before) i (us ++ vs)
+cut_more : (G : Table) (b before : List PlainInst) (i j p : PlainInst) (us vs : List ℕ) → j ≡ p → IsInstruction G b j us
+    → Cut G (b ++ (j ∷ [])) before i vs → Cut G b (p ∷ before) i (us ++ vs)
 cut_more G b before i j p us vs e a r = record {
   front = us ++ r.front;
   words = r.words;
@@ -42,27 +45,41 @@ cut_more G b before i j p us vs e a r = record {
   spelled = rw (← e, ← append_assoc b (j ∷ []) before) r.spelled;
 }
 
-cut : (G : Table) (b is : List PlainInst) (ws : List ℕ) → Listing G b is ws → (before : List PlainInst) (i : PlainInst) (later : List PlainInst) → is ≡ before ++ (i ∷ later) → Cut G b before i ws
+cut : (G : Table) (b is : List PlainInst) (ws : List ℕ) → Listing G b is ws
+    → (before : List PlainInst) (i : PlainInst) (later : List PlainInst) → is ≡ before ++ (i ∷ later)
+    → Cut G b before i ws
 cut G _ _ _ (Listing.end b) [] i later e = cc
 cut G _ _ _ (Listing.end b) (p ∷ before) i later e = cc
 cut G _ _ _ (Listing.more b j is us vs a l) [] i later e =
     let f : j ≡ i = cc in
-    record { front = []; words = us; rest = vs; all = refl; listed = Listing.end b; spelled = inst_moved G b j i us f a }
+    record {
+      front = [];
+      words = us;
+      rest = vs;
+      all = refl;
+      listed = Listing.end b;
+      spelled = inst_moved G b j i us f a;
+    }
 cut G _ _ _ (Listing.more b j is us vs a l) (p ∷ before) i later e =
     let f : j ≡ p = cc in
     let g : is ≡ before ++ (i ∷ later) = cc in
     cut_more G b before i j p us vs f a (cut G (b ++ (j ∷ [])) is vs l before i later g)
 
-same_further : (G : Table) (before : List PlainInst) (i : PlainInst) (a b : Entry) (us vs : List ℕ) → entry_of G i.opcode ≡ Some a → entry_of G i.opcode ≡ Some b
-    → Match G (start before i.opcode) (pattern_of a) i.operands us → Match G (start before i.opcode) (pattern_of b) i.operands vs → us ≡ vs
+same_further : (G : Table) (before : List PlainInst) (i : PlainInst) (a b : Entry) (us vs : List ℕ)
+    → entry_of G i.opcode ≡ Some a → entry_of G i.opcode ≡ Some b
+    → Match G (start before i.opcode) (pattern_of a) i.operands us
+    → Match G (start before i.opcode) (pattern_of b) i.operands vs → us ≡ vs
 same_further G before i a b us vs e f m n =
     let g : b ≡ a = cc in
     let n' : Match G (start before i.opcode) (pattern_of a) i.operands vs = rw g at n in
     let c = start before i.opcode in
-    spelled_once G c (map due (pattern_of a)) i.operands i.operands us vs (match_flat G c (pattern_of a) i.operands us m) (match_flat G c (pattern_of a) i.operands vs n') refl
+    spelled_once G c (map due (pattern_of a)) i.operands i.operands us vs
+    (match_flat G c (pattern_of a) i.operands us m) (match_flat G c (pattern_of a) i.operands vs n') refl
 
 -- an instruction that is spelled, within the limits, is not hindered
-pub not_prevented : (G : Table) (before : List PlainInst) (i : PlainInst) (ws : List ℕ) (written : ℕ) (code : EncodeCode) → IsInstruction G before i ws → written + length ws ≤ greatest_length → Prevents code G before written i → ⊥
+pub not_prevented : (G : Table) (before : List PlainInst) (i : PlainInst) (ws : List ℕ) (written : ℕ)
+    (code : EncodeCode) → IsInstruction G before i ws → written + length ws ≤ greatest_length
+    → Prevents code G before written i → ⊥
 not_prevented G before i ws written N1 a l h = h
 not_prevented G before i ws written N2 a l h = h a.entry a.further a.known a.matches
 not_prevented G before i ws written N3 a l h = too_long h.long
@@ -78,7 +95,8 @@ not_prevented G before i ws written N3 a l h = too_long h.long
     too_long (inr x) = let s = sizes.0 in let t = sizes.1 in omega arith
 not_prevented G before i ws written Memory a l h = h
 
-pub not_stopped : (G : Table) (is : List PlainInst) (ws : List ℕ) (code : EncodeCode) (n : ℕ) → IsListing G is ws → 5 + length ws ≤ greatest_length → StopsAt G is code n → ⊥
+pub not_stopped : (G : Table) (is : List PlainInst) (ws : List ℕ) (code : EncodeCode) (n : ℕ) → IsListing G is ws
+    → 5 + length ws ≤ greatest_length → StopsAt G is code n → ⊥
 not_stopped G is ws code n l short s =
     let c = cut G [] is ws l s.before s.inst s.later s.all in
     let e = listing_once G [] s.before s.before c.front s.words c.listed s.spelled refl in
@@ -96,7 +114,8 @@ record Longer (xs ys : List PlainInst) (x : PlainInst) : Type 0 where
 longer_more : (xs ys : List PlainInst) (x z w : PlainInst) → z ≡ w → Longer xs ys x → Longer (z ∷ xs) (w ∷ ys) x
 longer_more xs ys x z w e r = let f = r.longer in record { between = r.between; longer = cc }
 
-longer : (xs ys us vs : List PlainInst) (x y : PlainInst) → xs ++ (x ∷ us) ≡ ys ++ (y ∷ vs) → length xs < length ys → Longer xs ys x
+longer : (xs ys us vs : List PlainInst) (x y : PlainInst) → xs ++ (x ∷ us) ≡ ys ++ (y ∷ vs) → length xs < length ys
+    → Longer xs ys x
 longer [] [] us vs x y e h = absurd (omega arith)
 longer [] (w ∷ ys) us vs x y e h = let f : w ≡ x = cc in record { between = ys; longer = ap (λ z. z ∷ ys) f }
 longer (z ∷ xs) [] us vs x y e h = absurd (omega arith)
@@ -105,7 +124,8 @@ longer (z ∷ xs) (w ∷ ys) us vs x y e h =
     let g : xs ++ (x ∷ us) ≡ ys ++ (y ∷ vs) = cc in
     longer_more xs ys x z w f (longer xs ys us vs x y g (omega arith))
 
-same_fronts : (xs ys us vs : List PlainInst) (x y : PlainInst) → xs ++ (x ∷ us) ≡ ys ++ (y ∷ vs) → length xs ≡ length ys → (xs ≡ ys) × (x ≡ y)
+same_fronts : (xs ys us vs : List PlainInst) (x y : PlainInst) → xs ++ (x ∷ us) ≡ ys ++ (y ∷ vs) → length xs ≡ length ys
+    → (xs ≡ ys) × (x ≡ y)
 same_fronts [] [] us vs x y e h = (refl, cc)
 same_fronts [] (w ∷ ys) us vs x y e h = absurd (omega arith)
 same_fronts (z ∷ xs) [] us vs x y e h = absurd (omega arith)
@@ -117,16 +137,28 @@ same_fronts (z ∷ xs) (w ∷ ys) us vs x y e h =
     (cc, r.1)
 
 -- a list does not stop before the place where it stops
-not_earlier : (G : Table) (is : List PlainInst) (a b : EncodeCode) (k l : ℕ) → StopsAt G is a k → StopsAt G is b l → k < l → ⊥
+not_earlier : (G : Table) (is : List PlainInst) (a b : EncodeCode) (k l : ℕ) → StopsAt G is a k → StopsAt G is b l
+    → k < l → ⊥
 not_earlier G is a b k l s t h =
     let n = s.number in
     let m = t.number in
     let g : length s.before < length t.before = omega arith in
     let r = longer s.before t.before s.later t.later s.inst t.inst (sym s.all ∙ t.all) g in
     not_stopped G t.before t.words a k t.spelled t.short
-    (record { before = s.before; inst = s.inst; later = r.between; words = s.words; all = r.longer; number = s.number; spelled = s.spelled; short = s.short; prevented = s.prevented })
+    (record {
+      before = s.before;
+      inst = s.inst;
+      later = r.between;
+      words = s.words;
+      all = r.longer;
+      number = s.number;
+      spelled = s.spelled;
+      short = s.short;
+      prevented = s.prevented;
+    })
 
-one_code : (G : Table) (before : List PlainInst) (i : PlainInst) (x y : ℕ) (a b : EncodeCode) → Prevents a G before x i → Prevents b G before y i → a ≡ b
+one_code : (G : Table) (before : List PlainInst) (i : PlainInst) (x y : ℕ) (a b : EncodeCode) → Prevents a G before x i
+    → Prevents b G before y i → a ≡ b
 one_code G before i x y N1 b h g = absurd h
 one_code G before i x y N2 N1 h g = absurd g
 one_code G before i x y N2 N2 h g = refl
@@ -149,7 +181,8 @@ apart (suc k) (suc l) = apart_more k l (apart k l)
     apart_more k l (inr (inl h)) = inr (inl (omega arith))
     apart_more k l (inr (inr h)) = inr (inr (omega arith))
 
-pub stop_once : (G : Table) (is : List PlainInst) (a b : EncodeCode) (k l : ℕ) → StopsAt G is a k → StopsAt G is b l → (a ≡ b) × (k ≡ l)
+pub stop_once : (G : Table) (is : List PlainInst) (a b : EncodeCode) (k l : ℕ) → StopsAt G is a k → StopsAt G is b l
+    → (a ≡ b) × (k ≡ l)
 stop_once G is a b k l s t = by_order (apart k l)
   where
     by_order : (k < l) ⊎ ((l < k) ⊎ (k ≡ l)) → (a ≡ b) × (k ≡ l)
@@ -181,20 +214,30 @@ front_is (a ∷ b ∷ c ∷ d ∷ e ∷ ws) h f s =
 pub image_once : (G : Table) (m : Module) (ws vs : List ℕ) → IsImageOf G m ws → IsImageOf G m vs → ws ≡ vs
 image_once G m ws vs i j =
     let e = listing_once G [] (plain_insts m) (plain_insts m) (drop 5 ws) (drop 5 vs) i.spelled j.spelled refl in
-    front_is ws m.header i.header i.same ∙ (ap (λ zs. header_words m.header ++ zs) e ∙ sym (front_is vs m.header j.header j.same))
+    front_is ws m.header i.header i.same ∙
+    (ap (λ zs. header_words m.header ++ zs) e ∙ sym (front_is vs m.header j.header j.same))
 
 fits_so : (ws : List ℕ) (h : Header) → IsHeader ws → IsHeaderOf ws h → HeaderFits h
 fits_so ws h f s =
     let d = s.bound in
     let l = f.bound_least in
     let g = f.bound_most in
-    record { version = s.version ∙ f.version; bound_least = omega arith; bound_most = omega arith; schema = s.schema ∙ f.schema }
+    record {
+      version = s.version ∙ f.version;
+      bound_least = omega arith;
+      bound_most = omega arith;
+      schema = s.schema
+          ∙ f.schema;
+    }
 
 words_in : (ws : List ℕ) (h : Header) → IsHeader ws → IsHeaderOf ws h → 5 + length (drop 5 ws) ≡ length ws
 words_in ws h f s = sym (ap length (front_is ws h f s) ∙ omega arith)
 
-pub not_refused : (G : Table) (m : Module) (ws : List ℕ) (code : EncodeCode) (n : ℕ) → IsImageOf G m ws → length ws ≤ greatest_length → RefusesModule code G m n → code ≡ Memory
+pub not_refused : (G : Table) (m : Module) (ws : List ℕ) (code : EncodeCode) (n : ℕ) → IsImageOf G m ws
+    → length ws ≤ greatest_length → RefusesModule code G m n → code ≡ Memory
 not_refused G m ws N1 n i l r = absurd (r.1 (fits_so ws m.header i.header i.same))
-not_refused G m ws N2 n i l r = let w = words_in ws m.header i.header i.same in absurd (not_stopped G (plain_insts m) (drop 5 ws) N2 n i.spelled (omega arith) r.1)
-not_refused G m ws N3 n i l r = let w = words_in ws m.header i.header i.same in absurd (not_stopped G (plain_insts m) (drop 5 ws) N3 n i.spelled (omega arith) r.1)
+not_refused G m ws N2 n i l r = let w = words_in ws m.header i.header i.same in
+    absurd (not_stopped G (plain_insts m) (drop 5 ws) N2 n i.spelled (omega arith) r.1)
+not_refused G m ws N3 n i l r = let w = words_in ws m.header i.header i.same in
+    absurd (not_stopped G (plain_insts m) (drop 5 ws) N3 n i.spelled (omega arith) r.1)
 not_refused G m ws Memory n i l r = refl

@@ -31,7 +31,8 @@ no_parts : (ss : List Slot) → shape_of small (and_then (start [] 7) (Result 5)
 unfolding shape_of
 no_parts ss e = cc
 
-no_text : (ws : List ℕ) (ss : List Slot) → Takes 5 (shape_of small (and_then (start [] 7) (Result 5)) (alone 5)) (Text (97 ∷ 0 ∷ [])) ws ss → ⊥
+no_text : (ws : List ℕ) (ss : List Slot)
+    → Takes 5 (shape_of small (and_then (start [] 7) (Result 5)) (alone 5)) (Text (97 ∷ 0 ∷ [])) ws ss → ⊥
 unfolding shape_of
 no_text ws ss t = unfit_takes 5 AsText (Text (97 ∷ 0 ∷ [])) refl ws ss t
 
@@ -41,13 +42,17 @@ result_takes = Takes.result 5
 
 unmatched : (us : List ℕ) → Matches small (start [] 7) pattern zero_operands us → ⊥
 unmatched us m =
-    let w : Walk small (start [] 7) pattern zero_operands (and_then (start [] 7) (Result 5)) (OneOf (alone 5) ∷ []) (Text (97 ∷ 0 ∷ []) ∷ []) (5 ∷ []) =
-    walk_operand small (start [] 7) pattern zero_operands (start [] 7) (alone 1) (OneOf (alone 5) ∷ []) (Result 5) (Text (97 ∷ 0 ∷ []) ∷ []) [] (5 ∷ []) [] (walk_start small (start [] 7) pattern zero_operands) result_takes in
-    walk_unfit small (start [] 7) pattern zero_operands (and_then (start [] 7) (Result 5)) (alone 5) [] (Text (97 ∷ 0 ∷ [])) [] (5 ∷ []) no_parts no_text w us m
+    let w : Walk small (start [] 7) pattern zero_operands (and_then (start [] 7) (Result 5)) (OneOf (alone 5) ∷ [])
+    (Text (97 ∷ 0 ∷ []) ∷ []) (5 ∷ []) =
+    walk_operand small (start [] 7) pattern zero_operands (start [] 7) (alone 1) (OneOf (alone 5) ∷ []) (Result 5)
+    (Text (97 ∷ 0 ∷ []) ∷ []) [] (5 ∷ []) [] (walk_start small (start [] 7) pattern zero_operands) result_takes in
+    walk_unfit small (start [] 7) pattern zero_operands (and_then (start [] 7) (Result 5)) (alone 5) []
+    (Text (97 ∷ 0 ∷ [])) [] (5 ∷ []) no_parts no_text w us m
 
 by_entry : (e : Entry) → string_entry ≡ e → (us : List ℕ) → Match small (start [] 7) (pattern_of e) zero_operands us → ⊥
 by_entry e f us m =
-    let m' : Match small (start [] 7) (pattern_of string_entry) zero_operands us = subst (λ (x : Entry). Match small (start [] 7) (pattern_of x) zero_operands us) (sym f) m in
+    let m' : Match small (start [] 7) (pattern_of string_entry) zero_operands us = subst
+    (λ (x : Entry). Match small (start [] 7) (pattern_of x) zero_operands us) (sym f) m in
     unmatched us (match_flat small (start [] 7) (One 1 ∷ One 5 ∷ []) zero_operands us m')
 
 entry_is : (e : Entry) → entry_of small 7 ≡ Some e → string_entry ≡ e

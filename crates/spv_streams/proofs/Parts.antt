@@ -1,9 +1,12 @@
 -- How far a run on several files is.
-use Rattle.std.proofs.Common.{◌≡◌, ◌≢◌, ◌≤◌, ◌<◌, ◌↔◌, ◌⊎◌, inl, inr, ◌+◌, ◌-◌, ◌∙◌, ◌++◌, ◌∷◌, [], ℕ, List, Bool, true, false, IsTrue, Option, Some, None, IfSome, codes, length, max, take, drop, map, ap, sym, refl, subst, arith, append_assoc, append-nil, length-append, get_or, if◌then◌else◌}
+use Rattle.std.proofs.Common.{◌≡◌, ◌≢◌, ◌≤◌, ◌<◌, ◌↔◌, ◌⊎◌, inl, inr, ◌+◌, ◌-◌, ◌∙◌, ◌++◌, ◌∷◌, [], ℕ, List, Bool, true}
+use Rattle.std.proofs.Common.{false, IsTrue, Option, Some, None, IfSome, codes, length, max, take, drop, map, ap, sym}
+use Rattle.std.proofs.Common.{refl, subst, arith, append_assoc, append-nil, length-append, get_or, if◌then◌else◌}
 use Rattle.std.specs.Io.KnownBytes.{Appends}
 use Rattle.std.proofs.KnownBytes.{Appends-nil, Appends-trans}
 use Rattle.std.proofs.Math.Seq.{take-add, take-append-add}
-use Rattle.std.proofs.lemmas.List.{flat_map_more, length-drop, length-map, length-take-le, map_more, take-append-le, take-map, take_all, take_more}
+use Rattle.std.proofs.lemmas.List.{flat_map_more, length-drop, length-map, length-take-le, map_more, take-append-le}
+use Rattle.std.proofs.lemmas.List.{take-map, take_all, take_more}
 use Rattle.std.proofs.lemmas.Grind.{flat_map-append}
 use Rattle.std.specs.Borrow.{Bor}
 use Rattle.spv_table.specs.Table.{Table}
@@ -28,7 +31,8 @@ use Rattle.spv_streams.specs.Each.{more, none}
 
 -- What was written of the first files, whether all writes to the standard error have succeeded, and the status so far.
 pub record Going (G : Table) (how : Judging) (known : ℕ → Known) (names : List (List ℕ)) (status : ℕ) (told : Bool)
-    (old_out out : Option (List ℕ)) (before_out after_out : ℕ) (old_err err : Option (List ℕ)) (before_err after_err : ℕ) : Type 0 where
+    (old_out out : Option (List ℕ)) (before_out after_out : ℕ) (old_err err : Option (List ℕ))
+    (before_err after_err : ℕ) : Type 0 where
   pub text : List ℕ
   pub lines : List ℕ
   pub parts : AreParts G how known names text lines status
@@ -48,18 +52,25 @@ begins G how known out err before_out before_err = record {
 }
 
 -- the number of a file is how many stand before it
-pub number_is : (names : List (Bor (List ℕ))) (at : ℕ) → at ≤ length names → length (map (λ n. n.now) (take at names)) ≡ at
+pub number_is : (names : List (Bor (List ℕ))) (at : ℕ) → at ≤ length names
+    → length (map (λ n. n.now) (take at names)) ≡ at
 number_is names at h = length-map (take at names) (λ (n : Bor (List ℕ)). n.now) ∙ length-take-le at names h
 
 -- a file had its turn, and what is written of it was
-pub part_on : (G : Table) (how : Judging) (known : ℕ → Known) (all : List (Bor (List ℕ))) (at : ℕ) (word : List ℕ) (any : Bor (List ℕ)) (status own next : ℕ) (told heard : Bool) (part line : List ℕ)
-    (old_out out new_out : Option (List ℕ)) (before_out between_out after_out : ℕ) (old_err err new_err : Option (List ℕ)) (before_err between_err after_err : ℕ)
+pub part_on : (G : Table) (how : Judging) (known : ℕ → Known) (all : List (Bor (List ℕ))) (at : ℕ) (word : List ℕ)
+    (any : Bor (List ℕ)) (status own next : ℕ) (told heard : Bool) (part line : List ℕ)
+    (old_out out new_out : Option (List ℕ)) (before_out between_out after_out : ℕ)
+    (old_err err new_err : Option (List ℕ)) (before_err between_err after_err : ℕ)
     → at < length all → word ≡ (get_or all at any).now
-    → Going G how known (map (λ n. n.now) (take at all)) status told old_out out before_out between_out old_err err before_err between_err
+    → Going G how known (map (λ n. n.now) (take at all)) status told old_out out before_out between_out old_err err
+    before_err between_err
     → IsPart G how word (known at) part line own → own ≤ 2 → next ≡ max status own
-    → WritesOn told line heard err new_err between_err after_err → WritesOn true part true out new_out between_out after_out
-    → Going G how known (map (λ n. n.now) (take (at + 1) all)) next heard old_out new_out before_out after_out old_err new_err before_err after_err
-part_on G how known all at word any status own next told heard part line old_out out new_out before_out between_out after_out old_err err new_err before_err between_err after_err h n g p small e v w =
+    → WritesOn told line heard err new_err between_err after_err
+    → WritesOn true part true out new_out between_out after_out
+    → Going G how known (map (λ n. n.now) (take (at + 1) all)) next heard old_out new_out before_out after_out old_err
+    new_err before_err after_err
+part_on G how known all at word any status own next told heard part line old_out out new_out before_out between_out
+    after_out old_err err new_err before_err between_err after_err h n g p small e v w =
     let first = map (λ (m : Bor (List ℕ)). m.now) (take at all) in
     let grown : map (λ (m : Bor (List ℕ)). m.now) (take (at + 1) all) ≡ first ++ word ∷ [] =
     map_more (λ (m : Bor (List ℕ)). m.now) all at any h ∙ ap (λ (m : List ℕ). first ++ m ∷ []) (sym n) in
@@ -69,7 +80,8 @@ part_on G how known all at word any status own next told heard part line old_out
     record {
       text = g.text ++ part;
       lines = g.lines ++ line;
-      parts = subst (λ (ls : List (List ℕ)). AreParts G how known ls (g.text ++ part) (g.lines ++ line) next) (sym grown)
+      parts = subst (λ (ls : List (List ℕ)). AreParts G how known ls (g.text ++ part) (g.lines ++ line) next)
+          (sym grown)
           (rw e (more word part line own g.parts own_part));
       out_got = w g.text old_out before_out g.out_got;
       err_got = v g.lines old_err before_err g.err_got;
@@ -77,16 +89,22 @@ part_on G how known all at word any status own next told heard part line old_out
     }
 
 -- a file had its turn, and a write of what is written of it failed
-pub cut_on : (text : Option (List ℕ)) (G : Table) (how : Judging) (known : ℕ → Known) (all : List (Bor (List ℕ))) (at : ℕ) (word : List ℕ) (any : Bor (List ℕ)) (status own : ℕ) (told heard last : Bool) (part line : List ℕ)
-    (old_out out new_out : Option (List ℕ)) (before_out between_out after_out : ℕ) (old_err err middle_err new_err : Option (List ℕ)) (before_err between_err told_err after_err : ℕ)
+pub cut_on : (text : Option (List ℕ)) (G : Table) (how : Judging) (known : ℕ → Known) (all : List (Bor (List ℕ)))
+    (at : ℕ) (word : List ℕ) (any : Bor (List ℕ)) (status own : ℕ) (told heard last : Bool) (part line : List ℕ)
+    (old_out out new_out : Option (List ℕ)) (before_out between_out after_out : ℕ)
+    (old_err err middle_err new_err : Option (List ℕ)) (before_err between_err told_err after_err : ℕ)
     → IsTableOf text G → at < length all → word ≡ (get_or all at any).now
-    → Going G how known (map (λ n. n.now) (take at all)) status told old_out out before_out between_out old_err err before_err between_err
+    → Going G how known (map (λ n. n.now) (take at all)) status told old_out out before_out between_out old_err err
+    before_err between_err
     → IsPart G how word (known at) part line own
     → WritesOn told line heard err middle_err between_err told_err
-    → WritesOn true part false out new_out between_out after_out → WritesOn heard file_line last middle_err new_err told_err after_err
-    → Ends text how known (map (λ n. n.now) all) (λ o. Writes o old_out new_out before_out after_out) (λ e. Writes e old_err new_err before_err after_err)
+    → WritesOn true part false out new_out between_out after_out
+    → WritesOn heard file_line last middle_err new_err told_err after_err
+    → Ends text how known (map (λ n. n.now) all) (λ o. Writes o old_out new_out before_out after_out)
+    (λ e. Writes e old_err new_err before_err after_err)
     (after_out ≡ before_out) 2
-cut_on text G how known all at word any status own told heard last part line old_out out new_out before_out between_out after_out old_err err middle_err new_err before_err between_err told_err after_err given h n g p u w v =
+cut_on text G how known all at word any status own told heard last part line old_out out new_out before_out between_out
+    after_out old_err err middle_err new_err before_err between_err told_err after_err given h n g p u w v =
     let first = map (λ (m : Bor (List ℕ)). m.now) (take at all) in
     let grown : map (λ (m : Bor (List ℕ)). m.now) (take (at + 1) all) ≡ first ++ word ∷ [] =
     map_more (λ (m : Bor (List ℕ)). m.now) all at any h ∙ ap (λ (m : List ℕ). first ++ m ∷ []) (sym n) in
@@ -94,18 +112,23 @@ cut_on text G how known all at word any status own told heard last part line old
     subst (λ (k : ℕ). IsPart G how word (known k) part line own) (sym (number_is all at (omega (arith, h)))) p in
     let got = w g.text old_out before_out g.out_got in
     Ends.cut G (at + 1) (g.text ++ part) (g.lines ++ line) (max status own) given
-    (subst (λ (ls : List (List ℕ)). AreParts G how known ls (g.text ++ part) (g.lines ++ line) (max status own)) (sym (take-map (λ (m : Bor (List ℕ)). m.now) (at + 1) all ∙ grown))
+    (subst (λ (ls : List (List ℕ)). AreParts G how known ls (g.text ++ part) (g.lines ++ line) (max status own))
+    (sym (take-map (λ (m : Bor (List ℕ)). m.now) (at + 1) all ∙ grown))
     (more word part line own g.parts own_part))
-    got.writes (λ q. never (got.steady.1 q)) (v (g.lines ++ line) old_err before_err (u g.lines old_err before_err g.err_got)).writes refl
+    got.writes (λ q. never (got.steady.1 q))
+    (v (g.lines ++ line) old_err before_err (u g.lines old_err before_err g.err_got)).writes refl
 
 -- what is written of a file that was not judged is its part
-unread_by : (G : Table) (how : Judging) (name : List ℕ) (known : Known) (why : Unread) (out : List ℕ) → (why ≡ File → IfSome known (λ file. file ≡ None))
+unread_by : (G : Table) (how : Judging) (name : List ℕ) (known : Known) (why : Unread) (out : List ℕ)
+    → (why ≡ File → IfSome known (λ file. file ≡ None))
     → out ≡ unread_text how.telling name why → IsPart G how name known out (label name ++ unread_line why) 2
 unread_by G how name known File out h o = IsPart.unread (h refl) o refl refl
 unread_by G how name known Memory out h o = IsPart.starved (inl o) refl refl
 
-pub part_unread : (G : Table) (how : Judging) (name : List ℕ) (known : Known) (why : Unread) (part : Part) → (why ≡ File → IfSome known (λ file. file ≡ None)) → part.status ≡ 2
-    → (((part.unread ≡ Some why) × (part.text.items ≡ unread_text how.telling name why)) ⊎ ((part.unread ≡ Some Memory) × (part.text.items ≡ [])))
+pub part_unread : (G : Table) (how : Judging) (name : List ℕ) (known : Known) (why : Unread) (part : Part)
+    → (why ≡ File → IfSome known (λ file. file ≡ None)) → part.status ≡ 2
+    → (((part.unread ≡ Some why) × (part.text.items ≡ unread_text how.telling name why))
+    ⊎ ((part.unread ≡ Some Memory) × (part.text.items ≡ [])))
     → IsPart G how name known part.text.items (told_line name part.unread) part.status
 part_unread G how name known why part h s (inl t) =
     rw (t.0, s) (unread_by G how name known why part.text.items h t.1)
@@ -113,34 +136,48 @@ part_unread G how name known why part h s (inr t) =
     rw (t.0, s) (IsPart.starved (inr t.1) refl refl)
 
 -- what is written of a file that is known to have the bytes that were read
-of_bytes : (G : Table) (how : Judging) (name bytes : List ℕ) (known : Known) (out err : List ℕ) (status : ℕ) → IfSome known (λ file. file ≡ Some bytes)
+of_bytes : (G : Table) (how : Judging) (name bytes : List ℕ) (known : Known) (out err : List ℕ) (status : ℕ)
+    → IfSome known (λ file. file ≡ Some bytes)
     → IsPart G how name (Some (Some bytes)) out err status → IsPart G how name known out err status
-of_bytes G how name bytes known out err status h (IsPart.judged own valid k d e s) = IsPart.judged own valid (rw (sym k) h) d e s
+of_bytes G how name bytes known out err status h (IsPart.judged own valid k d e s) =
+    IsPart.judged own valid (rw (sym k) h) d e s
 of_bytes G how name bytes known out err status h (IsPart.unread k o e s) = cc
 of_bytes G how name bytes known out err status h (IsPart.starved o e s) = IsPart.starved o e s
 
 -- or of what its reading gave
-pub known_part : (G : Table) (how : Judging) (name : List ℕ) (known : Known) (file : Result (Vec ℕ Global) Unread) (part : Part)
-    → IfOk file (λ v. IfSome known (λ file. file ≡ Some v.items)) → (IsErrOf file File → IfSome known (λ file. file ≡ None))
-    → IfOk file (λ v. IsPart G how name (Some (Some v.items)) part.text.items (told_line name part.unread) part.status) → IfErr file (λ why. IsUnread how name why part)
+pub known_part : (G : Table) (how : Judging) (name : List ℕ) (known : Known) (file : Result (Vec ℕ Global) Unread)
+    (part : Part)
+    → IfOk file (λ v. IfSome known (λ file. file ≡ Some v.items))
+    → (IsErrOf file File → IfSome known (λ file. file ≡ None))
+    → IfOk file (λ v. IsPart G how name (Some (Some v.items)) part.text.items (told_line name part.unread) part.status)
+    → IfErr file (λ why. IsUnread how name why part)
     → IsPart G how name known part.text.items (told_line name part.unread) part.status
-known_part G how name known (Ok v) part given unread judged refused = of_bytes G how name v.items known part.text.items (told_line name part.unread) part.status given judged
-known_part G how name known (Err why) part given unread judged refused = part_unread G how name known why part (λ q. unread (ap Err q)) refused.0 refused.1
+known_part G how name known (Ok v) part given unread judged refused =
+    of_bytes G how name v.items known part.text.items (told_line name part.unread) part.status given judged
+known_part G how name known (Err why) part given unread judged refused =
+    part_unread G how name known why part (λ q. unread (ap Err q)) refused.0 refused.1
 
 -- all files had their turn
-pub ends_on : (text : Option (List ℕ)) (G : Table) (how : Judging) (known : ℕ → Known) (all : List (Bor (List ℕ))) (at : ℕ) (status : ℕ) (told : Bool)
-    (old_out out : Option (List ℕ)) (before_out after_out : ℕ) (old_err err : Option (List ℕ)) (before_err after_err : ℕ)
+pub ends_on : (text : Option (List ℕ)) (G : Table) (how : Judging) (known : ℕ → Known) (all : List (Bor (List ℕ)))
+    (at : ℕ) (status : ℕ) (told : Bool)
+    (old_out out : Option (List ℕ)) (before_out after_out : ℕ) (old_err err : Option (List ℕ))
+    (before_err after_err : ℕ)
     → IsTableOf text G → length all ≤ at
-    → Going G how known (map (λ n. n.now) (take at all)) status told old_out out before_out after_out old_err err before_err after_err
-    → Ends text how known (map (λ n. n.now) all) (λ o. Writes o old_out out before_out after_out) (λ e. Writes e old_err err before_err after_err)
+    → Going G how known (map (λ n. n.now) (take at all)) status told old_out out before_out after_out old_err err
+    before_err after_err
+    → Ends text how known (map (λ n. n.now) all) (λ o. Writes o old_out out before_out after_out)
+    (λ e. Writes e old_err err before_err after_err)
     (after_out ≡ before_out) status
-ends_on text G how known all at status told old_out out before_out after_out old_err err before_err after_err given h g =
+ends_on text G how known all at status told old_out out before_out after_out old_err err before_err after_err given h
+    g =
     Ends.done G g.text g.lines given
-    (subst (λ (ls : List (Bor (List ℕ))). AreParts G how known (map (λ n. n.now) ls) g.text g.lines status) (take_all at all h) g.parts)
+    (subst (λ (ls : List (Bor (List ℕ))). AreParts G how known (map (λ n. n.now) ls) g.text g.lines status)
+    (take_all at all h) g.parts)
     g.out_got.writes (g.out_got.steady.0 refl) g.err_got.writes
 
 -- a refused grammar file, or want of memory for it
-pub refused_on : (text : Option (List ℕ)) (how : Judging) (known : ℕ → Known) (names : List (List ℕ)) (Out Told : List ℕ → Type 0) (whole : Type 0) (e : GrammarError)
+pub refused_on : (text : Option (List ℕ)) (how : Judging) (known : ℕ → Known) (names : List (List ℕ))
+    (Out Told : List ℕ → Type 0) (whole : Type 0) (e : GrammarError)
     → (e ≢ J8 → breaks text e) → Out [] → whole → Told (grammar_text e) → Ends text how known names Out Told whole 2
 refused_on text how known names Out Told whole J8 h o w x = Ends.starved o w x refl
 refused_on text how known names Out Told whole J1 h o w x = Ends.refused J1 (h (λ q. cc)) o w x refl
@@ -153,14 +190,16 @@ refused_on text how known names Out Told whole J7 h o w x = Ends.refused J7 (h (
 
 -- ---- the worked examples
 
-pub no_files : (G : Table) (how : Judging) (known : ℕ → Known) (names : List (List ℕ)) (out err : List ℕ) (status : ℕ) → names ≡ [] → status ≡ 2
+pub no_files : (G : Table) (how : Judging) (known : ℕ → Known) (names : List (List ℕ)) (out err : List ℕ) (status : ℕ)
+    → names ≡ [] → status ≡ 2
     → ¬ (AreParts G how known names out err status)
 no_files G how known _ _ _ _ n s none = let q : 0 ≡ 2 = s in cc
 no_files G how known _ _ _ _ n s (more {names} name part line own parts own_part) =
     let long : length names + 1 ≡ 0 = sym (length-append names (name ∷ [])) ∙ ap length n in
     omega (arith, long)
 
-pub never_told : (text : Option (List ℕ)) (how : Judging) (known : ℕ → Known) (names : List (List ℕ)) (status : ℕ) → ¬ (Ends text how known names (λ o. ⊥) (λ e. ⊥) (Unit {0}) status)
+pub never_told : (text : Option (List ℕ)) (how : Judging) (known : ℕ → Known) (names : List (List ℕ)) (status : ℕ)
+    → ¬ (Ends text how known names (λ o. ⊥) (λ e. ⊥) (Unit {0}) status)
 never_told text how known names status (Ends.refused e b o w x s) = o
 never_told text how known names status (Ends.starved o w x s) = o
 never_told text how known names status (Ends.done G out err given parts o w x) = o

@@ -1,5 +1,6 @@
 -- What a command begins to do with three bytes.
-use Rattle.std.proofs.Common.{ap, length, length-append, ◌≤◌, ◌+◌, ℕ, List, [], ◌∷◌, ◌++◌, Option, Some, None, Bool, true, false, ◌≡◌, codes, refl, sym, subst, arith, lit≤}
+use Rattle.std.proofs.Common.{ap, length, length-append, ◌≤◌, ◌+◌, ℕ, List, [], ◌∷◌, ◌++◌, Option, Some, None, Bool}
+use Rattle.std.proofs.Common.{true, false, ◌≡◌, codes, refl, sym, subst, arith, lit≤}
 use Rattle.spv_words.specs.Header.{IsFirstBroken, IsModule}
 use Rattle.spv_words.specs.declared.words.Order.{Order}
 use Rattle.spv_words.specs.declared.words.WordError.{WordError}
@@ -7,16 +8,18 @@ use Rattle.spv_words.specs.declared.words.WordError.TheVariants.{W2}
 use Rattle.spv_table.specs.Table.{Table}
 use Rattle.spv_extended.specs.declared.reach.Reach.{Reach}
 use Rattle.spv_command_line.specs.declared.command_line.Command.{Command}
-use Rattle.spv_command_line.specs.declared.command_line.Command.TheVariants.{Judge, Show, Asm, Trace, Rules, Grammar, Annotate, Graph}
+use Rattle.spv_command_line.specs.declared.command_line.Command.TheVariants.{Judge, Show, Asm, Trace, Rules, Grammar}
+use Rattle.spv_command_line.specs.declared.command_line.Command.TheVariants.{Annotate, Graph}
 use Rattle.spv_command_line.specs.declared.command_line.Task.TheVariants as tasks
 use Rattle.spv_commands.specs.Example.{answer_of, empty_grammar}
 use Rattle.spv_commands.specs.Show.{BeginsShowing, IsShowing, Shows}
 use Rattle.spv_explain.specs.Lines.{refused_text}
 use Rattle.spv_explain.specs.Stream.{BeginsExplaining, Explains}
-use Rattle.spv_verdict.specs.Stream.{Begins, TellsVerdict}
-use Rattle.spv_verdict.specs.Verdict.{IsVerdict}
-use Rattle.spv_verdict.proofs.Verdicts.{refused_is_not_valid}
-use Rattle.spv_commands.specs.Task.{DoesByText, MakesNothing, ReadsNoFile, WritesGrammar, detail_of, reach_of, taken, view_of}
+use Rattle.spv_check.specs.Stream.{Begins, TellsVerdict}
+use Rattle.spv_check.specs.Verdict.{IsVerdict}
+use Rattle.spv_check.proofs.Verdicts.{refused_is_not_valid}
+use Rattle.spv_commands.specs.Task.{DoesByText, MakesNothing, ReadsNoFile, WritesGrammar, detail_of, reach_of, taken}
+use Rattle.spv_commands.specs.Task.{view_of}
 use Rattle.spv_views.specs.View.{BeginsViewing, Views}
 use Rattle.spv_views.specs.declared.view.View.{View}
 use Rattle.spv_views.specs.declared.view.View.TheVariants as view
@@ -24,33 +27,55 @@ use Rattle.spv_fault_lines.specs.declared.fact.Detail.{Detail}
 use Rattle.spv_commands.specs.Trace.{BeginsTracing, Traces}
 use Rattle.spv_builtin.specs.Source.{IsTableOf}
 use Rattle.spv_builtin.specs.Text.{IsGrammarText}
-use Rattle.spv_verdict.specs.Verdict.{line_end, refused_line}
+use Rattle.spv_check.specs.Verdict.{line_end, refused_line}
 use Rattle.spv_commands.proofs.Tasks.{as_taken}
 use Rattle.spv_streams.specs.Begin.{BeginsByText, BeginsGrammar}
 
-pub begins_short : (c : Command) (G : Table) → ¬ (ReadsNoFile c) → MakesNothing c → IsTableOf (Some empty_grammar) G → ((reach : Reach) → Begins G reach (1 ∷ 2 ∷ 3 ∷ []) (9 ∷ []) (Some (9 ∷ codes "fault")))
-    → ((reach : Reach) (detail : Detail) → BeginsExplaining detail G reach (1 ∷ 2 ∷ 3 ∷ []) (9 ∷ []) (Some (9 ∷ codes "fault")))
+pub begins_short : (c : Command) (G : Table) → ¬ (ReadsNoFile c) → MakesNothing c → IsTableOf (Some empty_grammar) G
+    → ((reach : Reach) → Begins G reach (1 ∷ 2 ∷ 3 ∷ []) (9 ∷ []) (Some (9 ∷ codes "fault")))
+    → ((reach : Reach) (detail : Detail)
+    → BeginsExplaining detail G reach (1 ∷ 2 ∷ 3 ∷ []) (9 ∷ []) (Some (9 ∷ codes "fault")))
     → BeginsShowing G (1 ∷ 2 ∷ 3 ∷ []) (9 ∷ []) (Some (9 ∷ codes "fault"))
-    → ((reach : Reach) (function : ℕ) (choices : List ℕ) (limit : ℕ) → BeginsTracing G reach function choices limit (1 ∷ 2 ∷ 3 ∷ []) (9 ∷ []) (Some (9 ∷ codes "fault")))
-    → ((how : View) (function : Option ℕ) → BeginsViewing how G function (1 ∷ 2 ∷ 3 ∷ []) (9 ∷ []) (Some (9 ∷ codes "fault")))
+    → ((reach : Reach) (function : ℕ) (choices : List ℕ) (limit : ℕ)
+    → BeginsTracing G reach function choices limit (1 ∷ 2 ∷ 3 ∷ []) (9 ∷ []) (Some (9 ∷ codes "fault")))
+    → ((how : View) (function : Option ℕ)
+    → BeginsViewing how G function (1 ∷ 2 ∷ 3 ∷ []) (9 ∷ []) (Some (9 ∷ codes "fault")))
     → BeginsByText c (Some empty_grammar) (1 ∷ 2 ∷ 3 ∷ []) (Some (9 ∷ [])) (Some (9 ∷ codes "fault")) None None
 begins_short (Judge tasks.Check g fs v e p q j) G r n given begins explained shown traced viewed =
-    record { table = G; given = given; begins = as_taken (λ bytes. Begins G (reach_of e) bytes (9 ∷ []) (Some (9 ∷ codes "fault"))) v (begins (reach_of e)) }
+    record {
+      table = G;
+      given = given;
+      begins = as_taken
+          (λ bytes. Begins G (reach_of e) bytes (9 ∷ []) (Some (9 ∷ codes "fault"))) v (begins (reach_of e));
+    }
 begins_short (Judge (tasks.Explain full) g fs v e p q j) G r n given begins explained shown traced viewed =
-    record { table = G; given = given; begins = as_taken (λ bytes. BeginsExplaining (detail_of full) G (reach_of e) bytes (9 ∷ []) (Some (9 ∷ codes "fault"))) v (explained (reach_of e) (detail_of full)) }
+    record {
+      table = G;
+      given = given;
+      begins = as_taken
+          (λ bytes. BeginsExplaining (detail_of full) G (reach_of e) bytes (9 ∷ []) (Some (9 ∷ codes "fault"))) v
+          (explained (reach_of e) (detail_of full));
+    }
 begins_short (Show g f v) G r n given begins explained shown traced viewed =
-    record { table = G; given = given; begins = as_taken (λ bytes. BeginsShowing G bytes (9 ∷ []) (Some (9 ∷ codes "fault"))) v shown }
+    record {
+      table = G;
+      given = given;
+      begins = as_taken
+          (λ bytes. BeginsShowing G bytes (9 ∷ []) (Some (9 ∷ codes "fault"))) v shown;
+    }
 begins_short (Asm g f o b x) G r n given begins explained shown traced viewed = absurd n
 begins_short (Trace g f function choices limit v e) G r n given begins explained shown traced viewed = record {
   table = G;
   given = given;
-  begins = as_taken (λ bytes. BeginsTracing G (reach_of e) function choices.items limit bytes (9 ∷ []) (Some (9 ∷ codes "fault"))) v
+  begins = as_taken (λ bytes. BeginsTracing G (reach_of e) function choices.items limit bytes (9 ∷ [])
+      (Some (9 ∷ codes "fault"))) v
       (traced (reach_of e) function choices.items limit);
 }
 begins_short (Annotate g f v function form color) G r n given begins explained shown traced viewed = record {
   table = G;
   given = given;
-  begins = as_taken (λ bytes. BeginsViewing (view_of form color f) G function bytes (9 ∷ []) (Some (9 ∷ codes "fault"))) v
+  begins = as_taken (λ bytes. BeginsViewing (view_of form color f) G function bytes (9 ∷ []) (Some (9 ∷ codes "fault")))
+      v
       (viewed (view_of form color f) function);
 }
 begins_short (Graph g f v function) G r n given begins explained shown traced viewed = record {
@@ -65,4 +90,5 @@ begins_short (Grammar file) G r n given begins explained shown traced viewed = a
 -- ---- a grammar file
 
 pub grammar_begun : (G : Table) (text : List ℕ) → IsGrammarText G text → BeginsGrammar G (Some (9 ∷ [])) (Some (9 ∷ []))
-grammar_begun G text t = record { text = text; is_text = t; begun = record { count = 0; fits = omega arith; written = refl } }
+grammar_begun G text t =
+    record { text = text; is_text = t; begun = record { count = 0; fits = omega arith; written = refl } }

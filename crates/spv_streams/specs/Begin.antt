@@ -10,7 +10,7 @@ use Rattle.spv_command_line.specs.declared.command_line.Command.TheVariants.{Ann
 use Rattle.spv_command_line.specs.declared.command_line.Task.{Task}
 use Rattle.spv_command_line.specs.declared.command_line.Task.TheVariants as tasks
 use Rattle.spv_rules.specs.declared.errors.AnyCode.{AnyCode}
-use Rattle.spv_verdict.specs.Stream.{Begins}
+use Rattle.spv_check.specs.Stream.{Begins}
 use Rattle.spv_explain.specs.Stream.{BeginsExplaining}
 use Rattle.spv_views.specs.View.{BeginsViewing}
 use Rattle.spv_views.specs.declared.view.View.TheVariants as views

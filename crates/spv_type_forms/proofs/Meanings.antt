@@ -1,9 +1,12 @@
 -- What is noted of ids, with one note more.
-use Rattle.std.proofs.Common.{◌≡◌, ◌≢◌, ◌∙◌, ◌<◌, ◌⊎◌, ℕ, zero, suc, Bool, true, false, nat_eq, nat_lt, if◌then◌else◌, List, [], Option, Some, None, option_and_then, refl, sym, ap, inl, inr, length, get_or, get_or-set_same, get_or-set_other, arith}
+use Rattle.std.proofs.Common.{◌≡◌, ◌≢◌, ◌∙◌, ◌<◌, ◌⊎◌, ℕ, zero, suc, Bool, true, false, nat_eq, nat_lt, if◌then◌else◌}
+use Rattle.std.proofs.Common.{List, [], Option, Some, None, option_and_then, refl, sym, ap, inl, inr, length, get_or}
+use Rattle.std.proofs.Common.{get_or-set_same, get_or-set_other, arith}
 use Rattle.std.specs.Prelude.{slice_get, IsSome, IsSomeAnd}
 use Rattle.std.proofs.Math.ListN.{set, length-set, replicate}
 use Rattle.std.proofs.lemmas.Bool.{cases_eq, eq-eqb, ltb-true}
-use Rattle.std.proofs.lemmas.Option.{none-some, slice_get_within, slice_get-get_or, slice_get_read, get_or_from_slice_get}
+use Rattle.std.proofs.lemmas.Option.{none-some, slice_get_within, slice_get-get_or, slice_get_read}
+use Rattle.std.proofs.lemmas.Option.{get_or_from_slice_get}
 use Rattle.spv_module.specs.declared.opcode.TheConstants as opcode
 use Rattle.spv_module.specs.Operand.{PlainInst, result_in, type_in}
 use Rattle.spv_module.specs.Width.{definition_of, type_of}
@@ -17,7 +20,8 @@ use Rattle.spv_type_forms.specs.inner.Meaning.{type_meant, typed_by, IsMeaningOf
 use Rattle.spv_type_forms.proofs.Lookups.{finds}
 
 -- an instruction is the definition of its result
-pub defined_by : (is : List PlainInst) (x n : ℕ) (i : PlainInst) (o : Option ℕ) → IsDefinitionOf is x o → slice_get is n ≡ Some i → result_in i.operands ≡ Some x → definition_of is x ≡ Some i
+pub defined_by : (is : List PlainInst) (x n : ℕ) (i : PlainInst) (o : Option ℕ) → IsDefinitionOf is x o
+    → slice_get is n ≡ Some i → result_in i.operands ≡ Some x → definition_of is x ≡ Some i
 defined_by is x n i None never at r = absurd (never n (record { inst = i; there = at; result = r }))
 defined_by is x n i (Some m) one at r =
     let d : IsDefinedAt is x n = record { inst = i; there = at; result = r } in
@@ -34,9 +38,18 @@ said_form i f m d s = record {
 
 said_typed_by : (i : PlainInst) (t : ℕ) (b : Bool) → nat_eq i.opcode opcode.FUNCTION ≡ b → type_in i.operands ≡ Some t
     → IsSaid i (if b then meaning.Unknown else meaning.Typed t)
-said_typed_by i t true e d = record { typed = λ u n. absurd (none-some u n); of_form = λ g n. absurd (none-some g n); declares = λ n. absurd (let no : false ≡ true = n in cc) }
+said_typed_by i t true e d =
+    record {
+      typed = λ u n. absurd (none-some u n);
+      of_form = λ g n. absurd (none-some g n);
+      declares = λ n. absurd (let no : false ≡ true = n in cc);
+    }
 said_typed_by i t false e d = record {
-  typed = λ u s. (d ∙ s, λ same. let yes : nat_eq i.opcode opcode.FUNCTION ≡ true = eq-eqb i.opcode opcode.FUNCTION same in cc);
+  typed = λ u s. (
+    d ∙ s,
+    λ same.
+        let yes : nat_eq i.opcode opcode.FUNCTION ≡ true = eq-eqb i.opcode opcode.FUNCTION same in cc,
+  );
   of_form = λ g n. absurd (none-some g n);
   declares = λ n. absurd (let no : false ≡ true = n in cc);
 }
@@ -45,7 +58,8 @@ pub said_typed : (i : PlainInst) (t : ℕ) → type_in i.operands ≡ Some t →
 said_typed i t d = said_typed_by i t (nat_eq i.opcode opcode.FUNCTION) refl d
 
 -- what it says holds of that
-pub said_means : (is : List PlainInst) (x : ℕ) (i : PlainInst) (m : Meaning) → definition_of is x ≡ Some i → IsSaid i m → IsMeant is x m
+pub said_means : (is : List PlainInst) (x : ℕ) (i : PlainInst) (m : Meaning) → definition_of is x ≡ Some i → IsSaid i m
+    → IsMeant is x m
 said_means is x i m d s = record {
   typed = λ t e. rw d (s.typed t e);
   of_form = λ f e. rw d (s.of_form f e);
@@ -53,14 +67,17 @@ said_means is x i m d s = record {
 }
 
 -- and so what is read of it
-typed_in : (o : Option PlainInst) (t : ℕ) → IsSomeAnd o (IsValueOf t) → option_and_then (λ i. type_in i.operands) o ≡ Some t
+typed_in : (o : Option PlainInst) (t : ℕ) → IsSomeAnd o (IsValueOf t)
+    → option_and_then (λ i. type_in i.operands) o ≡ Some t
 typed_in None t h = absurd h
 typed_in (Some i) t h = h.0
 
-pub type_read : (is : List PlainInst) (x : ℕ) (m : Meaning) (t : ℕ) → IsMeant is x m → type_meant m ≡ Some t → type_of is x ≡ Some t
+pub type_read : (is : List PlainInst) (x : ℕ) (m : Meaning) (t : ℕ) → IsMeant is x m → type_meant m ≡ Some t
+    → type_of is x ≡ Some t
 type_read is x m t h e = typed_in (definition_of is x) t (h.typed t e)
 
-value_in : (o : Option PlainInst) (t : ℕ) → IsSomeAnd o (IsValueOf t) → IsSomeAnd o (λ i. IsSome (type_in i.operands) × (i.opcode ≢ opcode.FUNCTION))
+value_in : (o : Option PlainInst) (t : ℕ) → IsSomeAnd o (IsValueOf t)
+    → IsSomeAnd o (λ i. IsSome (type_in i.operands) × (i.opcode ≢ opcode.FUNCTION))
 value_in None t h = absurd h
 value_in (Some i) t h = (rw h.0 refl, h.1)
 
@@ -70,14 +87,19 @@ value_read is x m t h e = value_in (definition_of is x) t (h.typed t e)
 
 -- nothing is meant of an id of which nothing is noted
 pub unknown_meant : (is : List PlainInst) (x : ℕ) → IsMeant is x meaning.Unknown
-unknown_meant is x = record { typed = λ t e. absurd (none-some t e); of_form = λ f e. absurd (none-some f e); declares = λ e. absurd (let no : false ≡ true = e in cc) }
+unknown_meant is x = record {
+  typed = λ t e. absurd (none-some t e);
+  of_form = λ f e. absurd (none-some f e);
+  declares = λ e. absurd (let no : false ≡ true = e in cc);
+}
 
 set_same : (l : List Meaning) (n : ℕ) (v a : Meaning) → n < length l → slice_get (set l n v) n ≡ Some a → v ≡ a
 set_same l n v a h s =
     let g : get_or (set l n v) n meaning.Unknown ≡ a = get_or_from_slice_get (set l n v) n a meaning.Unknown s in
     sym (get_or-set_same l n v meaning.Unknown h) ∙ g
 
-set_other : (l : List Meaning) (n k : ℕ) (v a : Meaning) → k ≢ n → slice_get (set l n v) k ≡ Some a → slice_get l k ≡ Some a
+set_other : (l : List Meaning) (n k : ℕ) (v a : Meaning) → k ≢ n → slice_get (set l n v) k ≡ Some a
+    → slice_get l k ≡ Some a
 set_other l n k v a ne s =
     let w : k < length (set l n v) = slice_get_within (set l n v) k a s in
     let w' : k < length l = omega (arith, length-set {A = Meaning}) in
@@ -85,18 +107,21 @@ set_other l n k v a ne s =
     let e : get_or l k meaning.Unknown ≡ a = sym (get_or-set_other l n k v meaning.Unknown ne) ∙ g in
     slice_get-get_or l k meaning.Unknown w' ∙ ap Some e
 
-meant_at : (is : List PlainInst) (l : List Meaning) (n k : ℕ) (v a : Meaning) → n < length l → AreMeant is l → IsMeant is n v
+meant_at : (is : List PlainInst) (l : List Meaning) (n k : ℕ) (v a : Meaning) → n < length l → AreMeant is l
+    → IsMeant is n v
     → slice_get (set l n v) k ≡ Some a → (k ≡ n) ⊎ (k ≡ n → ⊥) → IsMeant is k a
 meant_at is l n k v a h old new s (inl e) =
     let t : v ≡ a = set_same l n v a h (rw e at s) in
     rw (e, ← t) new
 meant_at is l n k v a h old new s (inr e) = old k a (set_other l n k v a e s)
 
-pub meant_set : (is : List PlainInst) (l : List Meaning) (n : ℕ) (v : Meaning) → n < length l → AreMeant is l → IsMeant is n v → AreMeant is (set l n v)
+pub meant_set : (is : List PlainInst) (l : List Meaning) (n : ℕ) (v : Meaning) → n < length l → AreMeant is l
+    → IsMeant is n v → AreMeant is (set l n v)
 meant_set is l n v h old new = λ k a s. meant_at is l n k v a h old new s (cases_eq k n)
 
 -- what was read of the list
-pub noted_at : (l : List Meaning) (n : ℕ) (a v : Meaning) → true ≡ nat_lt n (length l) → a ≡ get_or l n a → a ≡ v → slice_get l n ≡ Some v
+pub noted_at : (l : List Meaning) (n : ℕ) (a v : Meaning) → true ≡ nat_lt n (length l) → a ≡ get_or l n a → a ≡ v
+    → slice_get l n ≡ Some v
 noted_at l n a v t e s =
     let w : n < length l = ltb-true n (length l) (sym t) in
     slice_get_read l (length l) n a refl w e ∙ ap Some s

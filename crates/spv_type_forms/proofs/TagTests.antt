@@ -1,5 +1,6 @@
 -- What holds of the declared types of several ids, told by tests on each.
-use Rattle.std.proofs.Common.{◌≡◌, ℕ, ◌+◌, List, [], ◌∷◌, Option, Some, None, Bool, true, false, nat_eq, ◌&&◌, length, option_and_then, option_map, ◌↔◌, refl, sym, ◌∙◌, ap, arith}
+use Rattle.std.proofs.Common.{◌≡◌, ℕ, ◌+◌, List, [], ◌∷◌, Option, Some, None, Bool, true, false, nat_eq, ◌&&◌, length}
+use Rattle.std.proofs.Common.{option_and_then, option_map, ◌↔◌, refl, sym, ◌∙◌, ap, arith}
 use Rattle.std.specs.Prelude.{IsSomeAnd}
 use Rattle.std.specs.List.{AllByRecursion, list_all}
 use Rattle.std.proofs.lemmas.Bool.{eqb-true, eq-eqb}
@@ -12,7 +13,8 @@ use Rattle.spv_type_forms.specs.declared.form.Scalar.TheVariants as scalar
 use Rattle.spv_type_forms.specs.Form.{form_of}
 use Rattle.spv_type_forms.specs.Types.{IsSomeInt, PointsTo, pointee_in}
 use Rattle.spv_type_forms.specs.Parts.{part_of, count_of, ArePartsFrom, AreParts}
-use Rattle.spv_type_forms.specs.inner.Tests.{passes, are_same, are_parts_from, is_int_form, has_int, has_type, has_pointee}
+use Rattle.spv_type_forms.specs.inner.Tests.{passes, are_same, are_parts_from, is_int_form, has_int, has_type}
+use Rattle.spv_type_forms.specs.inner.Tests.{has_pointee}
 use Rattle.spv_type_forms.specs.Values.{types_of}
 
 pub both : (a b : Bool) → a && b ≡ true → (a ≡ true) × (b ≡ true)
@@ -23,7 +25,8 @@ and_yes : (a b : Bool) → a ≡ true → b ≡ true → a && b ≡ true
 and_yes a b e f = rw (e, f) refl
 
 -- one id more: the test of its type, and what holds of the types of the others
-one_more : (P : ℕ → Type 0) (p : ℕ → Bool) → ((t : ℕ) → (p t ≡ true) ↔ P t) → (o : Option ℕ) (os : Option (List ℕ)) (b : Bool) → (b ≡ true) ↔ IsSomeAnd os (AllByRecursion P)
+one_more : (P : ℕ → Type 0) (p : ℕ → Bool) → ((t : ℕ) → (p t ≡ true) ↔ P t)
+    → (o : Option ℕ) (os : Option (List ℕ)) (b : Bool) → (b ≡ true) ↔ IsSomeAnd os (AllByRecursion P)
     → (passes p o && b ≡ true) ↔ IsSomeAnd (option_and_then (λ t. option_map (λ ts. t ∷ ts) os) o) (AllByRecursion P)
 one_more P p d None os b h = (λ e. cc, λ n. absurd n)
 one_more P p d (Some t) None b h = (λ e. h.0 (both (p t) b e).1, λ n. absurd n)
@@ -33,15 +36,18 @@ one_more P p d (Some t) (Some ts) b h =
 pub all_typed : (is : List PlainInst) (P : ℕ → Type 0) (p : ℕ → Bool) → ((t : ℕ) → (p t ≡ true) ↔ P t) → (xs : List ℕ)
     → (list_all (λ x. passes p (type_of is x)) xs ≡ true) ↔ IsSomeAnd (types_of is xs) (AllByRecursion P)
 all_typed is P p d [] = (λ _. tt, λ _. refl)
-all_typed is P p d (x ∷ xs) = one_more P p d (type_of is x) (types_of is xs) (list_all (λ y. passes p (type_of is y)) xs) (all_typed is P p d xs)
+all_typed is P p d (x ∷ xs) =
+    one_more P p d (type_of is x) (types_of is xs) (list_all (λ y. passes p (type_of is y)) xs) (all_typed is P p d xs)
 
 -- one part more
 one_part : (is : List PlainInst) (r k : ℕ) (part o : Option ℕ) (os : Option (List ℕ)) (b : Bool) → part_of is r k ≡ part
     → (b ≡ true) ↔ IsSomeAnd os (ArePartsFrom is r (k + 1))
-    → (are_same part o && b ≡ true) ↔ IsSomeAnd (option_and_then (λ t. option_map (λ ts. t ∷ ts) os) o) (ArePartsFrom is r k)
+    → (are_same part o && b ≡ true) ↔ IsSomeAnd (option_and_then (λ t. option_map (λ ts. t ∷ ts) os) o)
+    (ArePartsFrom is r k)
 one_part is r k None None os b e h = (λ y. cc, λ n. absurd n)
 one_part is r k None (Some t) None b e h = (λ y. cc, λ n. absurd n)
-one_part is r k None (Some t) (Some ts) b e h = (λ y. absurd (let no : false ≡ true = y in cc), λ a. absurd (none-some t (sym e ∙ a.0)))
+one_part is r k None (Some t) (Some ts) b e h =
+    (λ y. absurd (let no : false ≡ true = y in cc), λ a. absurd (none-some t (sym e ∙ a.0)))
 one_part is r k (Some n) None os b e h = (λ y. cc, λ n. absurd n)
 one_part is r k (Some n) (Some t) None b e h = (λ y. h.0 (both (nat_eq t n) b y).1, λ n. absurd n)
 one_part is r k (Some n) (Some t) (Some ts) b e h = (
@@ -56,9 +62,11 @@ pub parts_typed : (is : List PlainInst) (r k : ℕ) (xs : List ℕ)
     → (are_parts_from is r k xs ≡ true) ↔ IsSomeAnd (types_of is xs) (ArePartsFrom is r k)
 parts_typed is r k [] = (λ _. tt, λ _. refl)
 parts_typed is r k (x ∷ xs) =
-    one_part is r k (part_of is r k) (type_of is x) (types_of is xs) (are_parts_from is r (k + 1) xs) refl (parts_typed is r (k + 1) xs)
+    one_part is r k (part_of is r k) (type_of is x) (types_of is xs) (are_parts_from is r (k + 1) xs) refl
+    (parts_typed is r (k + 1) xs)
 
-length_one : (o : Option ℕ) (os : Option (List ℕ)) (n : ℕ) (ts : List ℕ) → ((us : List ℕ) → os ≡ Some us → length us ≡ n)
+length_one : (o : Option ℕ) (os : Option (List ℕ)) (n : ℕ) (ts : List ℕ)
+    → ((us : List ℕ) → os ≡ Some us → length us ≡ n)
     → option_and_then (λ t. option_map (λ us. t ∷ us) os) o ≡ Some ts → length ts ≡ 1 + n
 length_one None os n ts h e = absurd (none-some ts e)
 length_one (Some t) None n ts h e = absurd (none-some ts e)
@@ -69,7 +77,8 @@ length_one (Some t) (Some us) n ts h e =
 -- as many types as ids
 pub length-types_of : (is : List PlainInst) (xs ts : List ℕ) → types_of is xs ≡ Some ts → length ts ≡ length xs
 length-types_of is [] ts e = let same : [] ≡ ts = cc in rw (← same) refl
-length-types_of is (x ∷ xs) ts e = length_one (type_of is x) (types_of is xs) (length xs) ts (length-types_of is xs) e ∙ omega arith
+length-types_of is (x ∷ xs) ts e =
+    length_one (type_of is x) (types_of is xs) (length xs) ts (length-types_of is xs) e ∙ omega arith
 
 -- a fact of the types, and one of each list of types that there may be
 pub and_each : {T : Type 0} (P Q : T → Type 0) (R : Type 0) (o : Option T) → ((t : T) → o ≡ Some t → (P t ↔ (R × Q t)))
@@ -78,7 +87,8 @@ and_each P Q R None h = (λ p. p.1, λ n. absurd n)
 and_each P Q R (Some t) h = ((h t refl).1, (h t refl).0)
 
 pub fills_typed : (is : List PlainInst) (r : ℕ) (xs : List ℕ)
-    → ((are_parts_from is r 0 xs ≡ true) × (count_of is r ≡ Some (length xs))) ↔ IsSomeAnd (types_of is xs) (AreParts is r)
+    → ((are_parts_from is r 0 xs ≡ true) × (count_of is r ≡ Some (length xs)))
+    ↔ IsSomeAnd (types_of is xs) (AreParts is r)
 fills_typed is r xs =
     let d = parts_typed is r 0 xs in
     let e = and_each (AreParts is r) (ArePartsFrom is r 0) (count_of is r ≡ Some (length xs)) (types_of is xs)
@@ -99,11 +109,13 @@ int_in_form (Some form.Opaque) = (λ y. cc, λ q. cc)
 int_in_form (Some (form.Pointer a b)) = (λ y. cc, λ q. cc)
 int_in_form (Some form.Function) = (λ y. cc, λ q. cc)
 
-pub ints_typed : (is : List PlainInst) (xs : List ℕ) → (list_all (has_int is) xs ≡ true) ↔ IsSomeAnd (types_of is xs) (AllByRecursion (IsSomeInt is))
+pub ints_typed : (is : List PlainInst) (xs : List ℕ)
+    → (list_all (has_int is) xs ≡ true) ↔ IsSomeAnd (types_of is xs) (AllByRecursion (IsSomeInt is))
 ints_typed is xs = all_typed is (IsSomeInt is) (λ t. is_int_form (form_of is t)) (λ t. int_in_form (form_of is t)) xs
 
 -- the same type for each
-pub all_same : (is : List PlainInst) (r : ℕ) (xs : List ℕ) → (list_all (has_type is r) xs ≡ true) ↔ IsSomeAnd (types_of is xs) (AllByRecursion (λ t. t ≡ r))
+pub all_same : (is : List PlainInst) (r : ℕ) (xs : List ℕ)
+    → (list_all (has_type is r) xs ≡ true) ↔ IsSomeAnd (types_of is xs) (AllByRecursion (λ t. t ≡ r))
 all_same is r xs = all_typed is (λ t. t ≡ r) (λ t. nat_eq t r) (λ t. (eqb-true t r, eq-eqb t r)) xs
 
 same_in : (o : Option ℕ) (t : ℕ) → (passes (λ u. nat_eq u t) o ≡ true) ↔ (o ≡ Some t)
@@ -111,6 +123,8 @@ same_in None t = (λ y. absurd (let no : false ≡ true = y in cc), λ e. absurd
 same_in (Some u) t = (λ y. ap Some (eqb-true u t y), λ e. eq-eqb u t (let same : u ≡ t = cc in same))
 
 -- the type that a pointer type points to, for each
-pub all_pointees_typed : (is : List PlainInst) (r : ℕ) (xs : List ℕ) → (list_all (has_pointee is r) xs ≡ true) ↔ IsSomeAnd (types_of is xs) (AllByRecursion (PointsTo is r))
+pub all_pointees_typed : (is : List PlainInst) (r : ℕ) (xs : List ℕ)
+    → (list_all (has_pointee is r) xs ≡ true) ↔ IsSomeAnd (types_of is xs) (AllByRecursion (PointsTo is r))
 all_pointees_typed is r xs =
-    all_typed is (PointsTo is r) (λ t. passes (λ u. nat_eq u t) (pointee_in (form_of is r))) (λ t. same_in (pointee_in (form_of is r)) t) xs
+    all_typed is (PointsTo is r) (λ t. passes (λ u. nat_eq u t) (pointee_in (form_of is r)))
+    (λ t. same_in (pointee_in (form_of is r)) t) xs

@@ -1,5 +1,6 @@
 -- Reach as a function says the same.
-use Rattle.std.proofs.Common.{◌≡◌, ℕ, ◌<◌, List, [], ◌∷◌, Option, Some, None, ◌↔◌, refl, nat_lt, Bool, true, false, if◌then◌else◌}
+use Rattle.std.proofs.Common.{◌≡◌, ℕ, ◌<◌, List, [], ◌∷◌, Option, Some, None, ◌↔◌, refl, nat_lt, Bool, true, false}
+use Rattle.std.proofs.Common.{if◌then◌else◌}
 use Rattle.std.proofs.lemmas.Bool.{ltb-true, lt-ltb}
 use Rattle.std.proofs.lemmas.Option.{option_and_then_some, none-some}
 use Rattle.spv_module.specs.Operand.{PlainInst}
@@ -8,11 +9,13 @@ use Rattle.spv_type_forms.specs.inner.Parts.{inner_part_of}
 use Rattle.spv_type_forms.specs.Reach.{ReachesType, AreWithin}
 use Rattle.spv_type_forms.specs.inner.Walk.{walk}
 
-guarded : (b : Bool) (k n u : ℕ) (p : Option ℕ) → nat_lt k n ≡ b → (if b then p else None) ≡ Some u → (k < n) × (p ≡ Some u)
+guarded : (b : Bool) (k n u : ℕ) (p : Option ℕ) → nat_lt k n ≡ b → (if b then p else None) ≡ Some u
+    → (k < n) × (p ≡ Some u)
 guarded true k n u p e h = (ltb-true k n e, h)
 guarded false k n u p e h = absurd (none-some u h)
 
-pub walked : (is : List PlainInst) (ks : List ℕ) (t u : ℕ) → walk is ks t ≡ Some u → (AreWithin is t ks) × (ReachesType is t ks u)
+pub walked : (is : List PlainInst) (ks : List ℕ) (t u : ℕ) → walk is ks t ≡ Some u
+    → (AreWithin is t ks) × (ReachesType is t ks u)
 walked is [] t u e = (AreWithin.none t, rw (let s : t ≡ u = cc in s) (ReachesType.itself u))
 walked is (k ∷ ks) t u e =
     option_and_then_some (λ v. walk is ks v) (inner_part_of is t k) u e (λ v i w.
@@ -22,13 +25,15 @@ walked is (k ∷ ks) t u e =
     (AreWithin.more t k v n ks c p.0 p.1 r.0, ReachesType.by_part t k v u ks p.1 r.1)))
 
 -- the first index of those that are within
-inner : (is : List PlainInst) (t k : ℕ) (ks : List ℕ) → AreWithin is t (k ∷ ks) → (u : ℕ) × (inner_part_of is t k ≡ Some u) × (part_of is t k ≡ Some u) × AreWithin is u ks
+inner : (is : List PlainInst) (t k : ℕ) (ks : List ℕ) → AreWithin is t (k ∷ ks)
+    → (u : ℕ) × (inner_part_of is t k ≡ Some u) × (part_of is t k ≡ Some u) × AreWithin is u ks
 inner is t k ks (AreWithin.more _ _ u n _ c l p w) =
     let b : nat_lt k n ≡ true = lt-ltb k n l in
     let e : inner_part_of is t k ≡ Some u = rw (c, b) p in
     (u, e, p, w)
 
-pub reaching : (is : List PlainInst) (ks : List ℕ) (t u : ℕ) → AreWithin is t ks → ReachesType is t ks u → walk is ks t ≡ Some u
+pub reaching : (is : List PlainInst) (ks : List ℕ) (t u : ℕ) → AreWithin is t ks → ReachesType is t ks u
+    → walk is ks t ≡ Some u
 reaching is [] t u w (ReachesType.itself _) = refl
 reaching is (k ∷ ks) t u w (ReachesType.by_part _ _ v _ _ p r) =
     let i = inner is t k ks w in
@@ -36,5 +41,6 @@ reaching is (k ∷ ks) t u w (ReachesType.by_part _ _ v _ _ p r) =
     rw i.1 (reaching is ks i.0 u i.3 (rw same r))
 
 -- the walk decides
-pub walk_decides : (is : List PlainInst) (ks : List ℕ) (t u : ℕ) → (walk is ks t ≡ Some u) ↔ ((AreWithin is t ks) × (ReachesType is t ks u))
+pub walk_decides : (is : List PlainInst) (ks : List ℕ) (t u : ℕ)
+    → (walk is ks t ≡ Some u) ↔ ((AreWithin is t ks) × (ReachesType is t ks u))
 walk_decides is ks t u = (walked is ks t u, λ p. reaching is ks t u p.0 p.1)

@@ -23,13 +23,18 @@ unfolding rows
 lone_section = IsOfSection.global class.Variable refl refl (λ f l. no_last 0 f l)
 
 abbrev pub lone_defined : IsDefinedAt lone_variable 8 0
-lone_defined = record { inst = inst opcode.VARIABLE (OfType 7 ∷ Result 8 ∷ Value 0 5 ∷ []); there = refl; result = refl }
+lone_defined = record {
+  inst = inst opcode.VARIABLE (OfType 7 ∷ Result 8 ∷ Value 0 5 ∷ []);
+  there = refl;
+  result = refl;
+}
 
 -- %7 is the result of no instruction of it
 no_seven_at : (n : ℕ) (i : PlainInst) → slice_get lone_variable n ≡ Some i → result_in i.operands ≡ Some 7 → ⊥
 no_seven_at zero i at e =
     let same : inst opcode.VARIABLE (OfType 7 ∷ Result 8 ∷ Value 0 5 ∷ []) ≡ i = cc in
-    let f : ◌≡◌ {A = Option ℕ} (Some 8) (Some 7) = subst (λ (j : PlainInst). result_in j.operands ≡ Some 7) (sym same) e in
+    let f : ◌≡◌ {A = Option ℕ} (Some 8) (Some 7) = subst (λ (j : PlainInst). result_in j.operands ≡ Some 7)
+    (sym same) e in
     cc
 no_seven_at (suc n) i at e = cc
 

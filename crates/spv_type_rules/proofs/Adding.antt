@@ -29,7 +29,8 @@ is_equal _ e = cc
 
 either : (a b : Bool) (A B : Type 0) → (a ≡ true) ↔ A → (b ≡ true) ↔ B → (a || b ≡ true) ↔ (A ⊎ B)
 either true b A B f g = (λ e. inl (f.0 refl), λ o. refl)
-either false b A B f g = (λ e. inr (g.0 e), λ o. elim o [ inl x ↦ absurd (let no : false ≡ true = f.1 x in cc) | inr y ↦ g.1 y ])
+either false b A B f g =
+    (λ e. inr (g.0 e), λ o. elim o [ inl x ↦ absurd (let no : false ≡ true = f.1 x in cc) | inr y ↦ g.1 y ])
 
 here : (k v : Vec ℕ Global) → (is_eq (cmp k v) ≡ true) ↔ (v.items ≡ k.items)
 here k v = (
@@ -39,9 +40,12 @@ here k v = (
 
 pub has_tells : (k : Vec ℕ Global) (ks : List (Vec ℕ Global)) → (list_any (is_at (cmp k)) ks ≡ true) ↔ HasKey k.items ks
 has_tells k [] = (λ e. absurd (let no : false ≡ true = e in cc), λ h. absurd h)
-has_tells k (v ∷ vs) = either (is_eq (cmp k v)) (list_any (is_at (cmp k)) vs) (v.items ≡ k.items) (HasKey k.items vs) (here k v) (has_tells k vs)
+has_tells k (v ∷ vs) =
+    either (is_eq (cmp k v)) (list_any (is_at (cmp k)) vs) (v.items ≡ k.items) (HasKey k.items vs) (here k v)
+    (has_tells k vs)
 
-placed : (key x : Vec ℕ Global) (xs new : List (Vec ℕ Global)) (k : List ℕ) (o : Ordering) → cmp key x ≡ o → HasKey k new ↔ (HasKey k xs ⊎ (key.items ≡ k))
+placed : (key x : Vec ℕ Global) (xs new : List (Vec ℕ Global)) (k : List ℕ) (o : Ordering) → cmp key x ≡ o
+    → HasKey k new ↔ (HasKey k xs ⊎ (key.items ≡ k))
     → HasKey k (match_ordering o (key ∷ x ∷ xs) (x ∷ xs) (x ∷ new)) ↔ (HasKey k (x ∷ xs) ⊎ (key.items ≡ k))
 placed key x xs new k Less e h = (
   λ a. elim a [ inl q ↦ inr q | inr b ↦ inl b ],
@@ -56,7 +60,8 @@ placed key x xs new k Greater e h = (
   λ a. elim a [ inl b ↦ elim b [ inl q ↦ inl q | inr c ↦ inr (h.1 (inl c)) ] | inr q ↦ inr (h.1 (inr q)) ],
 )
 
-pub added_keys : (key : Vec ℕ Global) (ks : List (Vec ℕ Global)) (k : List ℕ) → HasKey k (insert_key cmp ks key) ↔ (HasKey k ks ⊎ (key.items ≡ k))
+pub added_keys : (key : Vec ℕ Global) (ks : List (Vec ℕ Global)) (k : List ℕ)
+    → HasKey k (insert_key cmp ks key) ↔ (HasKey k ks ⊎ (key.items ≡ k))
 added_keys key [] k = (
   λ a. elim a [ inl q ↦ inr q | inr b ↦ absurd b ],
   λ a. elim a [ inl b ↦ absurd b | inr q ↦ inl q ],
@@ -69,5 +74,6 @@ known_by true false P e h = λ p. let no : false ≡ true = h.1 p in cc
 known_by false true P e h = h.0 refl
 known_by false false P e h = absurd (let no : false ≡ true = e in cc)
 
-pub added_tells : (k : Vec ℕ Global) (ks : List (Vec ℕ Global)) (a : Bool) → a ≡ not (list_any (is_at (cmp k)) ks) → MatchBool a (¬ (HasKey k.items ks)) (HasKey k.items ks)
+pub added_tells : (k : Vec ℕ Global) (ks : List (Vec ℕ Global)) (a : Bool) → a ≡ not (list_any (is_at (cmp k)) ks)
+    → MatchBool a (¬ (HasKey k.items ks)) (HasKey k.items ks)
 added_tells k ks a e = known_by a (list_any (is_at (cmp k)) ks) (HasKey k.items ks) e (has_tells k ks)

@@ -29,33 +29,41 @@ untrue : (b : Bool) → b ≡ false → b ≡ true → ⊥
 untrue true e y = let no : true ≡ false = e in cc
 untrue false e y = let no : false ≡ true = y in cc
 
-pub first_y6 : (is : List PlainInst) (n : ℕ) (i : PlainInst) → Keeps Unasked is rule.Y2 n i → Keeps Unasked is rule.Y3 n i → Keeps Unasked is rule.Y4 n i
+pub first_y6 : (is : List PlainInst) (n : ℕ) (i : PlainInst) → Keeps Unasked is rule.Y2 n i
+    → Keeps Unasked is rule.Y3 n i → Keeps Unasked is rule.Y4 n i
     → (KeepsFunctions is n i → ⊥) → IsFirstRule is n i rule.Y6
 first_y6 is n i y2 y3 y4 never = record {
   of_stage = refl;
   last = lit≤ tt;
   broken = never;
-  least = λ q l. keeps_below is n i 30 (λ _. y2) (λ _. y3) (λ _. y4) (λ k. absurd (omega arith)) (λ k. absurd (omega arith)) (λ k. absurd (omega arith)) q l;
+  least = λ q l. keeps_below is n i 30 (λ _. y2) (λ _. y3) (λ _. y4) (λ k. absurd (omega arith))
+      (λ k. absurd (omega arith)) (λ k. absurd (omega arith)) q l;
 }
 
-pub first_y7 : (is : List PlainInst) (n : ℕ) (i : PlainInst) → Keeps Unasked is rule.Y2 n i → Keeps Unasked is rule.Y3 n i → Keeps Unasked is rule.Y4 n i → KeepsFunctions is n i
+pub first_y7 : (is : List PlainInst) (n : ℕ) (i : PlainInst) → Keeps Unasked is rule.Y2 n i
+    → Keeps Unasked is rule.Y3 n i → Keeps Unasked is rule.Y4 n i → KeepsFunctions is n i
     → (KeepsReturns is n i → ⊥) → IsFirstRule is n i rule.Y7
 first_y7 is n i y2 y3 y4 y6 never = record {
   of_stage = refl;
   last = lit≤ tt;
   broken = never;
-  least = λ q l. keeps_below is n i 31 (λ _. y2) (λ _. y3) (λ _. y4) (λ _. y6) (λ k. absurd (omega arith)) (λ k. absurd (omega arith)) q l;
+  least = λ q l. keeps_below is n i 31 (λ _. y2) (λ _. y3) (λ _. y4) (λ _. y6) (λ k. absurd (omega arith))
+      (λ k. absurd (omega arith)) q l;
 }
 
-pub first_y8 : (is : List PlainInst) (n : ℕ) (i : PlainInst) → Keeps Unasked is rule.Y2 n i → Keeps Unasked is rule.Y3 n i → Keeps Unasked is rule.Y4 n i → KeepsFunctions is n i
+pub first_y8 : (is : List PlainInst) (n : ℕ) (i : PlainInst) → Keeps Unasked is rule.Y2 n i
+    → Keeps Unasked is rule.Y3 n i → Keeps Unasked is rule.Y4 n i → KeepsFunctions is n i
     → KeepsReturns is n i → (CallsAreSound is i → ⊥) → IsFirstRule is n i rule.Y8
 first_y8 is n i y2 y3 y4 y6 y7 never = record {
   of_stage = refl;
   last = lit≤ tt;
   broken = never;
-  least = λ q l. keeps_below is n i 32 (λ _. y2) (λ _. y3) (λ _. y4) (λ _. y6) (λ _. y7) (λ k. absurd (omega arith)) q l;
+  least = λ q l. keeps_below is n i 32 (λ _. y2) (λ _. y3) (λ _. y4) (λ _. y6) (λ _. y7)
+      (λ k. absurd (omega arith)) q l;
 }
 
-pub all_kept : (is : List PlainInst) (n : ℕ) (i : PlainInst) → Keeps Unasked is rule.Y2 n i → Keeps Unasked is rule.Y3 n i → Keeps Unasked is rule.Y4 n i → KeepsFunctions is n i
+pub all_kept : (is : List PlainInst) (n : ℕ) (i : PlainInst) → Keeps Unasked is rule.Y2 n i
+    → Keeps Unasked is rule.Y3 n i → Keeps Unasked is rule.Y4 n i → KeepsFunctions is n i
     → KeepsReturns is n i → CallsAreSound is i → (q : Rule) → Keeps Unasked is q n i
-all_kept is n i y2 y3 y4 y6 y7 y8 q = keeps_below is n i (suc (rank_of q)) (λ _. y2) (λ _. y3) (λ _. y4) (λ _. y6) (λ _. y7) (λ _. y8) q (omega arith)
+all_kept is n i y2 y3 y4 y6 y7 y8 q =
+    keeps_below is n i (suc (rank_of q)) (λ _. y2) (λ _. y3) (λ _. y4) (λ _. y6) (λ _. y7) (λ _. y8) q (omega arith)

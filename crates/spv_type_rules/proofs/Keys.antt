@@ -1,12 +1,14 @@
 -- An instruction without its result is told by its key.
 use Rattle.std.proofs.Common.{◌≡◌, ◌+◌, ℕ, List, [], ◌∷◌, ◌++◌, refl, sym, ap, map, arith, nat_eq, true, false}
 use Rattle.std.proofs.lemmas.Bool.{eq-eqb}
-use Rattle.spv_module.specs.Operand.{Plain, OfType, Result, Id, Word, Number, Text, Value, Mask, Argument, Mention, PlainInst}
+use Rattle.spv_module.specs.Operand.{Plain, OfType, Result, Id, Word, Number, Text, Value, Mask, Argument, Mention}
+use Rattle.spv_module.specs.Operand.{PlainInst}
 use Rattle.spv_type_forms.specs.Parts.{after_result}
 use Rattle.spv_type_rules.specs.inner.Repeat.{AreAlike}
 use Rattle.spv_type_rules.specs.inner.Key.{operand_numbers, all_numbers, key_of}
 
-same_text : (s t us vs : List ℕ) → (map (λ b. b + 1) s ++ 0 ∷ []) ++ us ≡ (map (λ b. b + 1) t ++ 0 ∷ []) ++ vs → (s ≡ t) × (us ≡ vs)
+same_text : (s t us vs : List ℕ) → (map (λ b. b + 1) s ++ 0 ∷ []) ++ us ≡ (map (λ b. b + 1) t ++ 0 ∷ []) ++ vs
+    → (s ≡ t) × (us ≡ vs)
 same_text [] [] us vs e = (refl, cc)
 same_text [] (b ∷ t) us vs e = absurd (let no : 0 ≡ b + 1 = cc in omega arith)
 same_text (a ∷ s) [] us vs e = absurd (let no : a + 1 ≡ 0 = cc in omega arith)
@@ -65,7 +67,8 @@ same_front (Number l h w) (OfType x') us vs e = absurd (apart 4 0 _ _ refl e)
 same_front (Number l h w) (Result x') us vs e = absurd (apart 4 1 _ _ refl e)
 same_front (Number l h w) (Id x') us vs e = absurd (apart 4 2 _ _ refl e)
 same_front (Number l h w) (Word x') us vs e = absurd (apart 4 3 _ _ refl e)
-same_front (Number l h w) (Number l' h' w') us vs e = let h0 : l ≡ l' = cc in let h1 : h ≡ h' = cc in let h2 : w ≡ w' = cc in let rest : us ≡ vs = cc in (rw (h0, h1, h2) refl, rest)
+same_front (Number l h w) (Number l' h' w') us vs e = let h0 : l ≡ l' = cc in let h1 : h ≡ h' = cc in
+    let h2 : w ≡ w' = cc in let rest : us ≡ vs = cc in (rw (h0, h1, h2) refl, rest)
 same_front (Number l h w) (Text t') us vs e = absurd (apart 4 5 _ _ refl e)
 same_front (Number l h w) (Value k' x') us vs e = absurd (apart 4 6 _ _ refl e)
 same_front (Number l h w) (Mask k' x') us vs e = absurd (apart 4 7 _ _ refl e)
@@ -87,7 +90,8 @@ same_front (Value k x) (Id x') us vs e = absurd (apart 6 2 _ _ refl e)
 same_front (Value k x) (Word x') us vs e = absurd (apart 6 3 _ _ refl e)
 same_front (Value k x) (Number l' h' w') us vs e = absurd (apart 6 4 _ _ refl e)
 same_front (Value k x) (Text t') us vs e = absurd (apart 6 5 _ _ refl e)
-same_front (Value k x) (Value k' x') us vs e = let h0 : k ≡ k' = cc in let h1 : x ≡ x' = cc in let rest : us ≡ vs = cc in (rw (h0, h1) refl, rest)
+same_front (Value k x) (Value k' x') us vs e = let h0 : k ≡ k' = cc in let h1 : x ≡ x' = cc in
+    let rest : us ≡ vs = cc in (rw (h0, h1) refl, rest)
 same_front (Value k x) (Mask k' x') us vs e = absurd (apart 6 7 _ _ refl e)
 same_front (Value k x) (Argument x') us vs e = absurd (apart 6 8 _ _ refl e)
 same_front (Value k x) (Mention x') us vs e = absurd (apart 6 9 _ _ refl e)
@@ -98,7 +102,8 @@ same_front (Mask k x) (Word x') us vs e = absurd (apart 7 3 _ _ refl e)
 same_front (Mask k x) (Number l' h' w') us vs e = absurd (apart 7 4 _ _ refl e)
 same_front (Mask k x) (Text t') us vs e = absurd (apart 7 5 _ _ refl e)
 same_front (Mask k x) (Value k' x') us vs e = absurd (apart 7 6 _ _ refl e)
-same_front (Mask k x) (Mask k' x') us vs e = let h0 : k ≡ k' = cc in let h1 : x ≡ x' = cc in let rest : us ≡ vs = cc in (rw (h0, h1) refl, rest)
+same_front (Mask k x) (Mask k' x') us vs e = let h0 : k ≡ k' = cc in let h1 : x ≡ x' = cc in let rest : us ≡ vs = cc in
+    (rw (h0, h1) refl, rest)
 same_front (Mask k x) (Argument x') us vs e = absurd (apart 7 8 _ _ refl e)
 same_front (Mask k x) (Mention x') us vs e = absurd (apart 7 9 _ _ refl e)
 same_front (Argument x) (OfType x') us vs e = absurd (apart 8 0 _ _ refl e)

@@ -1,5 +1,6 @@
 -- The parts of a composite constant: that each may be one, and that each is of its part's type.
-use Rattle.std.proofs.Common.{◌≡◌, ◌+◌, ◌↔◌, ℕ, List, [], ◌∷◌, Option, Some, None, Bool, true, false, ◌&&◌, option_and_then, length, refl}
+use Rattle.std.proofs.Common.{◌≡◌, ◌+◌, ◌↔◌, ℕ, List, [], ◌∷◌, Option, Some, None, Bool, true, false, ◌&&◌}
+use Rattle.std.proofs.Common.{option_and_then, length, refl}
 use Rattle.std.specs.Prelude.{IsTrue, IsSomeAnd}
 use Rattle.std.specs.List.{AllByRecursion}
 use Rattle.spv_module.specs.Operand.{PlainInst, type_in}
@@ -18,7 +19,9 @@ and_yes : (a b : Bool) → a ≡ true → b ≡ true → a && b ≡ true
 and_yes a b e f = rw (e, f) refl
 
 one_part : (spec : Bool) (part : Option ℕ) (o : Option PlainInst)
-    → (is_typed_part spec part o ≡ true) ↔ (IsSomeAnd o (λ d. IsTrue (is_part_opcode spec d.opcode)) × (are_same part (option_and_then (λ i. type_in i.operands) o) ≡ true))
+    → (is_typed_part spec part o ≡ true) ↔
+    (IsSomeAnd o (λ d. IsTrue (is_part_opcode spec d.opcode))
+    × (are_same part (option_and_then (λ i. type_in i.operands) o) ≡ true))
 one_part spec part None = (λ y. absurd (let no : false ≡ true = y in cc), λ p. absurd p.0)
 one_part spec part (Some i) = (
   λ y. let two = both (are_same part (type_in i.operands)) (is_part_opcode spec i.opcode) y in (two.1, two.0),
@@ -35,7 +38,8 @@ all_parts is spec r k (x ∷ xs) =
     let rest = are_parts_from is r (k + 1) xs in
     let one = one_part spec (part_of is r k) (definition_of is x) in
     let more = all_parts is spec r (k + 1) xs in (
-      λ y. let two = both a b y in let p = one.0 two.0 in let q = more.0 two.1 in ((p.0, q.0), and_yes same rest p.1 q.1),
+      λ y. let two = both a b y in let p = one.0 two.0 in let q = more.0 two.1 in
+          ((p.0, q.0), and_yes same rest p.1 q.1),
       λ p. let two = both same rest p.1 in and_yes a b (one.1 (p.0.0, two.0)) (more.1 (p.0.1, two.1)),
     )
 

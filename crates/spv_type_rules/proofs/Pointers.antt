@@ -20,8 +20,10 @@ pointer_told is n t class m i one at = (
       (rw (← e) p.after, rw same p.pointer),
 )
 
-pub no_pointer : (is : List PlainInst) (n t class : ℕ) (o : Option ℕ) → IsDefinitionOf is t o → o ≡ None → IsPointerAfter is n t class → ⊥
-no_pointer is n t class o one e p = let never : IsDefinitionOf is t None = subst (IsDefinitionOf is t) e one in never p.place p.defined
+pub no_pointer : (is : List PlainInst) (n t class : ℕ) (o : Option ℕ) → IsDefinitionOf is t o → o ≡ None
+    → IsPointerAfter is n t class → ⊥
+no_pointer is n t class o one e p = let never : IsDefinitionOf is t None = subst (IsDefinitionOf is t) e one in
+    never p.place p.defined
 
 pub never_true : IsTrue false → ⊥
 never_true e = cc

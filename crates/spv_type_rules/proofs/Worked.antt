@@ -1,5 +1,6 @@
 -- What the small modules of the worked examples have.
-use Rattle.std.proofs.Common.{◌≡◌, ◌<◌, ℕ, zero, suc, List, [], ◌∷◌, Option, Some, None, true, false, refl, sym, subst, inl, inr, arith, lit<, lit≤}
+use Rattle.std.proofs.Common.{◌≡◌, ◌<◌, ℕ, zero, suc, List, [], ◌∷◌, Option, Some, None, true, false, refl, sym, subst}
+use Rattle.std.proofs.Common.{inl, inr, arith, lit<, lit≤}
 use Rattle.std.specs.Prelude.{slice_get, take, IsSomeAnd}
 use Rattle.spv_module.specs.declared.opcode.TheConstants as opcode
 use Rattle.spv_module.specs.Operand.{Plain, OfType, Result, Id, Word, Value, PlainInst, type_in}
@@ -20,7 +21,8 @@ use Rattle.spv_type_rules.specs.inner.Keeps.{CallsAreSound}
 use Rattle.spv_type_rules.specs.Repeat.{Repeats}
 use Rattle.spv_type_rules.specs.inner.Rules.{Unasked, IsFirstRule}
 use Rattle.spv_type_rules.proofs.Firsts.{keeps_below, first_y8}
-use Rattle.spv_type_rules.specs.Function.{OfFunction, ReturnsNothing, ReturnsTyped, parameter_type_of, parameters_between}
+use Rattle.spv_type_rules.specs.Function.{OfFunction, ReturnsNothing, ReturnsTyped, parameter_type_of}
+use Rattle.spv_type_rules.specs.Function.{parameters_between}
 use Rattle.spv_type_rules.specs.inner.Function.{IsSoundParameter, IsSoundReturn, IsSoundReturnValue}
 use Rattle.spv_type_rules.specs.Example.{small, pointers, returning, again, short_call, function, parameter}
 
@@ -32,7 +34,8 @@ class_at zero i at e =
     cc
 class_at (suc zero) i at e =
     let same : inst opcode.TYPE_POINTER (Result 1 ∷ Value 0 5 ∷ Id 1 ∷ []) ≡ i = cc in
-    let f : ◌≡◌ {A = Option ℕ} (Some 5) (Some 7) = subst (λ (j : PlainInst). class_in (form_in j) ≡ Some 7) (sym same) e in
+    let f : ◌≡◌ {A = Option ℕ} (Some 5) (Some 7) = subst (λ (j : PlainInst). class_in (form_in j) ≡ Some 7)
+    (sym same) e in
     cc
 class_at (suc (suc n)) i at e = cc
 
@@ -47,9 +50,13 @@ of_small = record {
     within = omega arith;
     up_to = omega arith;
     there = refl;
-    last = λ k l u h. let e : k ≡ 5 = omega arith in let a : IsAt small 5 (Function ∷ []) = subst (λ (n : ℕ). IsAt small n (Function ∷ [])) e h in absurd (let no : false ≡ true = a in cc);
+    last = λ k l u h. let e : k ≡ 5 = omega arith in
+        let a : IsAt small 5 (Function ∷ []) = subst (λ (n : ℕ). IsAt small n (Function ∷ [])) e h in
+        absurd (let no : false ≡ true = a in cc);
   };
-  not_ended = λ k l u h. let e : k ≡ 4 = omega arith in let a : IsAt small 4 (FunctionEnd ∷ []) = subst (λ (n : ℕ). IsAt small n (FunctionEnd ∷ [])) e h in absurd (let no : false ≡ true = a in cc);
+  not_ended = λ k l u h. let e : k ≡ 4 = omega arith in
+      let a : IsAt small 4 (FunctionEnd ∷ []) = subst (λ (n : ℕ). IsAt small n (FunctionEnd ∷ [])) e h in
+      absurd (let no : false ≡ true = a in cc);
 }
 
 no_more : (k : ℕ) → 1 < k → k < 4 → IsAt returning k (Function ∷ []) → ⊥
@@ -98,7 +105,9 @@ at_four P o = subst (λ (f : ℕ). IsSomeAnd (slice_get small f) (P f)) (one_fun
 
 pub no_parameter : ¬ (IsSoundParameter small 5 (inst opcode.FUNCTION_PARAMETER (OfType 2 ∷ Result 8 ∷ [])))
 no_parameter o =
-    let e : ◌≡◌ {A = Option ℕ} (Some 1) (Some 2) = at_four (λ f d. IsSomeAnd (type_in (OfType 2 ∷ Result 8 ∷ [])) (λ t. parameter_type_of small d (parameters_between small f 5) ≡ Some t)) o in
+    let e : ◌≡◌ {A = Option ℕ} (Some 1) (Some 2) = at_four
+    (λ f d. IsSomeAnd (type_in (OfType 2 ∷ Result 8 ∷ []))
+    (λ t. parameter_type_of small d (parameters_between small f 5) ≡ Some t)) o in
     cc
 
 pub no_value : ¬ (IsSoundReturnValue small 5 (inst opcode.RETURN_VALUE (Id 2 ∷ [])))
@@ -110,7 +119,14 @@ no_return o = let e : form_of small 1 ≡ Some form.Void = at_four (λ f d. Retu
 -- What the rules demand of single instructions.
 
 pub repeated : Repeats small 7 again
-repeated = record { once = refl; place = 0; earlier = lit< tt; other = inst opcode.TYPE_INT (Result 1 ∷ Word 8 ∷ Word 0 ∷ []); there = refl; alike = (refl, refl) }
+repeated = record {
+  once = refl;
+  place = 0;
+  earlier = lit< tt;
+  other = inst opcode.TYPE_INT (Result 1 ∷ Word 8 ∷ Word 0 ∷ []);
+  there = refl;
+  alike = (refl, refl);
+}
 
 pub not_earlier : ¬ (Repeats small 0 again)
 not_earlier r = let l = r.earlier in absurd (omega (arith, l))
@@ -150,7 +166,9 @@ vector_first = record {
   of_stage = refl;
   last = lit≤ tt;
   broken = not_five;
-  least = λ q l. keeps_below small 7 vector_of_five 26 (λ k. absurd (omega arith)) (λ k. absurd (omega arith)) (λ k. absurd (omega arith)) (λ k. absurd (omega arith)) (λ k. absurd (omega arith)) (λ k. absurd (omega arith)) q l;
+  least = λ q l. keeps_below small 7 vector_of_five 26 (λ k. absurd (omega arith)) (λ k. absurd (omega arith))
+      (λ k. absurd (omega arith)) (λ k. absurd (omega arith)) (λ k. absurd (omega arith))
+      (λ k. absurd (omega arith)) q l;
 }
 
 pub vector_before : ¬ (IsFirstRule small 7 vector_of_five rule.Y3)

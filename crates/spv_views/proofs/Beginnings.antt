@@ -1,5 +1,6 @@
 -- The words before an instruction that is malformed.
-use Rattle.std.proofs.Common.{◌≡◌, ◌≤◌, ◌<◌, ◌+◌, ◌-◌, ◌*◌, ◌/◌, ◌++◌, ◌∙◌, ℕ, zero, suc, List, [], ◌∷◌, length, take, drop, refl, sym, ap, subst, inl, inr, ◌⊎◌, arith, append_assoc, append-nil, length-append}
+use Rattle.std.proofs.Common.{◌≡◌, ◌≤◌, ◌<◌, ◌+◌, ◌-◌, ◌*◌, ◌/◌, ◌++◌, ◌∙◌, ℕ, zero, suc, List, [], ◌∷◌, length, take}
+use Rattle.std.proofs.Common.{drop, refl, sym, ap, subst, inl, inr, ◌⊎◌, arith, append_assoc, append-nil, length-append}
 use Rattle.std.specs.Prelude.{slice_index}
 use Rattle.std.proofs.lemmas.List.{length-drop}
 use Rattle.spv_words.specs.Header.{IsHeader}
@@ -17,7 +18,8 @@ use Rattle.spv_views.specs.inner.Beginning.{IsDeadAt, IsOnWay}
 pub take_more : (xs : List ℕ) (k : ℕ) → k < length xs → take (k + 1) xs ≡ take k xs ++ (slice_index xs k ∷ [])
 take_more [] k l = absurd (omega arith)
 take_more (x ∷ xs) zero l = refl
-take_more (x ∷ xs) (suc k) l = let n : suc k + 1 ≡ suc (k + 1) = omega arith in rw n (ap (λ z. x ∷ z) (take_more xs k (omega arith)))
+take_more (x ∷ xs) (suc k) l = let n : suc k + 1 ≡ suc (k + 1) = omega arith in
+    rw n (ap (λ z. x ∷ z) (take_more xs k (omega arith)))
 
 pub take_index : (xs : List ℕ) (n k : ℕ) → k < n → slice_index (take n xs) k ≡ slice_index xs k
 take_index xs zero k l = absurd (omega arith)
@@ -28,7 +30,8 @@ take_index (x ∷ xs) (suc n) (suc k) l = take_index xs n k (omega arith)
 drop_index : (n : ℕ) (xs : List ℕ) (k : ℕ) → slice_index (drop n xs) k ≡ slice_index xs (n + k)
 drop_index zero xs k = let e : 0 + k ≡ k = omega arith in ap (slice_index xs) (sym e)
 drop_index (suc n) [] k = refl
-drop_index (suc n) (x ∷ xs) k = let e : suc n + k ≡ suc (n + k) = omega arith in drop_index n xs k ∙ ap (slice_index (x ∷ xs)) (sym e)
+drop_index (suc n) (x ∷ xs) k = let e : suc n + k ≡ suc (n + k) = omega arith in
+    drop_index n xs k ∙ ap (slice_index (x ∷ xs)) (sym e)
 
 index_behind : (xs : List ℕ) (y : ℕ) (ys : List ℕ) → slice_index (xs ++ (y ∷ ys)) (length xs) ≡ y
 index_behind [] y ys = refl
@@ -83,7 +86,8 @@ record IsStep (G : Table) (before : List PlainInst) (ws : List ℕ) (rule : Rule
   rest : FailsAt G (before ++ (i ∷ [])) vs rule (k - 1) word
   all : ws ≡ us ++ vs
 
-step_of : (G : Table) (before : List PlainInst) (ws : List ℕ) (rule : Rule) (k n : ℕ) → FailsAt G before ws rule k n → 0 < k → IsStep G before ws rule k
+step_of : (G : Table) (before : List PlainInst) (ws : List ℕ) (rule : Rule) (k n : ℕ) → FailsAt G before ws rule k n
+    → 0 < k → IsStep G before ws rule k
 step_of G _ _ _ _ _ (FailsAt.here before ws code n m) l = absurd (omega arith)
 step_of G _ _ _ _ _ (FailsAt.later before i ws vs code k n a b) l =
     let e : suc k - 1 ≡ k = omega arith in
@@ -97,28 +101,33 @@ step_of G _ _ _ _ _ (FailsAt.later before i ws vs code k n a b) l =
       all = refl;
     }
 
-here_of : (G : Table) (before : List PlainInst) (ws : List ℕ) (rule : Rule) (k n : ℕ) → FailsAt G before ws rule k n → k ≡ 0 → IsMalformed G before ws rule n
+here_of : (G : Table) (before : List PlainInst) (ws : List ℕ) (rule : Rule) (k n : ℕ) → FailsAt G before ws rule k n
+    → k ≡ 0 → IsMalformed G before ws rule n
 here_of G _ _ _ _ _ (FailsAt.here before ws code n m) e = m
 here_of G _ _ _ _ _ (FailsAt.later before i ws vs code k n a b) e = absurd (omega (arith, e))
 
 -- one instruction more
-listing_more : (G : Table) (b is : List PlainInst) (ws : List ℕ) (i : PlainInst) (vs : List ℕ) → Listing G b is ws → IsInstruction G (b ++ is) i vs → Listing G b (is ++ (i ∷ [])) (ws ++ vs)
+listing_more : (G : Table) (b is : List PlainInst) (ws : List ℕ) (i : PlainInst) (vs : List ℕ) → Listing G b is ws
+    → IsInstruction G (b ++ is) i vs → Listing G b (is ++ (i ∷ [])) (ws ++ vs)
 listing_more G _ _ _ i vs (Listing.end b) a =
     let a' : IsInstruction G b i vs = rw append-nil at a in
     rw (← append-nil vs) (Listing.more b i [] vs [] a' (Listing.end (b ++ (i ∷ []))))
 listing_more G _ _ _ i vs (Listing.more b j is us ws h l) a =
     let a' : IsInstruction G ((b ++ (j ∷ [])) ++ is) i vs = rw (append_assoc b (j ∷ []) is) a in
-    rw (append_assoc us ws vs) (Listing.more b j (is ++ (i ∷ [])) us (ws ++ vs) h (listing_more G (b ++ (j ∷ [])) is ws i vs l a'))
+    rw (append_assoc us ws vs) (Listing.more b j (is ++ (i ∷ [])) us (ws ++ vs) h
+    (listing_more G (b ++ (j ∷ [])) is ws i vs l a'))
 
 -- how many words are told
-told : (i : PlainInst) (us further : List ℕ) (w : ℕ) → i.opcode < 65536 → us ≡ first_word i.opcode further ∷ further → w ≡ first_word i.opcode further → w / 65536 ≡ length us
+told : (i : PlainInst) (us further : List ℕ) (w : ℕ) → i.opcode < 65536 → us ≡ first_word i.opcode further ∷ further
+    → w ≡ first_word i.opcode further → w / 65536 ≡ length us
 told i us further w o e f = let l : length us ≡ suc (length further) = ap length e in omega (arith, o, f, l)
 
 pub record IsMoved (G : Table) (words : List ℕ) (rule : Rule) (left at w : ℕ) : Type 0 where
   pub within : at < length words
   pub way : IsOnWay G words rule (left - 1) (at + w / 65536)
 
-pub on_step : (G : Table) (words : List ℕ) (rule : Rule) (left at w : ℕ) → IsOnWay G words rule left at → 0 < left → w ≡ slice_index words at → IsMoved G words rule left at w
+pub on_step : (G : Table) (words : List ℕ) (rule : Rule) (left at w : ℕ) → IsOnWay G words rule left at → 0 < left
+    → w ≡ slice_index words at → IsMoved G words rule left at w
 on_step G words rule left at w o l f =
     let s = step_of G o.insts o.rest rule left o.word o.fails l in
     let us = s.us in
@@ -127,7 +136,8 @@ on_step G words rule left at w o l f =
     let p = o.place in
     let e : slice_index words at ≡ x =
     ap (slice_index words) p ∙ (sym (drop_index 5 words (length o.part))
-    ∙ (ap (λ z. slice_index z (length o.part)) (a ∙ ap (λ z. o.part ++ (z ++ s.vs)) s.inst.spelled) ∙ index_behind o.part x (s.inst.further ++ s.vs))) in
+    ∙ (ap (λ z. slice_index z (length o.part)) (a ∙ ap (λ z. o.part ++ (z ++ s.vs)) s.inst.spelled)
+    ∙ index_behind o.part x (s.inst.further ++ s.vs))) in
     let t : w / 65536 ≡ length us = told s.i us s.inst.further w s.inst.opcode s.inst.spelled (f ∙ e) in
     let n = ap length a in
     let d = length-drop 5 words in
@@ -149,7 +159,8 @@ on_step G words rule left at w o l f =
       };
     }
 
-pub on_end : (G : Table) (words : List ℕ) (rule : Rule) (left at : ℕ) → IsOnWay G words rule left at → left ≡ 0 → IsDeadAt G words rule at
+pub on_end : (G : Table) (words : List ℕ) (rule : Rule) (left at : ℕ) → IsOnWay G words rule left at → left ≡ 0
+    → IsDeadAt G words rule at
 on_end G words rule left at o e = record {
   insts = o.insts;
   part = o.part;
@@ -161,7 +172,8 @@ on_end G words rule left at o e = record {
   place = o.place;
 }
 
-pub on_begin : (G : Table) (words : List ℕ) (rule : Rule) (left n : ℕ) → FailsAt G [] (drop 5 words) rule left n → IsOnWay G words rule left 5
+pub on_begin : (G : Table) (words : List ℕ) (rule : Rule) (left n : ℕ) → FailsAt G [] (drop 5 words) rule left n
+    → IsOnWay G words rule left 5
 on_begin G words rule left n h = record {
   insts = [];
   part = [];
@@ -174,7 +186,8 @@ on_begin G words rule left n h = record {
 }
 
 -- the place is one of the words
-pub dead_within : (G : Table) (words : List ℕ) (rule : Rule) (at : ℕ) → 5 ≤ length words → IsDeadAt G words rule at → at ≤ length words
+pub dead_within : (G : Table) (words : List ℕ) (rule : Rule) (at : ℕ) → 5 ≤ length words → IsDeadAt G words rule at
+    → at ≤ length words
 dead_within G words rule at five h =
     let n = ap length h.all in
     let d = length-drop 5 words in
@@ -186,13 +199,15 @@ pub dead_least : (G : Table) (words : List ℕ) (rule : Rule) (at : ℕ) → IsD
 dead_least G words rule at h = let p = h.place in omega (arith, p)
 
 -- the words up to there, behind the header
-pub part_of : (G : Table) (words start : List ℕ) (rule : Rule) (at : ℕ) (h : IsDeadAt G words rule at) → start ≡ take at words → drop 5 start ≡ h.part
+pub part_of : (G : Table) (words start : List ℕ) (rule : Rule) (at : ℕ) (h : IsDeadAt G words rule at)
+    → start ≡ take at words → drop 5 start ≡ h.part
 part_of G words start rule at h e =
     ap (drop 5) (e ∙ ap (λ k. take k words) h.place)
     ∙ (drop_take 5 (length h.part) words ∙ (ap (take (length h.part)) h.all ∙ take_front h.part h.rest))
 
 -- the header of a beginning is that of the words
-pub headed : (words start : List ℕ) (at : ℕ) (h : Header) → 5 ≤ at → start ≡ take at words → IsHeaderOf start h → IsHeaderOf words h
+pub headed : (words start : List ℕ) (at : ℕ) (h : Header) → 5 ≤ at → start ≡ take at words → IsHeaderOf start h
+    → IsHeaderOf words h
 headed words start at h l e o =
     let same = λ (k : ℕ) (m : k < at). ap (λ z. slice_index z k) e ∙ take_index words at k m in
     record {

@@ -1,5 +1,7 @@
 -- What is written for people of bytes that were read.
-use Rattle.std.proofs.Common.{sum_by, ◌-◌, ◌≡◌, ◌↔◌, ◌≤◌, ◌<◌, ◌++◌, ℕ, List, [], ◌∷◌, Option, Some, None, Result, Err, IfSome, IfOk, IsErrOf, Bool, IsTrue, true, false, length, take, drop, ap, refl, subst, codes, arith, lit≤}
+use Rattle.std.proofs.Common.{sum_by, ◌-◌, ◌≡◌, ◌↔◌, ◌≤◌, ◌<◌, ◌++◌, ℕ, List, [], ◌∷◌, Option, Some, None, Result, Err}
+use Rattle.std.proofs.Common.{IfSome, IfOk, IsErrOf, Bool, IsTrue, true, false, length, take, drop, ap, refl, subst}
+use Rattle.std.proofs.Common.{codes, arith, lit≤}
 use Rattle.std.specs.Io.KnownBytes.{Appends}
 use Rattle.spv_words.specs.Header.{IsFirstBroken, IsModule, RefusesBytes}
 use Rattle.spv_words.specs.declared.words.Order.{Order}
@@ -13,9 +15,9 @@ use Rattle.spv_module.specs.declared.fault.Rule.TheVariants as rule
 use Rattle.spv_extended.specs.declared.reach.Reach.TheVariants.{Profile}
 use Rattle.spv_layout.specs.First.{stage_of}
 use Rattle.spv_layout.specs.Stage.{of_layout}
-use Rattle.spv_verdict.specs.Text.{line_of}
-use Rattle.spv_verdict.specs.Verdict.{IsVerdict, line_end, refused_line}
-use Rattle.spv_verdict.specs.declared.verdict_line.Judgment.{Judgment}
+use Rattle.spv_check.specs.Text.{line_of}
+use Rattle.spv_check.specs.Verdict.{IsVerdict, line_end, refused_line}
+use Rattle.spv_check.specs.declared.verdict_line.Judgment.{Judgment}
 use Rattle.spv_module.specs.Module.{plain_insts}
 use Rattle.spv_module.specs.declared.module.Module.{Module}
 use Rattle.spv_fault_lines.specs.declared.fact.Detail.TheVariants.{Short}
@@ -28,7 +30,9 @@ use Rattle.spv_words.specs.Header.{greatest_length}
 use Rattle.spv_layout.specs.Place.{IsShort, word_count}
 use Rattle.spv_explain.specs.Stream.{IsModuleOf}
 use Rattle.spv_annotate.specs.Document.{IsSpelled}
-use Rattle.spv_views.specs.View.{AreLaidOut, AreListed, BeginsViewing, HasNoText, HasPart, IsTextOf, IsViewing, KeepsLayout, LacksFunction, Views, begun, has_function, judged, lacks, mislaid, shows_beginning, unlisted, viewed, wordless}
+use Rattle.spv_views.specs.View.{AreLaidOut, AreListed, BeginsViewing, HasNoText, HasPart, IsTextOf, IsViewing}
+use Rattle.spv_views.specs.View.{KeepsLayout, LacksFunction, Views, begun, has_function, judged, lacks, mislaid}
+use Rattle.spv_views.specs.View.{shows_beginning, unlisted, viewed, wordless}
 use Rattle.spv_views.specs.inner.Beginning.{IsBegun}
 use Rattle.spv_views.specs.inner.Viewed.{IsWrittenBy, is_behind_layout, is_text, output_of, viewed_refusal}
 use Rattle.spv_views.specs.declared.view.View.{View}
@@ -58,17 +62,22 @@ behind _ = (λ e. omega arith, λ h. refl)
 
 -- bytes that are no words have no list
 pub no_words : (how : View) (G : Table) (bytes : List ℕ) (code : WordError) (function : Option ℕ)
-    → ((e : WordError) (o : Order) (bs ws : List ℕ) → IsModule o bs ws → ¬ IsFirstBroken e bs) → IsFirstBroken code bytes → HasNoText how G bytes function
+    → ((e : WordError) (o : Order) (bs ws : List ℕ) → IsModule o bs ws → ¬ IsFirstBroken e bs)
+    → IsFirstBroken code bytes → HasNoText how G bytes function
 no_words how G bytes code function never h = wordless function (λ o ws m. never code o bytes ws m h)
 
 refused_line_written : (how : View) (G : Table) (function : Option ℕ) (bytes : List ℕ) (code : WordError)
-    → ((e : WordError) (o : Order) (bs ws : List ℕ) → IsModule o bs ws → ¬ IsFirstBroken e bs) → IsFirstBroken code bytes
+    → ((e : WordError) (o : Order) (bs ws : List ℕ) → IsModule o bs ws → ¬ IsFirstBroken e bs)
+    → IsFirstBroken code bytes
     → IsViewing how G function bytes (refused_line code) false
-refused_line_written how G function bytes code never h = judged (refused_line code) (no_words how G bytes code function never h) (IsVerdict.refused code h)
+refused_line_written how G function bytes code never h =
+    judged (refused_line code) (no_words how G bytes code function never h) (IsVerdict.refused code h)
 
 -- a code that was read
-pub refused_bytes : ((e : WordError) (o : Order) (bs ws : List ℕ) → IsModule o bs ws → ¬ IsFirstBroken e bs) → (how : View) (G : Table) (function : Option ℕ) (known : Option (List ℕ)) (code : WordError)
-    → IfSome known (λ xs. RefusesBytes code xs) → IfSome known (λ xs. IfOk (viewed_refusal code) (λ v. IsViewing how G function xs (output_of v) (is_text v)))
+pub refused_bytes : ((e : WordError) (o : Order) (bs ws : List ℕ) → IsModule o bs ws → ¬ IsFirstBroken e bs)
+    → (how : View) (G : Table) (function : Option ℕ) (known : Option (List ℕ)) (code : WordError)
+    → IfSome known (λ xs. RefusesBytes code xs)
+    → IfSome known (λ xs. IfOk (viewed_refusal code) (λ v. IsViewing how G function xs (output_of v) (is_text v)))
 refused_bytes never how G function None code h = tt
 refused_bytes never how G function (Some xs) word.W1 h = tt
 refused_bytes never how G function (Some xs) word.W9 h = tt
@@ -86,7 +95,8 @@ refused_stranger P word.W9 e = cc
 refused_stranger P code e = cc
 
 -- W1 is told where it was read
-pub refused_count : {X : Type 0} (P : Type 0) (code : WordError) (r : Result X WordError) → r ≡ Err code → (P ↔ IsErrOf r word.W1)
+pub refused_count : {X : Type 0} (P : Type 0) (code : WordError) (r : Result X WordError) → r ≡ Err code
+    → (P ↔ IsErrOf r word.W1)
     → (P ↔ IsErrOf (viewed_refusal code) trouble.Failed)
 refused_count P word.W1 r q h = (λ p. refl, λ e. h.1 q)
 refused_count P word.W9 r q h = (λ p. let e = h.0 p in cc, λ e. cc)
@@ -94,20 +104,28 @@ refused_count P code r q h = (λ p. let e = h.0 p in cc, λ e. cc)
 
 -- words that are no list of instructions
 pub no_list : ((o p : Order) (bs ws vs : List ℕ) → IsModule o bs ws → IsModule p bs vs → (o ≡ p) × (ws ≡ vs))
-    → (how : View) (G : Table) (bytes words : List ℕ) (order : Order) (function : Option ℕ) → IsModule order bytes words → ((is : List PlainInst) → ¬ (IsListing G is (drop 5 words)))
+    → (how : View) (G : Table) (bytes words : List ℕ) (order : Order) (function : Option ℕ) → IsModule order bytes words
+    → ((is : List PlainInst) → ¬ (IsListing G is (drop 5 words)))
     → shows_beginning how function ≡ false → HasNoText how G bytes function
 no_list once how G bytes words order function h none s =
-    unlisted function s (λ m l. none (plain_insts m) (subst (λ (ws : List ℕ). IsListing G (plain_insts m) (drop 5 ws)) ((once l.order order bytes l.words words l.is_module h).1) l.listed.listing))
+    unlisted function s (λ m l. none (plain_insts m)
+    (subst (λ (ws : List ℕ). IsListing G (plain_insts m) (drop 5 ws))
+    ((once l.order order bytes l.words words l.is_module h).1) l.listed.listing))
 
 -- of words that are no list, the verdict line; and so where a function is asked for, and functions cannot be told apart
 pub unlisted_line : ((o p : Order) (bs ws vs : List ℕ) → IsModule o bs ws → IsModule p bs vs → (o ≡ p) × (ws ≡ vs))
-    → (how : View) (G : Table) (function : Option ℕ) (bytes words : List ℕ) (order : Order) (e : Explanation) → IsModule order bytes words → ((is : List PlainInst) → ¬ (IsListing G is (drop 5 words)))
-    → shows_beginning how function ≡ false → IsExplanation Short G Profile bytes e → IsViewing how G function bytes (line_of e.judgment) false
-unlisted_line once how G function bytes words order e h none s x = judged (line_of e.judgment) (no_list once how G bytes words order function h none s) x.verdict
+    → (how : View) (G : Table) (function : Option ℕ) (bytes words : List ℕ) (order : Order) (e : Explanation)
+    → IsModule order bytes words → ((is : List PlainInst) → ¬ (IsListing G is (drop 5 words)))
+    → shows_beginning how function ≡ false → IsExplanation Short G Profile bytes e
+    → IsViewing how G function bytes (line_of e.judgment) false
+unlisted_line once how G function bytes words order e h none s x =
+    judged (line_of e.judgment) (no_list once how G bytes words order function h none s) x.verdict
 
 -- or the instructions before the one that is malformed
-begun_by : (how : View) (G : Table) (function : Option ℕ) (bytes words : List ℕ) (order : Order) (e : Explanation) (m : Module) (text : List ℕ) → IsModule order bytes words
-    → IsBegun G words m → shows_beginning how function ≡ true → IsExplanation Short G Profile bytes e → IsTextOf how G function bytes m text → IsViewing how G function bytes text false
+begun_by : (how : View) (G : Table) (function : Option ℕ) (bytes words : List ℕ) (order : Order) (e : Explanation)
+    (m : Module) (text : List ℕ) → IsModule order bytes words
+    → IsBegun G words m → shows_beginning how function ≡ true → IsExplanation Short G Profile bytes e
+    → IsTextOf how G function bytes m text → IsViewing how G function bytes text false
 begun_by how G function bytes words order e m text h b s x t = begun m text s (record {
   words = words;
   order = order;
@@ -127,89 +145,130 @@ never_shown (Text color) id e = cc
 never_shown (Page title) id e = cc
 never_shown Graph id e = cc
 
-pub begun_viewed : (how : View) (G : Table) (function : Option ℕ) (bytes words : List ℕ) (order : Order) (e : Explanation) (m : Module) (text : List ℕ) → IsModule order bytes words
-    → IsBegun G words m → shows_beginning how function ≡ true → IsExplanation Short G Profile bytes e → IsWrittenBy how G m e None text → IsViewing how G function bytes text false
+pub begun_viewed : (how : View) (G : Table) (function : Option ℕ) (bytes words : List ℕ) (order : Order)
+    (e : Explanation) (m : Module) (text : List ℕ) → IsModule order bytes words
+    → IsBegun G words m → shows_beginning how function ≡ true → IsExplanation Short G Profile bytes e
+    → IsWrittenBy how G m e None text → IsViewing how G function bytes text false
 begun_viewed how G None bytes words order e m text h b s x w =
-    begun_by how G None bytes words order e m text h b s x (record { explanation = e; explains = x; finding = w.finding; of = w.of; written = w.written })
+    begun_by how G None bytes words order e m text h b s x
+    (record { explanation = e; explains = x; finding = w.finding; of = w.of; written = w.written })
 begun_viewed how G (Some id) bytes words order e m text h b s x w = absurd (never_shown how id s)
 
-pub mislaid_line : (how : View) (G : Table) (id : ℕ) (bytes : List ℕ) (e : Explanation) → IsExplanation Short G Profile bytes e → ¬ (KeepsLayout e.judgment)
+pub mislaid_line : (how : View) (G : Table) (id : ℕ) (bytes : List ℕ) (e : Explanation)
+    → IsExplanation Short G Profile bytes e → ¬ (KeepsLayout e.judgment)
     → IsViewing how G (Some id) bytes (line_of e.judgment) false
-mislaid_line how G id bytes e x n = judged (line_of e.judgment) (mislaid id (record { judgment = e.judgment; verdict = x.verdict; breaks = n })) x.verdict
+mislaid_line how G id bytes e x n =
+    judged (line_of e.judgment) (mislaid id (record { judgment = e.judgment; verdict = x.verdict; breaks = n }))
+    x.verdict
 
 -- a module that was read
-are_listed : (G : Table) (bytes words : List ℕ) (order : Order) (m : Module) → IsModule order bytes words → IsModuleOf G words m → AreListed G bytes m
+are_listed : (G : Table) (bytes words : List ℕ) (order : Order) (m : Module) → IsModule order bytes words
+    → IsModuleOf G words m → AreListed G bytes m
 are_listed G bytes words order m h l = record { words = words; order = order; is_module = h; listed = l }
 
-pub laid_out : (G : Table) (bytes : List ℕ) (e : Explanation) → IsExplanation Short G Profile bytes e → KeepsLayout e.judgment → AreLaidOut G bytes
+pub laid_out : (G : Table) (bytes : List ℕ) (e : Explanation) → IsExplanation Short G Profile bytes e
+    → KeepsLayout e.judgment → AreLaidOut G bytes
 laid_out G bytes e x k = record { judgment = e.judgment; verdict = x.verdict; keeps = k }
 
-pub lacking : (G : Table) (id : ℕ) (bytes words : List ℕ) (order : Order) (e : Explanation) (m : Module) → IsModule order bytes words
-    → IsModuleOf G words m → IsExplanation Short G Profile bytes e → KeepsLayout e.judgment → has_function (plain_insts m) id ≡ false → LacksFunction G bytes (Some id)
-lacking G id bytes words order e m h l x k n = lacks id m (are_listed G bytes words order m h l) (laid_out G bytes e x k) n
+pub lacking : (G : Table) (id : ℕ) (bytes words : List ℕ) (order : Order) (e : Explanation) (m : Module)
+    → IsModule order bytes words
+    → IsModuleOf G words m → IsExplanation Short G Profile bytes e → KeepsLayout e.judgment
+    → has_function (plain_insts m) id ≡ false → LacksFunction G bytes (Some id)
+lacking G id bytes words order e m h l x k n =
+    lacks id m (are_listed G bytes words order m h l) (laid_out G bytes e x k) n
 
-pub module_viewed : (how : View) (G : Table) (function : Option ℕ) (bytes words : List ℕ) (order : Order) (e : Explanation) (m : Module) (text : List ℕ) → IsModule order bytes words
-    → IsModuleOf G words m → IsExplanation Short G Profile bytes e → HasPart G bytes (plain_insts m) function → IsWrittenBy how G m e function text → IsViewing how G function bytes text true
+pub module_viewed : (how : View) (G : Table) (function : Option ℕ) (bytes words : List ℕ) (order : Order)
+    (e : Explanation) (m : Module) (text : List ℕ) → IsModule order bytes words
+    → IsModuleOf G words m → IsExplanation Short G Profile bytes e → HasPart G bytes (plain_insts m) function
+    → IsWrittenBy how G m e function text → IsViewing how G function bytes text true
 module_viewed how G function bytes words order e m text h l x p w =
-    viewed m text (are_listed G bytes words order m h l) p (record { explanation = e; explains = x; finding = w.finding; of = w.of; written = w.written })
+    viewed m text (are_listed G bytes words order m h l) p
+    (record { explanation = e; explains = x; finding = w.finding; of = w.of; written = w.written })
 
 -- what the text, the page and the graph ask of a module
-pub spelled : (G : Table) (words : List ℕ) (m : Module) → All (λ w. w < 2 ^ 32) words → IsModuleOf G words m → IsSpelled G (plain_insts m)
+pub spelled : (G : Table) (words : List ℕ) (m : Module) → All (λ w. w < 2 ^ 32) words → IsModuleOf G words m
+    → IsSpelled G (plain_insts m)
 spelled G words m a l = record {
   words = drop 5 words;
   small = recursion_from_All (λ w. w < 2 ^ 32) (drop 5 words) (All-drop (λ w. w < 2 ^ 32) 5 words a);
   listed = l.listing;
 }
 
-pub short : (words : List ℕ) (is : List PlainInst) → length words ≤ greatest_length → length (drop 5 words) ≡ sum_by word_count is → IsShort is
+pub short : (words : List ℕ) (is : List PlainInst) → length words ≤ greatest_length
+    → length (drop 5 words) ≡ sum_by word_count is → IsShort is
 short words is l e = let d : length (drop 5 words) ≡ length words - 5 = length-drop 5 words in omega (arith, l, e, d)
 
 -- what is written of the words that were read
-pub known_viewing : (how : View) (G : Table) (function : Option ℕ) (known : Option (List ℕ)) (words : List ℕ) (order : Order) (r : Result Viewed ViewError)
+pub known_viewing : (how : View) (G : Table) (function : Option ℕ) (known : Option (List ℕ)) (words : List ℕ)
+    (order : Order) (r : Result Viewed ViewError)
     → IfSome known (λ xs. IsModule order xs words)
-    → ((bytes : List ℕ) (o : Order) → IsModule o bytes words → IfOk r (λ v. IsViewing how G function bytes (output_of v) (is_text v)))
+    → ((bytes : List ℕ) (o : Order) → IsModule o bytes words
+    → IfOk r (λ v. IsViewing how G function bytes (output_of v) (is_text v)))
     → IfSome known (λ xs. IfOk r (λ v. IsViewing how G function xs (output_of v) (is_text v)))
 known_viewing how G function None words order r h v = tt
 known_viewing how G function (Some xs) words order r h v = v xs order h
 
-pub known_stranger : (G : Table) (function : Option ℕ) (known : Option (List ℕ)) (words : List ℕ) (order : Order) (P : Type 0) → IfSome known (λ xs. IsModule order xs words)
-    → ((bytes : List ℕ) (o : Order) → IsModule o bytes words → P → LacksFunction G bytes function) → P → IfSome known (λ bytes. LacksFunction G bytes function)
+pub known_stranger : (G : Table) (function : Option ℕ) (known : Option (List ℕ)) (words : List ℕ) (order : Order)
+    (P : Type 0) → IfSome known (λ xs. IsModule order xs words)
+    → ((bytes : List ℕ) (o : Order) → IsModule o bytes words → P → LacksFunction G bytes function) → P
+    → IfSome known (λ bytes. LacksFunction G bytes function)
 known_stranger G function None words order P h v p = tt
 known_stranger G function (Some xs) words order P h v p = v xs order h p
 
 -- it was written whole
-pub views : (how : View) (G : Table) (function : Option ℕ) (known kept new : Option (List ℕ)) (v : Viewed) (answer : Bool)
-    → IfSome known (λ bs. IsViewing how G function bs (output_of v) (is_text v)) → answer ≡ is_text v → Appends kept new (output_of v)
+pub views : (how : View) (G : Table) (function : Option ℕ) (known kept new : Option (List ℕ)) (v : Viewed)
+    (answer : Bool)
+    → IfSome known (λ bs. IsViewing how G function bs (output_of v) (is_text v)) → answer ≡ is_text v
+    → Appends kept new (output_of v)
     → IfSome known (λ bs. IfSome kept (λ old. Views how G function bs old new answer))
 views how G function None kept new v answer h e w = tt
 views how G function (Some bs) None new v answer h e w = tt
 views how G function (Some bs) (Some old) None v answer h e w = absurd w
-views how G function (Some bs) (Some old) (Some xs) v answer h e w = record { output = output_of v; viewing = rw e h; written = ap Some w }
+views how G function (Some bs) (Some old) (Some xs) v answer h e w =
+    record { output = output_of v; viewing = rw e h; written = ap Some w }
 
 -- a beginning of it was
 pub begins_viewing : (how : View) (G : Table) (function : Option ℕ) (known kept new : Option (List ℕ)) (v : Viewed)
     → IfSome known (λ bs. IsViewing how G function bs (output_of v) (is_text v))
-    → IfSome kept (λ xs. (n : ℕ) × (n ≤ length (output_of v)) × (new ≡ Some (xs ++ take n (output_of v)))) → IfSome known (λ bs. IfSome kept (λ old. BeginsViewing how G function bs old new))
+    → IfSome kept (λ xs. (n : ℕ) × (n ≤ length (output_of v)) × (new ≡ Some (xs ++ take n (output_of v))))
+    → IfSome known (λ bs. IfSome kept (λ old. BeginsViewing how G function bs old new))
 begins_viewing how G function None kept new v h w = tt
 begins_viewing how G function (Some bs) None new v h w = tt
-begins_viewing how G function (Some bs) (Some old) new v h w = record { output = output_of v; answer = is_text v; viewing = h; count = w.0; fits = w.1; written = w.2 }
+begins_viewing how G function (Some bs) (Some old) new v h w =
+    record { output = output_of v; answer = is_text v; viewing = h; count = w.0; fits = w.1; written = w.2 }
 
 -- three bytes are no module, and have nothing to look at
-pub short_viewed : ((e : WordError) (o : Order) (bs ws : List ℕ) → IsModule o bs ws → ¬ IsFirstBroken e bs) → (G : Table) (how : View) (function : Option ℕ) → IsFirstBroken word.W2 (1 ∷ 2 ∷ 3 ∷ [])
+pub short_viewed : ((e : WordError) (o : Order) (bs ws : List ℕ) → IsModule o bs ws → ¬ IsFirstBroken e bs)
+    → (G : Table) (how : View) (function : Option ℕ) → IsFirstBroken word.W2 (1 ∷ 2 ∷ 3 ∷ [])
     → Views how G function (1 ∷ 2 ∷ 3 ∷ []) (9 ∷ []) (Some (9 ∷ codes "fault W2" ++ line_end)) false
 short_viewed never G how function h =
-    record { output = refused_line word.W2; viewing = refused_line_written how G function (1 ∷ 2 ∷ 3 ∷ []) word.W2 never h; written = refl }
+    record {
+      output = refused_line word.W2;
+      viewing = refused_line_written how G function (1 ∷ 2 ∷ 3 ∷ []) word.W2 never h;
+      written = refl;
+    }
 
-pub short_begun_viewing : ((e : WordError) (o : Order) (bs ws : List ℕ) → IsModule o bs ws → ¬ IsFirstBroken e bs) → (G : Table) (how : View) (function : Option ℕ) → IsFirstBroken word.W2 (1 ∷ 2 ∷ 3 ∷ [])
+pub short_begun_viewing : ((e : WordError) (o : Order) (bs ws : List ℕ) → IsModule o bs ws → ¬ IsFirstBroken e bs)
+    → (G : Table) (how : View) (function : Option ℕ) → IsFirstBroken word.W2 (1 ∷ 2 ∷ 3 ∷ [])
     → BeginsViewing how G function (1 ∷ 2 ∷ 3 ∷ []) (9 ∷ []) (Some (9 ∷ codes "fault"))
 short_begun_viewing never G how function h =
-    record { output = refused_line word.W2; answer = false; viewing = refused_line_written how G function (1 ∷ 2 ∷ 3 ∷ []) word.W2 never h; count = 5; fits = lit≤ tt; written = refl }
+    record {
+      output = refused_line word.W2;
+      answer = false;
+      viewing = refused_line_written how G function (1 ∷ 2 ∷ 3 ∷ []) word.W2 never h;
+      count = 5;
+      fits =
+          lit≤ tt;
+      written = refl;
+    }
 
-pub no_view : (how : View) (G : Table) (function : Option ℕ) (bytes output : List ℕ) (answer : Bool) → answer ≡ true → ((o : Order) (ws : List ℕ) → ¬ (IsModule o bytes ws))
+pub no_view : (how : View) (G : Table) (function : Option ℕ) (bytes output : List ℕ) (answer : Bool) → answer ≡ true
+    → ((o : Order) (ws : List ℕ) → ¬ (IsModule o bytes ws))
     → ¬ (IsViewing how G function bytes output answer)
 no_view how G function bytes _ _ e never (judged line n v) = cc
 no_view how G function bytes _ _ e never (begun m text s a t) = cc
 no_view how G function bytes _ _ e never (viewed m text l p t) = never l.order l.words l.is_module
 
-pub none_lacking : (G : Table) (bytes : List ℕ) (function : Option ℕ) → ((o : Order) (ws : List ℕ) → ¬ (IsModule o bytes ws)) → ¬ (LacksFunction G bytes function)
+pub none_lacking : (G : Table) (bytes : List ℕ) (function : Option ℕ)
+    → ((o : Order) (ws : List ℕ) → ¬ (IsModule o bytes ws)) → ¬ (LacksFunction G bytes function)
 none_lacking G bytes _ never (lacks id m l laid none) = never l.order l.words l.is_module

@@ -1,8 +1,8 @@
 -- What the view of a module tells of its fault. (Own.)
 use Rattle.std.specs.Prelude.{◌≡◌, ◌++◌, ℕ, List, Option, Some, None, option_map, string_bytes}
-use Rattle.spv_verdict.specs.declared.verdict_line.Judgment.{Judgment}
-use Rattle.spv_verdict.specs.declared.verdict_line.Judgment.TheVariants.{Broken}
-use Rattle.spv_verdict.specs.Text.{line_of}
+use Rattle.spv_check.specs.declared.verdict_line.Judgment.{Judgment}
+use Rattle.spv_check.specs.declared.verdict_line.Judgment.TheVariants.{Broken}
+use Rattle.spv_check.specs.Text.{line_of}
 use Rattle.spv_explain.specs.declared.stream.Explanation.{Explanation}
 use Rattle.spv_annotate.specs.declared.finding.Finding as annotate
 

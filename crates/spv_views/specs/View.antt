@@ -16,10 +16,10 @@ use Rattle.spv_lines.specs.Text.{ShownLines}
 use Rattle.spv_inst.specs.Outcome.{IsHeaderOf}
 use Rattle.spv_layout.specs.First.{stage_of}
 use Rattle.spv_layout.specs.Stage.{of_layout}
-use Rattle.spv_verdict.specs.Text.{line_of}
-use Rattle.spv_verdict.specs.Verdict.{IsVerdict}
-use Rattle.spv_verdict.specs.declared.verdict_line.Judgment.{Judgment}
-use Rattle.spv_verdict.specs.declared.verdict_line.Judgment.TheVariants.{Valid, Refused, Broken}
+use Rattle.spv_check.specs.Text.{line_of}
+use Rattle.spv_check.specs.Verdict.{IsVerdict}
+use Rattle.spv_check.specs.declared.verdict_line.Judgment.{Judgment}
+use Rattle.spv_check.specs.declared.verdict_line.Judgment.TheVariants.{Valid, Refused, Broken}
 use Rattle.spv_fault_lines.specs.declared.fact.Detail.TheVariants.{Short}
 use Rattle.spv_explain.specs.Stream.{IsExplanation, IsModuleOf}
 use Rattle.spv_explain.specs.declared.stream.Explanation.{Explanation}

@@ -1,14 +1,14 @@
 //! What the view of a module tells of its fault.
 ghost use Rattle.std.specs.Prelude.{◌≡◌, ◌++◌, IfOk, option_map, string_bytes};
-ghost use Rattle.spv_verdict.specs.Verdict.{fault_line};
+ghost use Rattle.spv_check.specs.Verdict.{fault_line};
 ghost use Rattle.spv_views.specs.Finding.{told_in, told_of};
 ghost use Rattle.spv_views.specs.inner.Finding.{tells};
 
 use spv_annotate::Finding;
+use spv_check::Judgment;
 use spv_explain::Explanation;
 use spv_module::Fault;
 use spv_rules::Code;
-use spv_verdict::Judgment;
 use std::alloc::{AllocError, Global};
 
 /// What is told of the fault of a module.

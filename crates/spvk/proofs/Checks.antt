@@ -1,7 +1,8 @@
 -- A check by the table behind a pointer compares the pointer with null, and lends what is shown of the table to a check
 -- by the table. Assumes `Logic`.
 use Rattle.std.proofs.Common.{◌≡◌, ℕ, List, [], ◌∷◌, ◌++◌, length, refl, sym, ap, ◌∙◌, subst, lit<, w8, w64}
-use mir.Syntax.{Callee, Fn, Ty, named, erased, imm, local, value_local, ty_int, ty_ptr, ty_bool, ty_ref, ty_struct, tcons, tnil, place, deref, int, copy, ptr_eq, op2, rv_opd, addr_of, seq, assign, cond, call, return}
+use mir.Syntax.{Callee, Fn, Ty, named, erased, imm, local, value_local, ty_int, ty_ptr, ty_bool, ty_ref, ty_struct}
+use mir.Syntax.{tcons, tnil, place, deref, int, copy, ptr_eq, op2, rv_opd, addr_of, seq, assign, cond, call, return}
 use mir.Val.{Val, vptr}
 use base.Logic.{SProp, ent, emp, sep, id⊢}
 use base.Fml.{Lft, Share, ftrue, flft}
@@ -9,7 +10,8 @@ use prog.Model.{Model}
 use prog.Wp.{Heap, WpFn, Closed}
 use seplogic.Ra.Ura.{Ura}
 use types.Logic.{Logic, sem}
-use types.Kit.{‵, raw, ◌⊛◌, some, later, at_ret, ◌$◌, ◌∵◌, !, qed, by, move, keep, drop, split, join, fsplit, fjoin, fpick, fpack, pick, suffices, use0, use1, use2, await, rewrite, feq_i, feq_l}
+use types.Kit.{‵, raw, ◌⊛◌, some, later, at_ret, ◌$◌, ◌∵◌, !, qed, by, move, keep, drop, split, join, fsplit, fjoin}
+use types.Kit.{fpick, fpack, pick, suffices, use0, use1, use2, await, rewrite, feq_i, feq_l}
 use types.Run.{stop, lit, of_opd, addr, bin, no_more, and_then, first, branches, exec, returns, enter}
 use types.ByLocal.{alloc_all, pass_all, free_all, look_at, get, through, sets, lands_last, env}
 use contract.Monad.{fact, fact_i}
@@ -63,8 +65,10 @@ function τ τ′ n = record {
   givens = 0;
   params = 3;
   locals = local (layout Out) value_local ∷ local (layout heap.the_row) value_local ∷ local ty_ptr value_local
-      ∷ local (ty_struct (38 ∷ 91 ∷ 93 ∷ []) (tcons (ty_ref (named 0) imm (ty_int w8)) (tcons (ty_int w64) tnil))) value_local
-      ∷ local ty_bool value_local ∷ local (layout Out) value_local ∷ local ty_ptr value_local ∷ local (ty_ref erased imm τ) value_local ∷ [];
+      ∷ local (ty_struct (38 ∷ 91 ∷ 93 ∷ []) (tcons (ty_ref (named 0) imm (ty_int w8)) (tcons (ty_int w64) tnil)))
+      value_local
+      ∷ local ty_bool value_local ∷ local (layout Out) value_local ∷ local ty_ptr value_local
+      ∷ local (ty_ref erased imm τ) value_local ∷ [];
   body = seq (assign (place 4 []) (op2 ptr_eq (copy (place 2 [])) (int w64 0))) (seq
       (cond (copy (place 4 [])) (call no_grammar.name [] (place 5 [])) (seq
       (assign (place 6 []) (rv_opd (copy (place 2 [])))) (seq
@@ -82,7 +86,11 @@ module _ {M : Type 1} {𝓤 : Ura M} (𝓛 : Logic 𝓤) (R : Says) (At : Ptr �
   }
 
   abbrev pub answering : Clauses 𝓤 by_table.ended
-  answering = λ κs a. record { ghost = Unit {0}; requires = λ _. emp 𝓤; ensures = λ _ r e. fact 𝓤 (R a.1.0.now a.1.1.0.now r) }
+  answering = λ κs a. record {
+    ghost = Unit {0};
+    requires = λ _. emp 𝓤;
+    ensures = λ _ r e. fact 𝓤 (R a.1.0.now a.1.1.0.now r);
+  }
 
   module _ (𝓜 : Model 𝓤 𝓛.H) (𝓡 : Running 𝓤 𝓛.H 𝓜) where
     abbrev H : Heap 𝓤
@@ -92,56 +100,131 @@ module _ {M : Type 1} {𝓤 : Ura M} (𝓛 : Logic 𝓤) (R : Says) (At : Ptr �
     𝓣 = tables 𝓤 𝓛.H 𝓜 𝓡 𝓡.env
 
     module _ (null : (G : Table) (bytes : List ℕ) (r : Out.Denot) → r ≡ status_alone 2 → At null_ptr G bytes r)
-        (block : (b o : ℕ) (G : Table) (bytes : List ℕ) (r : Out.Denot) → R G bytes r → At (block_ptr b o) G bytes r) where
-      at_null : (p : Ptr) (G : Table) (bytes : List ℕ) (r : Out.Denot) → p ≡ null_ptr → r ≡ status_alone 2 → At p G bytes r
-      at_null p G bytes r e alone = subst (λ (q : Ptr). At q G bytes r) (sym e) (null G bytes r alone)
+        (block : (b o : ℕ) (G : Table) (bytes : List ℕ) (r : Out.Denot) → R G bytes r → At (block_ptr b o) G bytes r)
+      where
+        at_null : (p : Ptr) (G : Table) (bytes : List ℕ) (r : Out.Denot) → p ≡ null_ptr → r ≡ status_alone 2
+            → At p G bytes r
+        at_null p G bytes r e alone = subst (λ (q : Ptr). At q G bytes r) (sym e) (null G bytes r alone)
 
-      at_block : (p : Ptr) (b o : ℕ) (G : Table) (bytes : List ℕ) (r : Out.Denot) → p ≡ block_ptr b o → R G bytes r → At p G bytes r
-      at_block p b o G bytes r e answers = subst (λ (q : Ptr). At q G bytes r) (sym e) (block b o G bytes r answers)
+        at_block : (p : Ptr) (b o : ℕ) (G : Table) (bytes : List ℕ) (r : Out.Denot) → p ≡ block_ptr b o → R G bytes r
+            → At p G bytes r
+        at_block p b o G bytes r e answers = subst (λ (q : Ptr). At q G bytes r) (sym e) (block b o G bytes r answers)
 
-      pub lends_to : (τ τ′ : Ty) (self n : Callee) → Closed 𝓤 H 𝓣.C 𝓣.Λ self (function τ τ′ n) → Meets 𝓛 without.signature (𝓣.C no_grammar.name) (without.spec 𝓛 𝓜.mem 𝓡.returns)
-          → Meets 𝓛 by_table.signature (𝓣.C n) (closing 𝓛 by_table.ended answering) → Meets 𝓛 by_pointer.signature (𝓣.C self) (closing 𝓛 by_pointer.ended asking)
-      lends_to τ τ′ self n closed without_met met =
-          let c = asking in let Z : RattleType = heap.the_row in let LZ = heap_laws.the_row_laws in let fn = function τ τ′ n in
-          let hs : Stays by_pointer.ended.signature.params by_pointer.ended.kept = (stay_dropped (plain (λ _. Z)) yes, (stay_dropped (plain (λ _. RawPtr)) yes, (stay_dropped (shr_slice_of (0 ∷ []) tt (plain (λ _. u8))) yes, tt))) in
-          proved_at 𝓛 by_pointer.ended hs c 𝓜 𝓡 (Goes-dropped 𝓛 1 (plain (λ _. Z)) yes (λ κs x f. refl), (Goes-dropped 𝓛 1 (plain (λ _. RawPtr)) yes (λ κs x f. refl), (Goes-dropped 𝓛 1 (shr_slice_of (0 ∷ []) tt (plain (λ _. u8))) yes (λ κs x f. refl), tt))) self fn closed (λ z are.
-          let κs = z.0.0 in let qs = z.0.1 in let a = z.0.3.0 in let p = z.0.3.1.0 in let x : Bor (List ℕ) = z.0.3.1.1.0 in let s = z.1 in let κ = s.0 in let q = s.1 in let G : Table = s.2 in
-          let Post : Val → SProp 𝓤 = (walk_of 𝓛 by_pointer.ended hs c).post z in let Run : List Val → SProp 𝓤 = λ ws. WpFn 𝓤 H 𝓣.C 𝓣.Λ fn ws Post in let Slice = (ShrSlice (named 0) κs.0 u8).own_val x in
-          let sl : Val = slice_val x.ref_ptr (length x.now) in let eb = shr_slice_Tells (named 0) κs.0 u8 x z.0.4.1.1.0 are.1.1.0 in let gs = are.1.1.0.0.1.0 in
-          let toks = ‵ (flft κs.0 qs.0) ⊛ ‵ ftrue in let toks₂ = ‵ (flft κ q) ⊛ (‵ (flft κs.0 qs.0) ⊛ ‵ ftrue) in
-          qed 𝓛 ((toks ⊛ ‵ (owns (types_at by_pointer.ended.signature.params κs) z.0.3 z.0.4)) ∷ ‵ (shown p s) ∷ []) ∵ split ! $ move ! (1 ∷ []) $ fsplit ! $
-          handle_tells (al the_table Z LZ ghosts) ! a z.0.4.0 (λ h eh gh. move ! (1 ∷ []) $ fsplit ! $ feq_l ! (λ ep. fsplit ! $ rewrite ! 0 (λ (us : List Val). ‵ (Slice us)) eb refl $
-          -- [the slice; nothing; the allocator; the token; what is shown]
-          let passed : Ptr → List Val = λ p'. h ∷ ptr_val p' ∷ sl ∷ [] in
-          move ! (4 ∷ []) $ either_shown ! p s
-          (λ is. let k = triple_of 𝓛 without.signature (without.spec 𝓛 𝓜.mem 𝓡.returns) in let y : k.Ghost = ((tt, tt, tt, tt, tt), tt) in
-          suffices ! (Run (passed null_ptr)) (subst (λ (us : List Val). ent 𝓤 (Run (passed null_ptr)) (Run us)) (sym ((λ i. eh i ++ (ep i ++ (eb i ++ []))) ∙ ap passed is)) (id⊢ 𝓤 (Run (passed null_ptr)))) $
-          enter ! 𝓣.C 𝓣.Λ fn (passed null_ptr) Post $ alloc_all ! (λ l. pass_all ! refl (gh, ((tt, record { fits = lit< tt }), ((tt, (tt, (record { fits = gs }, tt))), tt))) $ let Ev = env fn.locals l in
-          sets ! (bin ! (get ! refl) (lit ! tt) tt) refl (tt, tt) $ first ! $ branches ! (get ! refl) (λ _.
-          nothing ! $ nothing ! $ join ! $ nothing ! $ move ! (1 ∷ 0 ∷ []) $ use2 𝓛 (raw (k.pre y)) (id⊢ 𝓤 _) $
-          calls_at_last ! (fm 𝓛 𝓜 𝓡) k without_met y (no_more !) (λ u.
-          use1 𝓛 (later (some (λ (r : Out.Denot). (‵ ftrue ⊛ ‵ (Out.own_val r (u ∷ []))) ⊛ some (λ (ls : Lasts without.ended y.0.0 y.0.3). ‵ (lasts without.ended y.0.0 y.0.3 ls) ⊛ raw (fact 𝓤 (r ≡ status_alone 2)))))) (id⊢ 𝓤 (k.post y u)) $
-          await ! tt $ pick ! (λ r. split ! $ move ! (1 ∷ []) $ pick ! (λ _. split ! $ drop ! $ heard ! (r ≡ status_alone 2) (λ told. split ! $ drop ! $ peeks ! Out (Is Out) (shows 𝓛 Out) r (u ∷ []) (λ ok. let good = ((out_laws.the_row_laws.lawful 𝓛).typed r (u ∷ []) ok).0 in
-          lands_last ! refl good $ exec ! 𝓣.C 𝓣.Λ Ev (after 2 fn.body) (at_ret Ev Post) $ sets ! (of_opd ! (get ! refl)) refl good $
-          -- [the result; what is shown; the slice; nothing; the allocator; the token]
-          move ! (1 ∷ []) $ rewrite ! 0 (λ (p' : Ptr). ‵ (shown p' s)) (sym is) refl $ use0 𝓛 (raw (fact 𝓤 (At p G x.now r))) (fact_i 𝓤 _ (emp 𝓤) (at_null p G x.now r is told)) $ move ! (1 ∷ 0 ∷ []) $ join ! $
-          nothing ! $ nothing ! $ fjoin ! $ nothing ! $ fjoin ! $ nothing ! $ fjoin ! $
-          returns ! (look_at ! 0 refl) $ free_all ! refl $ keep ! (6 ∷ 0 ∷ 2 ∷ 1 ∷ []) $ by ! (leaves 𝓛 by_pointer.ended hs c z u r (tt, (tt, (tt, tt))) (tt, (tt, (tt, tt)))))))))) (λ wrong. absurd wrong)))
-          (λ b o is. let t : Bor Table = record { ref_ptr = (b, o); now = G } in let k = triple_of 𝓛 by_table.signature (closing 𝓛 by_table.ended answering) in
-          let y : k.Ghost = (((κ, (κs.0, tt)), (q, (qs.0, tt)), tt, (a, (t, (x, tt))), (h ∷ [], (vptr b o ∷ [], (sl ∷ [], tt)))), tt) in
-          fsplit ! $ move ! (1 ∷ []) $ fsplit ! $ move ! (1 ∷ []) $ fpick ! (λ tests. drop ! $ shr_dup ! the_table table_laws.the_row_laws.shr_laws G b o κ $ move ! (6 ∷ []) $ split ! $
-          suffices ! (Run (passed (block_ptr b o))) (subst (λ (us : List Val). ent 𝓤 (Run (passed (block_ptr b o))) (Run us)) (sym ((λ i. eh i ++ (ep i ++ (eb i ++ []))) ∙ ap passed is)) (id⊢ 𝓤 (Run (passed (block_ptr b o))))) $
-          enter ! 𝓣.C 𝓣.Λ fn (passed (block_ptr b o)) Post $ alloc_all ! (λ l. pass_all ! refl (gh, ((tt, tt), ((tt, (tt, (record { fits = gs }, tt))), tt))) $ let Ev = env fn.locals l in
-          sets ! (bin ! (get ! refl) (lit ! tt) (tests_null (block_ptr b o) tests)) refl (tt, tt) $ first ! $ branches ! (get ! refl) (λ wrong. absurd wrong) (λ _.
-          sets ! (of_opd ! (get ! refl)) refl (tt, tt) $ sets ! (addr ! (through ! refl (stop !))) refl (tt, tt) $
-          -- [the slice's token; nothing; the table twice; the table's token; the slice; nothing; the allocator]
-          move ! (5 ∷ 6 ∷ []) $ fjoin ! $ move ! (3 ∷ []) $ feq_i ! (List Val) (vptr b o ∷ []) (vptr b o ∷ []) refl $ fjoin ! $ fjoin ! $ move ! (5 ∷ 0 ∷ []) $ fjoin ! $
-          move ! (1 ∷ 2 ∷ []) $ join ! $ move ! (3 ∷ 0 ∷ []) $ join ! $ join ! $ nothing ! $ move ! (1 ∷ 0 ∷ []) $ use2 𝓛 (raw (k.pre y)) (id⊢ 𝓤 _) $
-          calls_at_last ! (fm 𝓛 𝓜 𝓡) k met y (and_then ! (get ! refl) (and_then ! (get ! refl) (and_then ! (get ! refl) (no_more !)))) (λ u.
-          use1 𝓛 (later (some (λ (r : Out.Denot). (toks₂ ⊛ ‵ (Out.own_val r (u ∷ []))) ⊛ some (λ (ls : Lasts by_table.ended y.0.0 y.0.3). ‵ (lasts by_table.ended y.0.0 y.0.3 ls) ⊛ raw (fact 𝓤 (R G x.now r)))))) (id⊢ 𝓤 (k.post y u)) $
-          await ! tt $ pick ! (λ r. split ! $ move ! (1 ∷ []) $ pick ! (λ _. split ! $ drop ! $ heard ! (R G x.now r) (λ told. split ! $ move ! (1 ∷ []) $ peeks ! Out (Is Out) (shows 𝓛 Out) r (u ∷ []) (λ ok. let good = ((out_laws.the_row_laws.lawful 𝓛).typed r (u ∷ []) ok).0 in
-          lands_last ! refl good $ exec ! 𝓣.C 𝓣.Λ Ev (after 2 fn.body) (at_ret Ev Post) $ sets ! (of_opd ! (get ! refl)) refl good $
-          -- [the result; the tokens; the table]
-          move ! (1 ∷ []) $ split ! $ nothing ! $ fpack ! (Testable (block_ptr b o)) (λ _. ftrue) tests $ move ! (4 ∷ 0 ∷ []) $ fjoin ! $ move ! (1 ∷ 0 ∷ []) $ fjoin ! $ rewrite ! 0 (λ (p' : Ptr). ‵ (shown p' s)) (sym is) refl $
-          use0 𝓛 (raw (fact 𝓤 (At p G x.now r))) (fact_i 𝓤 _ (emp 𝓤) (at_block p b o G x.now r is told)) $ move ! (1 ∷ 0 ∷ []) $ join ! $ nothing ! $ nothing ! $ fjoin ! $ nothing ! $ fjoin ! $ nothing ! $ fjoin ! $
-          returns ! (look_at ! 0 refl) $ free_all ! refl $ keep ! (2 ∷ 0 ∷ 3 ∷ 1 ∷ []) $ by ! (leaves 𝓛 by_pointer.ended hs c z u r (tt, (tt, (tt, tt))) (tt, (tt, (tt, tt))))))))))))))))
+        pub lends_to : (τ τ′ : Ty) (self n : Callee) → Closed 𝓤 H 𝓣.C 𝓣.Λ self (function τ τ′ n)
+            → Meets 𝓛 without.signature (𝓣.C no_grammar.name) (without.spec 𝓛 𝓜.mem 𝓡.returns)
+            → Meets 𝓛 by_table.signature (𝓣.C n) (closing 𝓛 by_table.ended answering)
+            → Meets 𝓛 by_pointer.signature (𝓣.C self) (closing 𝓛 by_pointer.ended asking)
+        lends_to τ τ′ self n closed without_met met =
+            let c = asking in let Z : RattleType = heap.the_row in let LZ = heap_laws.the_row_laws in
+            let fn = function τ τ′ n in
+            let hs : Stays by_pointer.ended.signature.params by_pointer.ended.kept = (
+              stay_dropped (plain (λ _. Z)) yes,
+              (
+                stay_dropped (plain (λ _. RawPtr)) yes,
+                (stay_dropped (shr_slice_of (0 ∷ []) tt (plain (λ _. u8))) yes, tt),
+              ),
+            ) in
+            proved_at 𝓛 by_pointer.ended hs c 𝓜 𝓡 (
+              Goes-dropped 𝓛 1 (plain (λ _. Z)) yes (λ κs x f. refl),
+              (
+                Goes-dropped 𝓛 1 (plain (λ _. RawPtr)) yes (λ κs x f. refl),
+                (Goes-dropped 𝓛 1 (shr_slice_of (0 ∷ []) tt (plain (λ _. u8))) yes (λ κs x f. refl), tt),
+              ),
+            ) self fn closed
+            (λ z are.
+            let κs = z.0.0 in let qs = z.0.1 in let a = z.0.3.0 in let p = z.0.3.1.0 in
+            let x : Bor (List ℕ) = z.0.3.1.1.0 in let s = z.1 in let κ = s.0 in let q = s.1 in let G : Table = s.2 in
+            let Post : Val → SProp 𝓤 = (walk_of 𝓛 by_pointer.ended hs c).post z in let Run : List Val
+            → SProp 𝓤 = λ ws. WpFn 𝓤 H 𝓣.C 𝓣.Λ fn ws Post in let Slice = (ShrSlice (named 0) κs.0 u8).own_val x in
+            let sl : Val = slice_val x.ref_ptr (length x.now) in
+            let eb = shr_slice_Tells (named 0) κs.0 u8 x z.0.4.1.1.0 are.1.1.0 in let gs = are.1.1.0.0.1.0 in
+            let toks = ‵ (flft κs.0 qs.0) ⊛ ‵ ftrue in let toks₂ = ‵ (flft κ q) ⊛ (‵ (flft κs.0 qs.0) ⊛ ‵ ftrue) in
+            qed 𝓛 ((toks ⊛ ‵ (owns (types_at by_pointer.ended.signature.params κs) z.0.3 z.0.4)) ∷ ‵ (shown p s)
+            ∷ []) ∵ split ! $ move ! (1 ∷ []) $ fsplit ! $
+            handle_tells (al the_table Z LZ ghosts) ! a z.0.4.0
+            (λ h eh gh. move ! (1 ∷ []) $ fsplit ! $ feq_l !
+            (λ ep. fsplit ! $ rewrite ! 0 (λ (us : List Val). ‵ (Slice us)) eb refl $
+            -- [the slice; nothing; the allocator; the token; what is shown]
+            let passed : Ptr → List Val = λ p'. h ∷ ptr_val p' ∷ sl ∷ [] in
+            move ! (4 ∷ []) $ either_shown ! p s
+            (λ is. let k = triple_of 𝓛 without.signature (without.spec 𝓛 𝓜.mem 𝓡.returns) in
+            let y : k.Ghost = ((tt, tt, tt, tt, tt), tt) in
+            suffices ! (Run (passed null_ptr))
+            (subst (λ (us : List Val). ent 𝓤 (Run (passed null_ptr)) (Run us))
+            (sym ((λ i. eh i ++ (ep i ++ (eb i ++ []))) ∙ ap passed is)) (id⊢ 𝓤 (Run (passed null_ptr)))) $
+            enter ! 𝓣.C 𝓣.Λ fn (passed null_ptr) Post $ alloc_all !
+            (λ l. pass_all ! refl (
+              gh,
+              (
+                (tt, record { fits = lit< tt }),
+                ((tt, (tt, (record { fits = gs }, tt))), tt),
+              ),
+            ) $ let Ev = env fn.locals l in
+            sets ! (bin ! (get ! refl) (lit ! tt) tt) refl (tt, tt) $ first ! $ branches ! (get ! refl) (λ _.
+            nothing ! $ nothing ! $ join ! $ nothing ! $ move ! (1 ∷ 0 ∷ []) $ use2 𝓛 (raw (k.pre y)) (id⊢ 𝓤 _) $
+            calls_at_last ! (fm 𝓛 𝓜 𝓡) k without_met y (no_more !) (λ u.
+            use1 𝓛 (later (some (λ (r : Out.Denot). (‵ ftrue ⊛ ‵ (Out.own_val r (u ∷ []))) ⊛ some
+            (λ (ls : Lasts without.ended y.0.0 y.0.3). ‵ (lasts without.ended y.0.0 y.0.3 ls) ⊛ raw
+            (fact 𝓤 (r ≡ status_alone 2)))))) (id⊢ 𝓤 (k.post y u)) $
+            await ! tt $ pick ! (λ r. split ! $ move ! (1 ∷ []) $ pick !
+            (λ _. split ! $ drop ! $ heard ! (r ≡ status_alone 2)
+            (λ told. split ! $ drop ! $ peeks ! Out (Is Out) (shows 𝓛 Out) r (u ∷ [])
+            (λ ok. let good = ((out_laws.the_row_laws.lawful 𝓛).typed r (u ∷ []) ok).0 in
+            lands_last ! refl good $ exec ! 𝓣.C 𝓣.Λ Ev (after 2 fn.body) (at_ret Ev Post) $ sets !
+            (of_opd ! (get ! refl)) refl good $
+            -- [the result; what is shown; the slice; nothing; the allocator; the token]
+            move ! (1 ∷ []) $ rewrite ! 0 (λ (p' : Ptr). ‵ (shown p' s)) (sym is) refl $ use0 𝓛
+            (raw (fact 𝓤 (At p G x.now r))) (fact_i 𝓤 _ (emp 𝓤) (at_null p G x.now r is told)) $ move !
+            (1 ∷ 0 ∷ []) $ join ! $
+            nothing ! $ nothing ! $ fjoin ! $ nothing ! $ fjoin ! $ nothing ! $ fjoin ! $
+            returns ! (look_at ! 0 refl) $ free_all ! refl $ keep ! (6 ∷ 0 ∷ 2 ∷ 1 ∷ []) $ by !
+            (leaves 𝓛 by_pointer.ended hs c z u r (tt, (tt, (tt, tt))) (tt, (tt, (tt, tt))))))))))
+            (λ wrong. absurd wrong)))
+            (λ b o is. let t : Bor Table = record { ref_ptr = (b, o); now = G } in
+            let k = triple_of 𝓛 by_table.signature (closing 𝓛 by_table.ended answering) in
+            let y : k.Ghost = (
+              (
+                (κ, (κs.0, tt)),
+                (q, (qs.0, tt)),
+                tt,
+                (a, (t, (x, tt))),
+                (h ∷ [], (vptr b o ∷ [], (sl ∷ [], tt))),
+              ),
+              tt,
+            ) in
+            fsplit ! $ move ! (1 ∷ []) $ fsplit ! $ move ! (1 ∷ []) $ fpick !
+            (λ tests. drop ! $ shr_dup ! the_table table_laws.the_row_laws.shr_laws G b o κ $ move !
+            (6 ∷ []) $ split ! $
+            suffices ! (Run (passed (block_ptr b o)))
+            (subst (λ (us : List Val). ent 𝓤 (Run (passed (block_ptr b o))) (Run us))
+            (sym ((λ i. eh i ++ (ep i ++ (eb i ++ []))) ∙ ap passed is)) (id⊢ 𝓤 (Run (passed (block_ptr b o))))) $
+            enter ! 𝓣.C 𝓣.Λ fn (passed (block_ptr b o)) Post $ alloc_all !
+            (λ l. pass_all ! refl (gh, ((tt, tt), ((tt, (tt, (record { fits = gs }, tt))), tt))) $
+            let Ev = env fn.locals l in
+            sets ! (bin ! (get ! refl) (lit ! tt) (tests_null (block_ptr b o) tests)) refl (tt, tt) $ first ! $ branches !
+            (get ! refl) (λ wrong. absurd wrong) (λ _.
+            sets ! (of_opd ! (get ! refl)) refl (tt, tt) $ sets ! (addr ! (through ! refl (stop !))) refl (tt, tt) $
+            -- [the slice's token; nothing; the table twice; the table's token; the slice; nothing; the allocator]
+            move ! (5 ∷ 6 ∷ []) $ fjoin ! $ move ! (3 ∷ []) $ feq_i ! (List Val) (vptr b o ∷ [])
+            (vptr b o ∷ []) refl $ fjoin ! $ fjoin ! $ move ! (5 ∷ 0 ∷ []) $ fjoin ! $
+            move ! (1 ∷ 2 ∷ []) $ join ! $ move ! (3 ∷ 0 ∷ []) $ join ! $ join ! $ nothing ! $ move !
+            (1 ∷ 0 ∷ []) $ use2 𝓛 (raw (k.pre y)) (id⊢ 𝓤 _) $
+            calls_at_last ! (fm 𝓛 𝓜 𝓡) k met y
+            (and_then ! (get ! refl) (and_then ! (get ! refl) (and_then ! (get ! refl) (no_more !)))) (λ u.
+            use1 𝓛 (later (some (λ (r : Out.Denot). (toks₂ ⊛ ‵ (Out.own_val r (u ∷ []))) ⊛ some
+            (λ (ls : Lasts by_table.ended y.0.0 y.0.3). ‵ (lasts by_table.ended y.0.0 y.0.3 ls) ⊛ raw
+            (fact 𝓤 (R G x.now r)))))) (id⊢ 𝓤 (k.post y u)) $
+            await ! tt $ pick ! (λ r. split ! $ move ! (1 ∷ []) $ pick !
+            (λ _. split ! $ drop ! $ heard ! (R G x.now r)
+            (λ told. split ! $ move ! (1 ∷ []) $ peeks ! Out (Is Out) (shows 𝓛 Out) r (u ∷ [])
+            (λ ok. let good = ((out_laws.the_row_laws.lawful 𝓛).typed r (u ∷ []) ok).0 in
+            lands_last ! refl good $ exec ! 𝓣.C 𝓣.Λ Ev (after 2 fn.body) (at_ret Ev Post) $ sets !
+            (of_opd ! (get ! refl)) refl good $
+            -- [the result; the tokens; the table]
+            move ! (1 ∷ []) $ split ! $ nothing ! $ fpack ! (Testable (block_ptr b o)) (λ _. ftrue) tests $ move !
+            (4 ∷ 0 ∷ []) $ fjoin ! $ move ! (1 ∷ 0 ∷ []) $ fjoin ! $ rewrite ! 0 (λ (p' : Ptr). ‵ (shown p' s))
+            (sym is) refl $
+            use0 𝓛 (raw (fact 𝓤 (At p G x.now r))) (fact_i 𝓤 _ (emp 𝓤) (at_block p b o G x.now r is told)) $ move !
+            (1 ∷ 0 ∷ []) $ join ! $ nothing ! $ nothing ! $ fjoin ! $ nothing ! $ fjoin ! $ nothing ! $ fjoin ! $
+            returns ! (look_at ! 0 refl) $ free_all ! refl $ keep ! (2 ∷ 0 ∷ 3 ∷ 1 ∷ []) $ by !
+            (leaves 𝓛 by_pointer.ended hs c z u r (tt, (tt, (tt, tt))) (tt, (tt, (tt, tt))))))))))))))))

@@ -5,12 +5,13 @@ use Rattle.spv_extended.specs.declared.reach.Reach.{Reach}
 use Rattle.spv_explain.specs.Stream.{IsExplanation}
 use Rattle.spv_fault_lines.specs.declared.fact.Detail.TheVariants.{Short}
 use Rattle.spv_explain.specs.declared.stream.Explanation.{Explanation}
-use Rattle.spv_verdict.specs.Text.{line_of}
+use Rattle.spv_check.specs.Text.{line_of}
 use Rattle.spvk.specs.Explain.{IsExplaining}
 use Rattle.spvk.specs.Numbers.{numbers_of}
 use Rattle.spvk.specs.declared.text.Text.{Text}
 
-pub explained : (G : Table) (reach : Reach) (bytes : List ℕ) (e : Explanation) (t : Text) → IsExplanation Short G reach bytes e
+pub explained : (G : Table) (reach : Reach) (bytes : List ℕ) (e : Explanation) (t : Text)
+    → IsExplanation Short G reach bytes e
     → t.verdict ≡ numbers_of e.judgment → t.buffer.bytes ≡ Some (line_of e.judgment ++ string_bytes e.lines)
     → IsExplaining G reach bytes t
 explained G reach bytes e t is verdict buffer = record {

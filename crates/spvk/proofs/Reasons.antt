@@ -11,7 +11,8 @@ pub want : (text : Option (List ℕ)) (n : ℕ) → n ≡ 1 → IsReason text n
 want text n e = subst (IsReason text) (sym e) memory
 
 -- a refused grammar file
-pub refusal : (text : Option (List ℕ)) (e : GrammarError) → (e ≢ grammar.J8 → breaks text e) → IsReason text (status_of e)
+pub refusal : (text : Option (List ℕ)) (e : GrammarError) → (e ≢ grammar.J8 → breaks text e)
+    → IsReason text (status_of e)
 refusal text grammar.J1 h = refused grammar.J1 (h (λ e. cc))
 refusal text grammar.J2 h = refused grammar.J2 (h (λ e. cc))
 refusal text grammar.J3 h = refused grammar.J3 (h (λ e. cc))

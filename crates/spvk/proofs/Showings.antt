@@ -11,21 +11,25 @@ use Rattle.spv_module.specs.declared.fault.Fault.{Fault}
 use Rattle.spv_module.specs.declared.fault.Stop.{Stop}
 use Rattle.spv_module.specs.declared.fault.Stop.TheVariants.{Fault as Dies}
 use Rattle.spv_lines.specs.Image.{IsShownImage}
-use Rattle.spv_verdict.specs.declared.verdict_line.Judgment.{Judgment}
-use Rattle.spv_verdict.specs.declared.verdict_line.Judgment.TheVariants.{Valid, Refused, Broken}
+use Rattle.spv_check.specs.declared.verdict_line.Judgment.{Judgment}
+use Rattle.spv_check.specs.declared.verdict_line.Judgment.TheVariants.{Valid, Refused, Broken}
 use Rattle.spvk.specs.Numbers.{numbers_of}
 use Rattle.spvk.specs.Show.{IsShowing, text, refused, dead}
 use Rattle.spvk.specs.declared.text.Text.{Text}
 use Rattle.spvk.specs.inner.Refusal.{refusal_of}
 
 -- the text of the words that were read
-pub text_shown : (G : Table) (bytes words lines : List ℕ) (order : Order) (r : Result Text Memory) → IsModule order bytes words → IsShownImage G words lines
-    → IfOk r (λ t. t.verdict ≡ numbers_of Valid) → IfOk r (λ t. t.buffer.bytes ≡ Some lines) → IfOk r (λ t. IsShowing G bytes t)
+pub text_shown : (G : Table) (bytes words lines : List ℕ) (order : Order) (r : Result Text Memory)
+    → IsModule order bytes words → IsShownImage G words lines
+    → IfOk r (λ t. t.verdict ≡ numbers_of Valid) → IfOk r (λ t. t.buffer.bytes ≡ Some lines)
+    → IfOk r (λ t. IsShowing G bytes t)
 text_shown G bytes words lines order (Err e) h s v b = tt
-text_shown G bytes words lines order (Ok t) h s v b = text words order s.header s.insts lines h s.told s.listed s.shown v b
+text_shown G bytes words lines order (Ok t) h s v b =
+    text words order s.header s.insts lines h s.told s.listed s.shown v b
 
 -- words that are no list of instructions
-pub dead_shown : (G : Table) (bytes words : List ℕ) (order : Order) (s : Stop) (f : Fault) (t : Text) → s ≡ Dies f → IsModule order bytes words
+pub dead_shown : (G : Table) (bytes words : List ℕ) (order : Order) (s : Stop) (f : Fault) (t : Text) → s ≡ Dies f
+    → IsModule order bytes words
     → IsDecodeFault G words s → t.verdict ≡ numbers_of (Broken f) → t.buffer.bytes ≡ None → IsShowing G bytes t
 dead_shown G bytes words order s f t e h d v b =
     let died : IsDecodeFault G words (Dies f) = rw e at d in
@@ -47,7 +51,8 @@ told_as : (k j : Judgment) (t : Text) → k ≡ j → t.verdict ≡ numbers_of j
 told_as k j t e v = subst (λ (i : Judgment). t.verdict ≡ numbers_of i) (sym e) v
 
 -- a code that was read, of bytes in memory
-pub refused_shown : (G : Table) (bytes : List ℕ) (code : WordError) (j : Judgment) (t : Text) → refusal_of code ≡ Ok j → RefusesBytes code bytes
+pub refused_shown : (G : Table) (bytes : List ℕ) (code : WordError) (j : Judgment) (t : Text) → refusal_of code ≡ Ok j
+    → RefusesBytes code bytes
     → t.verdict ≡ numbers_of j → t.buffer.bytes ≡ None → IsShowing G bytes t
 refused_shown G bytes word.W1 j t e h v b = absurd (never word.W1 j e tt)
 refused_shown G bytes word.W9 j t e h v b = absurd (never word.W9 j e tt)

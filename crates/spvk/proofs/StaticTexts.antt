@@ -17,7 +17,11 @@ abbrev pub word : Ptr → Val
 word p = vstruct (vcons (ptr_val p) vnil)
 
 module _ {M : Type 1} {𝓤 : Ura M} {𝓛 : Logic 𝓤} {K : Type 0} {Γ : List (Item 𝓤)} {G : Goal 𝓤 𝓛.H} where
-  pub text_in : K → (p : Ptr) (x : Option (List ℕ)) → Step K 𝓛 (‵ (text.the_row.own_val (record { start = p; octets = x }) (word p ∷ [])) ∷ Γ) G (‵ (lasting p x) ∷ Γ) G
+  pub text_in : K → (p : Ptr) (x : Option (List ℕ))
+      → Step K 𝓛 (‵ (text.the_row.own_val (record { start = p; octets = x }) (word p ∷ [])) ∷ Γ) G
+      (‵ (lasting p x) ∷ Γ) G
   text_in t p x = step (λ s.
-      nothing t $ feq_i t (List Val) (ptr_val p ∷ []) (ptr_val p ∷ []) refl $ fjoin t $ feq_i t (List Val) (word p ∷ []) (word p ∷ []) refl $ fjoin t $
-      fpack t (Valss (RawPtr ∷ [])) (within (shape text.the_type) (p, tt) (word p ∷ [])) (ptr_val p ∷ [], tt) $ fjoin t $ s)
+      nothing t $ feq_i t (List Val) (ptr_val p ∷ []) (ptr_val p ∷ []) refl $ fjoin t $ feq_i t (List Val) (word p ∷ [])
+      (word p ∷ []) refl $ fjoin t $
+      fpack t (Valss (RawPtr ∷ [])) (within (shape text.the_type) (p, tt) (word p ∷ []))
+      (ptr_val p ∷ [], tt) $ fjoin t $ s)

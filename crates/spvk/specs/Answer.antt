@@ -2,9 +2,9 @@
 use Rattle.std.specs.Prelude.{◌≡◌, ℕ, List, Option, Some, None}
 use Rattle.spv_table.specs.Table.{Table}
 use Rattle.spv_extended.specs.declared.reach.Reach.{Reach}
-use Rattle.spv_verdict.specs.declared.verdict_line.Judgment.{Judgment}
-use Rattle.spv_verdict.specs.Verdict.{IsVerdict}
-use Rattle.spv_verdict.specs.Text.{line_of}
+use Rattle.spv_check.specs.declared.verdict_line.Judgment.{Judgment}
+use Rattle.spv_check.specs.Verdict.{IsVerdict}
+use Rattle.spv_check.specs.Text.{line_of}
 use Rattle.spvk.specs.Flags.{asked_by, taken}
 use Rattle.spvk.specs.declared.flags.Asked.{Asked}
 use Rattle.spvk.specs.declared.numbers.Answer.{Answer}

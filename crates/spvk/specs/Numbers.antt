@@ -4,8 +4,8 @@ use Rattle.spv_words.specs.declared.words.WordError.{WordError}
 use Rattle.spv_module.specs.declared.fault.Rule.{Rule as AnyRule}
 use Rattle.spv_rules.specs.declared.rules.Code.TheVariants.{Word, Rule}
 use Rattle.spv_rules.specs.Rules.{number_of}
-use Rattle.spv_verdict.specs.declared.verdict_line.Judgment.{Judgment}
-use Rattle.spv_verdict.specs.declared.verdict_line.Judgment.TheVariants.{Valid, Refused, Broken}
+use Rattle.spv_check.specs.declared.verdict_line.Judgment.{Judgment}
+use Rattle.spv_check.specs.declared.verdict_line.Judgment.TheVariants.{Valid, Refused, Broken}
 use Rattle.spvk.specs.declared.numbers.Verdict.{Verdict}
 
 -- W1 to W9: 1 to 9

@@ -11,7 +11,7 @@ use Rattle.spv_module.specs.Malformed.{IsMalformedAt}
 use Rattle.spv_module.specs.declared.fault.Fault.{Fault}
 use Rattle.spv_inst.specs.Outcome.{IsHeaderOf}
 use Rattle.spv_lines.specs.Text.{IsShownText}
-use Rattle.spv_verdict.specs.declared.verdict_line.Judgment.TheVariants.{Valid, Refused, Broken}
+use Rattle.spv_check.specs.declared.verdict_line.Judgment.TheVariants.{Valid, Refused, Broken}
 use Rattle.spvk.specs.Numbers.{numbers_of}
 use Rattle.spvk.specs.declared.text.Text.{Text}
 

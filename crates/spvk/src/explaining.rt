@@ -8,7 +8,7 @@ ghost use Rattle.spvk.specs.Explain.{IsExplaining};
 ghost use Rattle.spvk.specs.Flags as spec;
 ghost use Rattle.spvk.specs.Make.{Makes, MakesAsked, MakesAt, MakesWith};
 ghost use Rattle.spv_extended.specs.declared.reach.Reach.TheVariants.{Profile};
-ghost use Rattle.spv_verdict.specs.Text.{line_of};
+ghost use Rattle.spv_check.specs.Text.{line_of};
 ghost use Rattle.spv_words.specs.Version.{as_1_6};
 
 use crate::buffer::Buffer;

@@ -2,13 +2,13 @@
 ghost use Rattle.std.specs.Prelude.{◌≡◌, ℕ, List, IfOk, IfErr, IsErrOf};
 ghost use Rattle.spv_words.specs.Header.{IsModule};
 ghost use Rattle.spv_words.specs.declared.words.Order.{Order};
-ghost use Rattle.spv_verdict.specs.Verdict.{IsVerdict};
-ghost use Rattle.spv_verdict.specs.Text.{line_of};
+ghost use Rattle.spv_check.specs.Verdict.{IsVerdict};
+ghost use Rattle.spv_check.specs.Text.{line_of};
 ghost use Rattle.spvk.specs.inner.Refusal.{refusal_of};
 
+use spv_check::{Judgment, Verdict, check};
 use spv_extended::Reach;
 use spv_table::{Memory, Table};
-use spv_verdict::{Judgment, Verdict, check};
 use spv_words::{Image, WordError, image_of};
 use std::alloc::Global;
 

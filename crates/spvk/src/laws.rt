@@ -7,7 +7,7 @@ ghost use Rattle.spv_grammar.specs.Reason.{IsReason as IsReasonOf};
 ghost use Rattle.spv_grammar.specs.declared.error.GrammarError.TheVariants.{J4};
 ghost use Rattle.spv_lines.specs.declared.asm_error.AsmCode.TheVariants.{S2};
 ghost use Rattle.spv_module.specs.declared.fault.Rule.TheVariants.{I7};
-ghost use Rattle.spv_verdict.specs.declared.verdict_line.Judgment.TheVariants.{Valid};
+ghost use Rattle.spv_check.specs.declared.verdict_line.Judgment.TheVariants.{Valid};
 ghost use Rattle.spv_words.specs.declared.words.Order.{Order};
 ghost use Rattle.spv_words.specs.declared.words.WordError.TheVariants.{W3};
 ghost use Rattle.spvk.specs.Answer.{Answers, AnswersAsked, AnswersAt, AnswersWith, status_alone};

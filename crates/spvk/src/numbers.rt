@@ -2,8 +2,8 @@
 ghost use Rattle.std.specs.Prelude.{◌≡◌};
 ghost use Rattle.spvk.specs.Numbers.{numbers_of};
 
+use spv_check::Judgment;
 use spv_rules::Code;
-use spv_verdict::Judgment;
 
 /// What stands for no instruction and for no word.
 pub const NOWHERE: u32 = 0xffff_ffff;

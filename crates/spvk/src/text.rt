@@ -1,12 +1,12 @@
 //! A verdict with a text, as C sees them.
 ghost use Rattle.std.specs.Prelude.{◌≡◌, None, Some, IfOk, string_bytes};
 ghost use Rattle.spvk.specs.Numbers.{numbers_of};
-ghost use Rattle.spv_verdict.specs.declared.verdict_line.Judgment.TheVariants.{Valid};
+ghost use Rattle.spv_check.specs.declared.verdict_line.Judgment.TheVariants.{Valid};
 
 use crate::buffer::Buffer;
 use crate::numbers::{Verdict, numbers};
+use spv_check::Judgment;
 use spv_table::Memory;
-use spv_verdict::Judgment;
 use std::alloc::Global;
 
 /// A verdict and a text: `spvk_text` of C.

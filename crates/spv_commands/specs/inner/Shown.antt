@@ -4,10 +4,10 @@ use Rattle.spv_words.specs.declared.words.WordError.{WordError}
 use Rattle.spv_words.specs.declared.words.WordError.TheVariants.{W1, W9}
 use Rattle.spv_module.specs.declared.fault.Stop.{Stop}
 use Rattle.spv_module.specs.declared.fault.Stop.TheVariants.{Fault, Memory}
-use Rattle.spv_verdict.specs.declared.verdict_line.Judgment.TheVariants.{Refused, Broken}
+use Rattle.spv_check.specs.declared.verdict_line.Judgment.TheVariants.{Refused, Broken}
 use Rattle.spv_commands.specs.declared.showing.Shown.{Shown}
 use Rattle.spv_commands.specs.declared.showing.Shown.TheVariants.{Text, Line}
-use Rattle.spv_verdict.specs.Text.{line_of}
+use Rattle.spv_check.specs.Text.{line_of}
 
 -- the octets that are written
 abbrev pub output_of : Shown → List ℕ

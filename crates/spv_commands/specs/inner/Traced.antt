@@ -2,10 +2,10 @@
 use Rattle.std.specs.Prelude.{ℕ, List, Bool, true, false, Result, Ok, Err}
 use Rattle.spv_words.specs.declared.words.WordError.{WordError}
 use Rattle.spv_words.specs.declared.words.WordError.TheVariants.{W1, W9}
-use Rattle.spv_verdict.specs.declared.run.parts.TraceError.{TraceError}
-use Rattle.spv_verdict.specs.declared.run.parts.TraceError.TheVariants.{NoEntry, Memory}
-use Rattle.spv_verdict.specs.declared.verdict_line.Judgment.TheVariants.{Refused}
-use Rattle.spv_verdict.specs.Text.{line_of}
+use Rattle.spv_run.specs.declared.parts.TraceError.{TraceError}
+use Rattle.spv_run.specs.declared.parts.TraceError.TheVariants.{NoEntry, Memory}
+use Rattle.spv_check.specs.declared.verdict_line.Judgment.TheVariants.{Refused}
+use Rattle.spv_check.specs.Text.{line_of}
 use Rattle.spv_commands.specs.Trace.{trace_text}
 use Rattle.spv_commands.specs.declared.trouble.Trouble.{Trouble}
 use Rattle.spv_commands.specs.declared.trouble.Trouble.TheVariants as trouble

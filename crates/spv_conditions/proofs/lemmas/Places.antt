@@ -1,5 +1,6 @@
 -- The storage class of a variable, by where it stands.
-use Rattle.std.proofs.Common.{◌≡◌, ◌≢◌, ◌↔◌, ◌+◌, if◌then◌else◌, inl, inr, ℕ, List, Option, Some, None, Bool, true, false, refl, arith}
+use Rattle.std.proofs.Common.{◌≡◌, ◌≢◌, ◌↔◌, ◌+◌, if◌then◌else◌, inl, inr, ℕ, List, Option, Some, None, Bool, true}
+use Rattle.std.proofs.Common.{false, refl, arith}
 use Rattle.std.specs.Prelude.{MatchOption, nat_lt}
 use Rattle.std.proofs.lemmas.Bool.{ltb-true}
 use Rattle.std.proofs.lemmas.Option.{none-some, same_Some}
@@ -32,7 +33,8 @@ class_inside is n f class o = (
   λ h. elim h [ inl a ↦ absurd (no_function is n f a.0 o) | inr b ↦ b.2 ],
 )
 
-pub class_outside : (is : List PlainInst) (n class : ℕ) (p : Place) → IsPlaceOf is n p → ((f : ℕ) → IsOfFunction is n f → ⊥)
+pub class_outside : (is : List PlainInst) (n class : ℕ) (p : Place) → IsPlaceOf is n p
+    → ((f : ℕ) → IsOfFunction is n f → ⊥)
     → ((p.section ≡ 11) × (class ≢ 7) × (class ≢ 8)) ↔ MayHave is n class
 class_outside is n class p place never = (
   λ a. inl (rw (← a.0) place.section, a.1, a.2),
@@ -42,10 +44,13 @@ class_outside is n class p place never = (
   ],
 )
 
-pub of_function : (is : List PlainInst) (n f : ℕ) (o : Option ℕ) → MatchOption o ((g : ℕ) → ¬ (IsOfFunction is n g)) (λ g. IsOfFunction is n g) → o ≡ Some f → IsOfFunction is n f
+pub of_function : (is : List PlainInst) (n f : ℕ) (o : Option ℕ)
+    → MatchOption o ((g : ℕ) → ¬ (IsOfFunction is n g)) (λ g. IsOfFunction is n g) → o ≡ Some f → IsOfFunction is n f
 of_function is n f None h e = absurd (none-some f e)
 of_function is n f (Some g) h e = let same : g ≡ f = cc in rw (← same) h
 
-pub of_none : (is : List PlainInst) (n : ℕ) (o : Option ℕ) → MatchOption o ((g : ℕ) → ¬ (IsOfFunction is n g)) (λ g. IsOfFunction is n g) → o ≡ None → (f : ℕ) → IsOfFunction is n f → ⊥
+pub of_none : (is : List PlainInst) (n : ℕ) (o : Option ℕ)
+    → MatchOption o ((g : ℕ) → ¬ (IsOfFunction is n g)) (λ g. IsOfFunction is n g) → o ≡ None → (f : ℕ)
+    → IsOfFunction is n f → ⊥
 of_none is n None h e f a = h f a
 of_none is n (Some g) h e f a = cc

@@ -10,8 +10,8 @@ use Rattle.spv_extended.specs.declared.reach.Reach.{Reach}
 use Rattle.spv_extended.specs.Reach.{looked_at}
 use Rattle.spv_inst.specs.Outcome.{IsDecodeFault, IsHeaderOf}
 use Rattle.spv_evidence.specs.declared.evidence.Evidence.{Evidence}
-use Rattle.spv_verdict.specs.Broken.{IsTold}
-use Rattle.spv_verdict.specs.Checked.{IsChecked}
+use Rattle.spv_check.specs.Broken.{IsTold}
+use Rattle.spv_check.specs.Checked.{IsChecked}
 use Rattle.spv_explain.specs.declared.reading.Explained.{Explained}
 use Rattle.spv_explain.specs.declared.reading.Explained.TheVariants.{Valid, Malformed, Broken}
 use Rattle.spv_explain.specs.inner.Shown.{IsShownAt}

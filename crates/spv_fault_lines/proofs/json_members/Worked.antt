@@ -11,7 +11,8 @@ pub bound_told : member_of small [] [] (fact.Bound 9) ≡ name (codes "bound") �
 bound_told = rw (decimal_digit 9 (omega arith)) refl
 
 pub not_text_told : ¬ (member_of small [] [] (fact.Bound 9) ≡ name (codes "bound") ∷ string (codes "9") ∷ [])
-not_text_told h = (let e : name (codes "bound") ∷ number (decimal 9) ∷ [] ≡ name (codes "bound") ∷ string (codes "9") ∷ [] = h in absurd cc)
+not_text_told h = (let e : name (codes "bound") ∷ number (decimal 9) ∷ [] ≡ name (codes "bound") ∷ string (codes "9")
+    ∷ [] = h in absurd cc)
 
 pub earlier_told : member_of small (one_string ∷ []) (codes "%5 = OpString \"abc\"" ∷ []) (fact.Earlier 0)
     ≡ name (codes "earlier") ∷ begin_object ∷ name (codes "inst") ∷ number (codes "0") ∷ name (codes "text")

@@ -9,8 +9,7 @@ use Rattle.spv_fault_lines.specs.declared.fact.Fact.{Fact}
 use Rattle.spv_fault_lines.specs.declared.fact.Fact.TheVariants as fact
 use Rattle.spv_fault_lines.specs.declared.key.Key.{Key}
 use Rattle.spv_fault_lines.specs.declared.key.Key.TheVariants as key
-use Rattle.spv_fault_lines.specs.Facts.{asked_facts, compared_facts, failing_facts, lister_facts, side_thing}
-use Rattle.spv_fault_lines.specs.Facts.{type_facts}
+use Rattle.spv_fault_lines.specs.Facts.{asked_facts, condition_facts, failing_facts, lister_facts, side_thing}
 use Rattle.spv_fault_lines.specs.Words.{begin_of, words_fact}
 use Rattle.spv_lines.specs.Text.{inst_line}
 use Rattle.spv_fault_lines.specs.Conditions.{condition_text}
@@ -45,7 +44,7 @@ form_facts n e = id_facts n e
 abbrev pub typed_facts : List PlainInst → ℕ → Evidence → List Fact
 typed_facts is n (evidence.Needs l) = lister_facts is n l ++ (fact.NeedsOneOf n l ∷ [])
 typed_facts is n (evidence.Condition c k m wanted found types) =
-    failing_facts n c k m ++ (type_facts is types ++ compared_facts is wanted found)
+    failing_facts n c k m ++ condition_facts is n c k wanted found types
 typed_facts is n (evidence.Mismatch s wanted found of) = fact.Differs s ∷ asked_facts is of
     ++ (fact.Wanted (side_thing is s wanted) ∷ fact.Found (side_thing is s found) ∷ [])
 typed_facts is n e = form_facts n e
@@ -86,6 +85,7 @@ named_text G is lines (fact.Condition c) = condition_text c
 named_text G is lines (fact.Wanted t) = thing_text lines t
 named_text G is lines (fact.Found t) = thing_text lines t
 named_text G is lines (fact.Number n) = decimal n
+named_text G is lines (fact.Size n) = decimal n
 named_text G is lines (fact.Operands n) = decimal n
 named_text G is lines f = []
 

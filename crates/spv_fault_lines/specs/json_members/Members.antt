@@ -13,7 +13,10 @@ use Rattle.spv_evidence.specs.declared.evidence.Side.{Side}
 use Rattle.spv_evidence.specs.declared.evidence.Side.TheVariants as side
 use Rattle.spv_fault_lines.specs.Conditions.{condition_text}
 use Rattle.spv_fault_lines.specs.Lines.{bit_name, capability_name, due_text, entry_part_text, key_of, listed_names}
-use Rattle.spv_fault_lines.specs.Lines.{operand_at, result_of, side_text, unended_text, value_text, width_needs}
+use Rattle.spv_fault_lines.specs.Lines.{name_at}
+use Rattle.spv_fault_lines.specs.Lines.{operand_at, result_of, side_text, thing_id, unended_text, value_text}
+use Rattle.spv_fault_lines.specs.Lines.{width_needs}
+use Rattle.spv_fault_lines.specs.Owners.{places_in}
 use Rattle.spv_fault_lines.specs.Refused.{found_text, help_text}
 use Rattle.spv_fault_lines.specs.Shapes.{role_text, row_text}
 use Rattle.spv_fault_lines.specs.declared.fact.Fact.{Fact}
@@ -49,13 +52,19 @@ abbrev pub result_in : List PlainInst → Option ℕ → Option ℕ
 result_in is None = None
 result_in is (Some n) = result_of is n
 
--- the function of a place, and after it a member for the block, if there is one
+-- a member that is a text, where there is something to tell
+abbrev pub piece_member : Key → Option (List ℕ) → List Token
+piece_member k None = []
+piece_member k (Some text) = key_token k ∷ string text ∷ []
+
+-- the function of a place, and after it members for its name and for the block, if there are such
 abbrev pub block_member : List PlainInst → Option ℕ → List Token
 block_member is None = []
 block_member is (Some b) = key_token keys.Block ∷ maybe_number (result_of is b)
 
 abbrev pub place_tokens : List PlainInst → Place → List Token
-place_tokens is p = maybe_number (result_in is p.function) ++ block_member is p.block
+place_tokens is p = maybe_number (result_in is p.function) ++ piece_member keys.Name (name_at is p.function)
+    ++ block_member is p.block
 
 -- {"index":2,"id":17}: an operand, by its number, with its id, or the number that it is and the name of that
 abbrev pub operand_members : Table → Option Plain → List Token
@@ -163,7 +172,23 @@ abbrev pub word_tokens : ℕ → Option ℕ → List Token
 word_tokens k w =
     begin_object ∷ number_member (codes "index") k ++ name (codes "value") ∷ maybe_number w ++ end_object ∷ []
 
--- The value of a fact's member, and of a place and of opcodes that may come one member more, as told above: under the
+-- {"inst":6,"text":"%5 = OpTypeInt 32 0","operands":[1]}: a type, with the numbers of the operands that are of it
+abbrev pub owners_member : List ℕ → List Token
+owners_member ks = name (codes "operands") ∷ array (flat_map number_tokens ks)
+
+abbrev pub owned_tokens : List (List ℕ) → Thing → List ℕ → List Token
+owned_tokens lines thing.Nothing ks = null ∷ []
+owned_tokens lines (thing.Count n) ks = number_token n ∷ []
+owned_tokens lines (thing.Inst n) ks = begin_object ∷ number_member (codes "inst") n
+    ++ text_member (codes "text") (inst_line lines n) ++ owners_member ks ++ end_object ∷ []
+owned_tokens lines (thing.Id x) ks =
+    begin_object ∷ number_member (codes "id") x ++ owners_member ks ++ end_object ∷ []
+
+-- the same, where these are the types of the operands
+abbrev pub read_tokens : List PlainInst → List (List ℕ) → List (Option ℕ) → Thing → List Token
+read_tokens is lines us t = owned_tokens lines t (places_in (thing_id is t) us)
+
+-- The value of a fact's member, and of a place and of opcodes that may come further members, as told above: under the
 -- table, of these instructions and their shown lines.
 abbrev pub value_of : Table → List PlainInst → List (List ℕ) → Fact → List Token
 value_of G is lines (fact.At n) = inst_tokens lines n
@@ -193,6 +218,10 @@ value_of G is lines (fact.Types ts) = array (flat_map (thing_tokens lines) ts)
 value_of G is lines (fact.Differs s) = side_tokens s
 value_of G is lines (fact.Wanted t) = thing_tokens lines t
 value_of G is lines (fact.Found t) = thing_tokens lines t
+value_of G is lines (fact.ReadTypes n us ts) = array (flat_map (read_tokens is lines us) ts)
+value_of G is lines (fact.WantedOf n t ks) = owned_tokens lines t ks
+value_of G is lines (fact.FoundOf n t ks) = owned_tokens lines t ks
+value_of G is lines (fact.Size n) = number_token n ∷ []
 value_of G is lines (fact.MissingParent b) = maybe_number (result_of is b)
 value_of G is lines (fact.NoPredecessor n k) = operand_tokens G k (operand_at is n k)
 value_of G is lines (fact.Twice n k) = operand_tokens G k (operand_at is n k)
@@ -214,9 +243,5 @@ abbrev pub members_of : Table → List PlainInst → List (List ℕ) → List Fa
 members_of G is lines facts = flat_map (member_of G is lines) facts
 
 -- of bytes that are no words of a module: what is found, and how to go on, where there is something to tell
-abbrev pub piece_member : Key → Option (List ℕ) → List Token
-piece_member k None = []
-piece_member k (Some text) = key_token k ∷ string text ∷ []
-
 abbrev pub refused_members : WordError → Front → List Token
 refused_members e f = piece_member keys.Found (found_text e f) ++ piece_member keys.Help (help_text e f)

@@ -5,8 +5,9 @@ ghost use Rattle.spv_lines.specs.Text.{ShownLines};
 ghost use Rattle.spv_fault_lines.specs.json_members.Tokens.{array};
 ghost use Rattle.spv_fault_lines.specs.json_members.Members as members;
 
-use crate::json_members::objects::push_thing;
+use crate::json_members::objects::{push_owned, push_thing};
 use crate::json_members::output::Output;
+use crate::owners::places_in;
 use crate::{About, Thing, listed_names, needs_of, push_capability};
 use spv_evidence::Lister;
 use spv_module::Inst;
@@ -81,6 +82,39 @@ pub fn push_things(
     out.begin_array()?;
     for thing in things {
         push_thing(out, about, *thing)?;
+    }
+    out.end_array()
+}
+
+/// Adds a type that is read, and the numbers of the operands that are of it, where these are their types.
+fn push_read_type(
+    out: &mut Output,
+    about: &About<'_, '_>,
+    operands: &[Option<u32>],
+    thing: Thing,
+) -> Result<(), AllocError>
+    ensures { (shown : List (List ℕ)) → ShownLines about.now.table.now [] (plain_insts about.now.«module».now) shown
+        → OnOk result (out.new ≡ out.old ++ members.read_tokens (plain_insts about.now.«module».now) shown operands.now
+        thing) }
+{
+    let places = places_in(about.alloc, about.thing_id(thing), operands)?;
+    push_owned(out, about, thing, &places)
+}
+
+/// Adds an array of types that are read.
+pub fn push_read(
+    out: &mut Output,
+    about: &About<'_, '_>,
+    operands: &[Option<u32>],
+    things: &[Thing],
+) -> Result<(), AllocError>
+    ensures { (shown : List (List ℕ)) → ShownLines about.now.table.now [] (plain_insts about.now.«module».now) shown
+        → OnOk result (out.new ≡ out.old ++ array (flat_map (members.read_tokens (plain_insts about.now.«module».now)
+        shown operands.now) things.now)) }
+{
+    out.begin_array()?;
+    for thing in things {
+        push_read_type(out, about, operands, *thing)?;
     }
     out.end_array()
 }

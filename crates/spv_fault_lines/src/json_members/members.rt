@@ -10,11 +10,12 @@ ghost use Rattle.spv_fault_lines.specs.json_members.Members.{member_of, members_
 ghost use Rattle.spv_fault_lines.specs.declared.key.Key.TheVariants as keys;
 
 use crate::json_members::arrays::{
-    push_capability_name, push_cycle, push_needs, push_opcodes, push_results, push_things,
+    push_capability_name, push_cycle, push_needs, push_opcodes, push_read, push_results,
+    push_things,
 };
 use crate::json_members::objects::{
-    push_bit, push_failing, push_inst, push_opcode, push_operand, push_some_words, push_thing,
-    push_word,
+    push_bit, push_failing, push_inst, push_opcode, push_operand, push_owned, push_some_words,
+    push_thing, push_word,
 };
 use crate::json_members::output::Output;
 use crate::{
@@ -47,11 +48,12 @@ fn result_in(about: &About<'_, '_>, inst: Option<u32>) -> Option<u32>
     }
 }
 
-/// Adds the function of a place, and a member for its block, if there is one.
+/// Adds the function of a place, and members for its name and for its block, if there are such.
 fn push_place(out: &mut Output, about: &About<'_, '_>, place: Place) -> Result<(), AllocError>
     ensures { OnOk result (out.new ≡ out.old ++ members.place_tokens (plain_insts about.now.«module».now) place) }
 {
     out.maybe_number(result_in(about, place.function))?;
+    push_piece(out, Key::Name, about.name_at(place.function))?;
     push_block(out, about, place.block)
 }
 
@@ -135,7 +137,7 @@ fn push_side(out: &mut Output, side: Side) -> Result<(), AllocError>
     }
 }
 
-/// Adds the value of a fact's member, and of a place and of opcodes that may come one member more.
+/// Adds the value of a fact's member, and of a place and of opcodes that may come further members.
 fn push_value(out: &mut Output, about: &About<'_, '_>, fact: &Fact) -> Result<(), AllocError>
     ensures { (shown : List (List ℕ)) → ShownLines about.now.table.now [] (plain_insts about.now.«module».now) shown
         → OnOk result (out.new ≡ out.old ++ value_of about.now.table.now (plain_insts about.now.«module».now) shown
@@ -163,7 +165,8 @@ fn push_value(out: &mut Output, about: &About<'_, '_>, fact: &Fact) -> Result<()
         Fact::Due { kind } => push_due_kind(out, about.alloc, about.table, *kind),
         Fact::Bound { bound: number }
         | Fact::Number { number }
-        | Fact::Operands { count: number } => out.number(*number),
+        | Fact::Operands { count: number }
+        | Fact::Size { count: number } => out.number(*number),
         Fact::LocalTo { function } => out.maybe_number(about.result_of(*function)),
         Fact::Role { role } => out.text(role_name(*role)),
         Fact::Capability { capability, .. } => push_capability_name(out, about, *capability),
@@ -175,6 +178,21 @@ fn push_value(out: &mut Output, about: &About<'_, '_>, fact: &Fact) -> Result<()
         Fact::Types { things } => push_things(out, about, things.as_slice()),
         Fact::Differs { side } => push_side(out, *side),
         Fact::Wanted { thing } | Fact::Found { thing } => push_thing(out, about, *thing),
+        Fact::ReadTypes {
+            operands,
+            things,
+            ..
+        } => push_read(out, about, operands.as_slice(), things.as_slice()),
+        Fact::WantedOf {
+            thing,
+            operands,
+            ..
+        }
+        | Fact::FoundOf {
+            thing,
+            operands,
+            ..
+        } => push_owned(out, about, *thing, operands.as_slice()),
         Fact::MissingParent { block } => out.maybe_number(about.result_of(*block)),
         Fact::Predecessors { blocks } | Fact::Walk { blocks } | Fact::Calls { functions: blocks } =>
             push_results(out, about, blocks.as_slice()),

@@ -5,6 +5,7 @@ ghost use Rattle.spv_module.specs.Module.{plain_insts, plain_operand};
 ghost use Rattle.spv_lines.specs.Text.{ShownLines};
 ghost use Rattle.spv_fault_lines.specs.Lines.{bit_name, operand_at, value_text};
 ghost use Rattle.spv_fault_lines.specs.json_members.Tokens.{number_member, text_member};
+ghost use Rattle.spv_fault_lines.specs.declared.fact.Thing.TheVariants as things;
 ghost use Rattle.spv_fault_lines.specs.json_members.Members as members;
 
 use crate::json_members::arrays::push_words;
@@ -60,6 +61,62 @@ pub fn push_thing(out: &mut Output, about: &About<'_, '_>, thing: Thing) -> Resu
         Thing::Count { count } => out.number(count),
         Thing::Inst { inst } => push_inst(out, about, inst),
         Thing::Id { id } => push_id(out, id),
+    }
+}
+
+/// Adds a member for the numbers of operands.
+fn push_operands(out: &mut Output, operands: &[u32]) -> Result<(), AllocError>
+    ensures { OnOk result (out.new ≡ out.old ++ members.owners_member operands.now) }
+{
+    out.name("operands")?;
+    push_words(out, operands)
+}
+
+/// Adds an instruction with its number and its line, and the numbers of operands.
+fn push_owned_inst(
+    out: &mut Output,
+    about: &About<'_, '_>,
+    inst: u32,
+    operands: &[u32],
+) -> Result<(), AllocError>
+    ensures { (shown : List (List ℕ)) → ShownLines about.now.table.now [] (plain_insts about.now.«module».now) shown
+        → OnOk result (out.new ≡ out.old ++ members.owned_tokens shown (things.Inst inst) operands.now) }
+{
+    let mut line = String::new(about.alloc);
+    about.push_inst(&mut line, inst)?;
+    out.begin_object()?;
+    out.number_member("inst", inst)?;
+    out.text_member("text", line.as_str())?;
+    push_operands(out, operands)?;
+    out.end_object()
+}
+
+/// Adds an id in an object, and the numbers of operands.
+fn push_owned_id(out: &mut Output, id: u32, operands: &[u32]) -> Result<(), AllocError>
+    ensures { (shown : List (List ℕ)) → OnOk result (out.new ≡ out.old
+        ++ members.owned_tokens shown (things.Id id) operands.now) }
+{
+    out.begin_object()?;
+    out.number_member("id", id)?;
+    push_operands(out, operands)?;
+    out.end_object()
+}
+
+/// Adds a type, and the numbers of the operands that are of it.
+pub fn push_owned(
+    out: &mut Output,
+    about: &About<'_, '_>,
+    thing: Thing,
+    operands: &[u32],
+) -> Result<(), AllocError>
+    ensures { (shown : List (List ℕ)) → ShownLines about.now.table.now [] (plain_insts about.now.«module».now) shown
+        → OnOk result (out.new ≡ out.old ++ members.owned_tokens shown thing operands.now) }
+{
+    match thing {
+        Thing::Nothing => out.null(),
+        Thing::Count { count } => out.number(count),
+        Thing::Inst { inst } => push_owned_inst(out, about, inst, operands),
+        Thing::Id { id } => push_owned_id(out, id, operands),
     }
 }
 

@@ -3,21 +3,21 @@ use Rattle.std.specs.Prelude.{ℕ, zero, suc, Option, Some, None, nat_lt, if◌t
 use Rattle.std.specs.Ordering.{nat_cmp}
 use Rattle.std.specs.BTreeMap.{get}
 use Rattle.spv_ids.specs.declared.notes.Notes.{Notes}
-use Rattle.spv_ids.specs.inner.Scattered.{at_place}
+use Rattle.spv_ranks.specs.Rank.{at_rank}
 
 -- what a place says: 0 nothing, else one more than the number
 abbrev pub number_in : ℕ → Option ℕ
 number_in zero = None
 number_in (suc n) = Some n
 
--- what a place says if there is one, and else another number
-abbrev pub number_or : Option ℕ → Option ℕ → Option ℕ
-number_or (Some place) other = number_in place
-number_or None other = other
+-- what a place says, or where it says nothing another number
+abbrev pub number_or : ℕ → Option ℕ → Option ℕ
+number_or zero other = other
+number_or (suc n) other = Some n
 
--- what is kept of an id past the list: what its place among the pairs says, or where it has none what the map has
+-- what is kept of an id past the list: what the place of its rank says, or where that says nothing what the map has
 abbrev pub kept_far : Notes → ℕ → Option ℕ
-kept_far notes x = number_or (at_place notes.scattered x) (get nat_cmp notes.far x)
+kept_far notes x = number_or (at_rank 0 notes.ranked.items notes.ranks x) (get nat_cmp notes.far x)
 
 -- what is kept of an id: what its place in the list says, or past the list what is kept there
 abbrev pub kept : Notes → ℕ → Option ℕ

@@ -2,6 +2,7 @@
 use Rattle.std.specs.Prelude.{◌≡◌, ℕ, List, Option, Some, None, nat_eq, option_map, slice_index_or}
 use Rattle.std.specs.Ordering.{nat_cmp}
 use Rattle.std.specs.BTreeMap.{get}
+use Rattle.spv_ranks.specs.Rank.{at_rank}
 use Rattle.spv_inst.specs.declared.definitions.Definition.{Definition}
 use Rattle.spv_inst.specs.declared.definitions.Definitions.{Definitions}
 use Rattle.spv_inst.specs.declared.reader.Known.{Known}
@@ -14,13 +15,17 @@ use Rattle.spv_module.specs.Width.{definition_of, declared_width, first_id}
 abbrev pub summary : PlainInst → Definition
 summary i = record { type_id = type_in i.operands; is_float = nat_eq i.opcode TYPE_FLOAT; width = declared_width i }
 
--- what is kept of an id: what stands at its place in the list, or where nothing does, what the map has
+-- what is kept of an id: what stands at its place in the list, or where nothing does, at its rank, or where nothing
+-- does there either, what the map has
 abbrev pub or_far : Option Definition → Option Definition → Option Definition
 or_far (Some d) other = Some d
 or_far None other = other
 
+abbrev pub kept_far : Definitions → ℕ → Option Definition
+kept_far d x = or_far (at_rank None d.ranked.items d.ranks x) (get nat_cmp d.far x)
+
 abbrev pub kept : Definitions → ℕ → Option Definition
-kept d x = or_far (slice_index_or d.near.items x None) (get nat_cmp d.far x)
+kept d x = or_far (slice_index_or d.near.items x None) (kept_far d x)
 
 -- For every id, what is kept is the summary of its last definition among the instructions before.
 pub record Knows (d : Definitions) (before : List PlainInst) : Type 0 where

@@ -5,9 +5,10 @@ use Rattle.std.specs.declared.alloc.Global.{Global}
 use Rattle.std.specs.BTreeMap as tree
 use Rattle.std.specs.Ordering.{nat_cmp}
 use Rattle.spv_module.specs.Operand.{PlainInst}
-use Rattle.spv_pictures.specs.Calls.{entry_lines, entry_names, name_of, named_by}
-use Rattle.spv_pictures.specs.declared.names.Naming.{Naming}
-use Rattle.spv_pictures.specs.declared.names.Naming.TheVariants.{Name}
+use Rattle.spv_pictures.specs.Calls.{entry_lines, entry_names}
+use Rattle.spv_names.specs.Names.{name_of, named_by}
+use Rattle.spv_names.specs.declared.naming.Naming.{Naming}
+use Rattle.spv_names.specs.declared.naming.Naming.TheVariants.{Name}
 use Rattle.spv_pictures.specs.declared.calls.Known.{Known}
 use Rattle.spv_module.specs.Module.{plain_inst}
 

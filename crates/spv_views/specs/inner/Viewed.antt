@@ -4,8 +4,8 @@ use Rattle.spv_words.specs.declared.words.WordError.{WordError}
 use Rattle.spv_words.specs.declared.words.WordError.TheVariants.{W1, W9}
 use Rattle.spv_module.specs.declared.fault.Rule.{Rule}
 use Rattle.spv_module.specs.declared.fault.Rule.TheVariants as rule
-use Rattle.spv_verdict.specs.declared.verdict_line.Judgment.TheVariants.{Refused}
-use Rattle.spv_verdict.specs.Text.{line_of}
+use Rattle.spv_check.specs.declared.verdict_line.Judgment.TheVariants.{Refused}
+use Rattle.spv_check.specs.Text.{line_of}
 use Rattle.spv_table.specs.Table.{Table}
 use Rattle.spv_words.specs.Header.{greatest_length}
 use Rattle.spv_explain.specs.Stream.{IsModuleIn}

@@ -22,8 +22,12 @@ from_utf8_unchecked-requires c =
     let low = c.put_octets-start.ensures.low in
     let size = c.put_number-digits.ensures.size in
     let s = rw c.as_bytes.ensures.value at c.put_octets-behind.ensures.low in
-    let last : drop behind one ≡ end = at_end one end _ behind 64 (rw c.as_bytes.ensures.value at c.put_octets-behind.ensures.text) s l1 in
-    let middle : drop digits two ≡ decimal n ++ end = before_end one two (decimal n) end digits behind c.put_number-digits.ensures.text last in
-    let first : drop start three ≡ begin ++ (decimal n ++ end) = before_end two three begin (decimal n ++ end) start digits (rw c.as_bytes-2.ensures.value at c.put_octets-start.ensures.text) middle in
+    let last : drop behind one ≡ end = at_end one end _ behind 64
+    (rw c.as_bytes.ensures.value at c.put_octets-behind.ensures.text) s l1 in
+    let middle : drop digits two ≡ decimal n
+    ++ end = before_end one two (decimal n) end digits behind c.put_number-digits.ensures.text last in
+    let first : drop start three ≡ begin ++ (decimal n ++ end) = before_end two three begin
+    (decimal n ++ end) start digits (rw c.as_bytes-2.ensures.value at c.put_octets-start.ensures.text) middle in
     let r = rest_of three start 64 l3 (omega (arith, low, size, s)) in
-    subst IsUtf8 (sym (r ∙ first)) (IsUtf8-append begin (decimal n ++ end) c.utf8.begin (IsUtf8-append (decimal n) end (number_utf8 n (omega arith)) c.utf8.end))
+    subst IsUtf8 (sym (r ∙ first)) (IsUtf8-append begin (decimal n ++ end) c.utf8.begin
+    (IsUtf8-append (decimal n) end (number_utf8 n (omega arith)) c.utf8.end))

@@ -11,7 +11,8 @@ from_utf8_unchecked-requires c =
     let few = c.requires.few in
     let l = c.put_place-left.auto.buffer ∙ c.requires.size in
     let r = rest_of b (c.put_place-left.result + c.args.omitted) (length b) refl (omega (arith, l, e.within, few)) in
-    subst IsUtf8 (sym (r ∙ place_left b c.put_place-left.result c.args.omitted c.args.at c.args.word e.text few)) (place_utf8 c.args.omitted c.args.at c.args.word (omega arith) (omega arith))
+    subst IsUtf8 (sym (r ∙ place_left b c.put_place-left.result c.args.omitted c.args.at c.args.word e.text few))
+    (place_utf8 c.args.omitted c.args.at c.args.word (omega arith) (omega arith))
 
 pub returns : goal.returns
 returns c =
@@ -20,4 +21,5 @@ returns c =
     let few = c.requires.few in
     let l = c.put_place-left.auto.buffer ∙ c.requires.size in
     let r = rest_of b (c.put_place-left.result + c.args.omitted) (length b) refl (omega (arith, l, e.within, few)) in
-    c.from_utf8_unchecked.ensures ∙ (r ∙ place_left b c.put_place-left.result c.args.omitted c.args.at c.args.word e.text few)
+    c.from_utf8_unchecked.ensures ∙ (r ∙ place_left b c.put_place-left.result c.args.omitted c.args.at c.args.word
+    e.text few)

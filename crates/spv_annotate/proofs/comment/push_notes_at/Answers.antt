@@ -10,5 +10,7 @@ pub returns : goal.returns
 returns c =
     let is = map plain_inst c.args.insts.now in
     let e = inst_read c.args.insts.now c.args.at c.index-insts-at.result c.requires.within c.index-insts-at.is in
-    subst (λ (i : PlainInst). OnOk c.push_notes.result (string_bytes c.push_notes.new.out ≡ string_bytes c.args.out.now ++ notes is (value_in c.args.known.now.values c.args.at) c.args.at i))
+    subst (λ (i : PlainInst). OnOk c.push_notes.result
+    (string_bytes c.push_notes.new.out ≡ string_bytes c.args.out.now
+    ++ notes is (value_in c.args.known.now.values c.args.at) c.args.at i))
     (sym e) c.push_notes.ensures

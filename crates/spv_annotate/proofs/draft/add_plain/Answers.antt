@@ -14,5 +14,6 @@ loop-count-preserved c =
     let p = c.is_plain.ensures c.if-not-is_plain.false in
     record {
       size = length-set _ _ _ ∙ s;
-      copied = copied_more c.args.buffer.now c.loop-count.buffer c.args.octets.now c.args.at c.loop-count.count (omega (arith, r, s, t)) t p i.copied;
+      copied = copied_more c.args.buffer.now c.loop-count.buffer c.args.octets.now c.args.at c.loop-count.count
+          (omega (arith, r, s, t)) t p i.copied;
     }

@@ -9,4 +9,5 @@ pub returns : goal.returns
 returns c =
     let e = c.settle.ensures in
     settled c.settle.result c.args.text.now _ _ _ _ _ _ e.high e.utf8 e.text
-    (added_apart c.args.text.now (string_bytes c.args.out.now) c.args.at c.add_text-added.result c.args.buffer.now _ c.add_text-added.ensures.added)
+    (added_apart c.args.text.now (string_bytes c.args.out.now) c.args.at c.add_text-added.result c.args.buffer.now _
+    c.add_text-added.ensures.added)

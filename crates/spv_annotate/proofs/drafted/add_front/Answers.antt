@@ -23,7 +23,8 @@ loop-front-init c =
     record {
       size = c.add_plain-plain.auto.buffer;
       high = omega (arith, w, c.requires.begin);
-      front = front_plain (kept c.args.definitions.now) c.args.line.now c.add_plain-plain.result c.args.at c.args.buffer.now c.add_plain-plain.new.buffer c.add_plain-plain.ensures;
+      front = front_plain (kept c.args.definitions.now) c.args.line.now c.add_plain-plain.result c.args.at
+          c.args.buffer.now c.add_plain-plain.new.buffer c.add_plain-plain.ensures;
     }
 
 pub loop-front-preserved : goal.loop-front-preserved

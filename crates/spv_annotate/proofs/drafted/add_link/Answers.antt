@@ -8,4 +8,5 @@ returns-clause-added c =
     added_more (codes "<a href=#") _ _ _ _ _ _ _ c.add_text-number.ensures.added
     (added_more (decimal c.args.inst) _ _ _ _ _ _ _ c.add_number-tag.ensures.added
     (added_more (codes ">") _ _ _ _ _ _ _ c.add_text-begin.ensures.added
-    (added_more (take c.args.count c.args.text.now) (codes "</a>") _ _ _ _ _ _ c.add_word-behind.ensures.added c.add_text.ensures.added)))
+    (added_more (take c.args.count c.args.text.now)
+    (codes "</a>") _ _ _ _ _ _ c.add_word-behind.ensures.added c.add_text.ensures.added)))

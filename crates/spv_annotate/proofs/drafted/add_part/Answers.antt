@@ -16,4 +16,5 @@ returns-clause-front c =
     let new = c.add_plain-plain.new.buffer in
     let r = rest_of xs i.read (length xs) refl f.within in
     let p : IsCopied (drop i.read xs) i.at n one new = rw r at c.add_plain-plain.ensures in
-    front_more d xs i.read n c.args.at i.at _ c.args.buffer.now one new f (front_plain d (drop i.read xs) n i.at one new p)
+    front_more d xs i.read n c.args.at i.at _ c.args.buffer.now one new f
+    (front_plain d (drop i.read xs) n i.at one new p)

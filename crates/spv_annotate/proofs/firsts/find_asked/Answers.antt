@@ -18,7 +18,8 @@ loop-at-preserved c =
     let o = ap (λ i. i.opcode) (plain_at c.args.insts.now n c.index-insts-at.result c.loop-at-test.true) in
     record {
       first = c.in_ok-keep_asked.ensures;
-      function = c.function_behind-before.ensures is n o (c.function_at-function.ensures is o c.loop-at.invariant.function);
+      function = c.function_behind-before.ensures is n o
+          (c.function_at-function.ensures is o c.loop-at.invariant.function);
     }
 
 pub returns : goal.returns

@@ -7,6 +7,7 @@ use Rattle.spv_annotate.proofs.firsts.find_asked.Given as goal
 
 abbrev pub invariant-loop-at : goal.invariant-loop-at
 invariant-loop-at l = record {
-  first : (x : ℕ) → kept l.numbers x ≡ asked_below (map plain_inst l.insts) l.asked l.at (definition_of (map plain_inst l.insts) x);
+  first : (x : ℕ) → kept l.numbers x ≡ asked_below (map plain_inst l.insts) l.asked l.at
+      (definition_of (map plain_inst l.insts) x);
   function : l.before ≡ open_function (map plain_inst l.insts) l.at;
 }

@@ -20,7 +20,8 @@ loop-at-preserved c =
     record {
       within = omega arith;
       first = λ x.
-          c.in_ok-keep.ensures x ∙ (ap (λ o. if is_number x o then Some k else kept c.loop-at.numbers x) c.result_id.ensures
+          c.in_ok-keep.ensures x ∙ (ap (λ o. if is_number x o then Some k else kept c.loop-at.numbers x)
+          c.result_id.ensures
           ∙ (ap (λ z. if is_number x (result_in i.operands) then Some k else z) (c.loop-at.invariant.first x)
           ∙ sym (position_step (λ j. is_number x (result_in j.operands)) is k c.loop-at.at i t m)));
     }

@@ -12,5 +12,6 @@ decreases-loop-at l = l.at
 abbrev pub invariant-loop-at : goal.invariant-loop-at
 invariant-loop-at l = record {
   within : l.at ≤ length l.insts;
-  first : (x : ℕ) → kept l.numbers x ≡ position_from (λ i. is_number x (result_in i.operands)) l.at (drop l.at (map plain_inst l.insts));
+  first : (x : ℕ) → kept l.numbers x ≡ position_from (λ i. is_number x (result_in i.operands)) l.at
+      (drop l.at (map plain_inst l.insts));
 }

@@ -20,7 +20,8 @@ loop-at-preserved c =
     record {
       within = omega arith;
       first = λ x.
-          c.in_ok-keep.ensures x ∙ (ap (λ o. if is_number x o then Some k else kept c.loop-at.numbers x) c.named_by.ensures
+          c.in_ok-keep.ensures x ∙ (ap (λ o. if is_number x o then Some k else kept c.loop-at.numbers x)
+          c.named_by.ensures
           ∙ (ap (λ z. if is_number x (named_by i) then Some k else z) (c.loop-at.invariant.first x)
           ∙ sym (position_step (λ j. is_number x (named_by j)) is k c.loop-at.at i t m)));
     }

@@ -28,11 +28,14 @@ returns c =
     let id = c.result_id.result in
     let w = c.requires.within in
     let p = plain_length c.args.insts.now in
-    let r = c.result_id.ensures ∙ ap (λ i. result_in i.operands) (sym (inst_read c.args.insts.now at c.index-insts-at.result w c.index-insts-at.is)) in
+    let r = c.result_id.ensures ∙ ap (λ i. result_in i.operands)
+    (sym (inst_read c.args.insts.now at c.index-insts-at.result w c.index-insts-at.is)) in
     let h = sym (c.is_in_asked.ensures at c.requires.function) ∙ c.if-not-is_in_asked.false in
     IfOk-weaker c.keep_first.result
-    (λ _. (x : ℕ) → kept new x ≡ (if is_number x id && is_number at (kept c.args.definitions.now x) then Some at else kept old x))
+    (λ _. (x : ℕ) → kept new x ≡ (if is_number x id
+    && is_number at (kept c.args.definitions.now x) then Some at else kept old x))
     (λ _. (x : ℕ) → kept new x ≡ asked_below is c.args.asked (at + 1) (definition_of is x))
     (λ _ k x. asked_step is c.args.asked at x id (kept old x) (kept new x) (omega (arith, w, p)) r (c.requires.before x)
-    (k x ∙ ap (λ (o : Option ℕ). if is_number x id && is_number at o then Some at else kept old x) (c.requires.definitions x)) h)
+    (k x ∙ ap (λ (o : Option ℕ). if is_number x id && is_number at o then Some at else kept old x)
+    (c.requires.definitions x)) h)
     c.keep_first.ensures

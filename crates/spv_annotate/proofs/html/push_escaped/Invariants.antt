@@ -5,7 +5,8 @@ use Rattle.spv_annotate.specs.Html.{escaped}
 use Rattle.spv_annotate.proofs.html.push_escaped.Given as goal
 
 abbrev pub invariant-loop-at : goal.invariant-loop-at
-invariant-loop-at l = shadow (Utf8 l.rest) × (string_bytes l.out ++ escaped l.rest ≡ string_bytes l.fn.out ++ escaped l.text)
+invariant-loop-at l =
+    shadow (Utf8 l.rest) × (string_bytes l.out ++ escaped l.rest ≡ string_bytes l.fn.out ++ escaped l.text)
 
 abbrev pub decreases-loop-at : goal.decreases-loop-at
 decreases-loop-at l = length l.rest

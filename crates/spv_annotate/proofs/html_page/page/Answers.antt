@@ -11,7 +11,8 @@ pub find_definitions-requires : goal.find_definitions-requires
 find_definitions-requires c = rw (c.as_slice-insts.ensures.value) (few c.args.module.now.insts.items c.requires.words)
 
 pub find_asked-requires-clause-few : goal.find_asked-requires-clause-few
-find_asked-requires-clause-few c = rw (c.as_slice-insts.ensures.value) (few c.args.module.now.insts.items c.requires.words)
+find_asked-requires-clause-few c =
+    rw (c.as_slice-insts.ensures.value) (few c.args.module.now.insts.items c.requires.words)
 
 pub new-requires-clause-words : goal.new-requires-clause-words
 new-requires-clause-words c = rw (c.as_slice-insts.ensures.value) c.requires.words

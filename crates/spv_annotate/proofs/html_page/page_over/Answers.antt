@@ -17,6 +17,7 @@ page_by-requires-clause-known c =
       naming = λ x. c.in_ok-namings.ensures x ∙ ap (λ z. naming_of (map plain_inst z) x) v;
       users = c.requires.uses;
       fault = c.fault_of.ensures;
-      faulty = c.faulty_of.ensures ∙ ap (λ z. option_and_then (λ f. function_of (map plain_inst z) f.inst) c.args.finding) v;
+      faulty = c.faulty_of.ensures ∙ ap (λ z. option_and_then (λ f. function_of (map plain_inst z) f.inst)
+          c.args.finding) v;
       walked = c.in_ok-walk.ensures;
     }

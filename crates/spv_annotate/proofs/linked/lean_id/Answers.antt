@@ -22,7 +22,8 @@ loop-count-preserved c =
 
 pub returns-then-not-is_digit-clause-count : goal.returns-then-not-is_digit-clause-count
 returns-then-not-is_digit-clause-count c =
-    digits_front c.args.text.now c.loop-count.count c.loop-count.invariant.digits c.loop-count-test.true (sym c.is_digit.ensures ∙ c.if-not-is_digit.true)
+    digits_front c.args.text.now c.loop-count.count c.loop-count.invariant.digits c.loop-count-test.true
+    (sym c.is_digit.ensures ∙ c.if-not-is_digit.true)
 
 pub returns-clause-count : goal.returns-clause-count
 returns-clause-count c =

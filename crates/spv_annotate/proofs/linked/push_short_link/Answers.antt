@@ -11,7 +11,8 @@ from_utf8_unchecked-requires c =
     let b = c.put_link-start.new.buffer in
     let l : length b ≡ 96 = omega (arith, c.put_link-start.auto.buffer) in
     let r = rest_of b c.put_link-start.result 96 l e.within in
-    subst IsUtf8 (sym (r ∙ e.text)) (link_utf8 c.args.inst c.args.word.now c.args.tail.now (omega arith) c.utf8.word c.utf8.tail)
+    subst IsUtf8 (sym (r ∙ e.text)) (link_utf8 c.args.inst c.args.word.now c.args.tail.now
+    (omega arith) c.utf8.word c.utf8.tail)
 
 pub returns : goal.returns
 returns c =
@@ -20,5 +21,6 @@ returns c =
     let l : length b ≡ 96 = omega (arith, c.put_link-start.auto.buffer) in
     let r = rest_of b c.put_link-start.result 96 l e.within in
     let old = string_bytes c.args.out.now in
-    on_pushed c.push_str.result _ (string_bytes c.push_str.new.self) old c.from_utf8_unchecked.result.now c.push_str.ensures.bytes
+    on_pushed c.push_str.result _ (string_bytes c.push_str.new.self) old c.from_utf8_unchecked.result.now
+    c.push_str.ensures.bytes
     (λ p. p ∙ ap (λ z. old ++ z) (c.from_utf8_unchecked.ensures ∙ (r ∙ e.text)))

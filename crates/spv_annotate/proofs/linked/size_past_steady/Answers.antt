@@ -11,4 +11,5 @@ returns-clause-size c =
     let n = c.steady_size-steady.result in
     let s = c.steady_size-steady.ensures in
     let r = rest_of line n (length line) refl s.within in
-    ap (λ k. n + k) (c.size_by_bytes.ensures.size ∙ ap (until_id q) r) ∙ sym (until_skip q line n c.requires s.within s.steady)
+    ap (λ k. n + k) (c.size_by_bytes.ensures.size ∙ ap (until_id q) r)
+    ∙ sym (until_skip q line n c.requires s.within s.steady)

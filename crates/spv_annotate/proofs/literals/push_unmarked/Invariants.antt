@@ -9,7 +9,8 @@ abbrev pub invariant-loop-rest : goal.invariant-loop-rest
 invariant-loop-rest l = record {
   text : shadow (Utf8 l.rest);
   few : l.count + length l.rest ≤ length l.line;
-  all : string_bytes l.out ++ unmarked l.signature l.count Outside l.rest ≡ string_bytes l.fn.out ++ unmarked l.signature 0 Outside l.line;
+  all : string_bytes l.out ++ unmarked l.signature l.count Outside l.rest ≡ string_bytes l.fn.out
+      ++ unmarked l.signature 0 Outside l.line;
 }
 
 abbrev pub decreases-loop-rest : goal.decreases-loop-rest

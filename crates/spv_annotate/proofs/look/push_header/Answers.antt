@@ -10,5 +10,7 @@ returns c =
     let l = escaped c.args.text.now in
     let t = codes "<div>" in
     let one = string_bytes c.args.out.now ++ take c.args.at c.args.buffer.now in
-    drafted_at_once (t ++ l) (string_bytes c.args.out.now) c.args.at c.args.buffer.now (string_bytes c.push_escaped.new.out) c.args.buffer.now
-    (behind one t l (string_bytes c.push_str.new.self) (string_bytes c.push_escaped.new.out) (c.in_ok-push_str.ensures.bytes ∙ ap (λ z. z ++ t) c.in_ok-push_draft.ensures) c.in_ok-push_escaped.ensures)
+    drafted_at_once (t ++ l) (string_bytes c.args.out.now) c.args.at c.args.buffer.now
+    (string_bytes c.push_escaped.new.out) c.args.buffer.now
+    (behind one t l (string_bytes c.push_str.new.self) (string_bytes c.push_escaped.new.out)
+    (c.in_ok-push_str.ensures.bytes ∙ ap (λ z. z ++ t) c.in_ok-push_draft.ensures) c.in_ok-push_escaped.ensures)

@@ -8,5 +8,7 @@ use Rattle.spv_annotate.proofs.names.push_operand_names.Given as goal
 
 abbrev pub invariant-loop-place : goal.invariant-loop-place
 invariant-loop-place l = string_bytes l.out
-    ++ flat_map (name_unless (map plain_inst l.insts) l.named) (filter_map id_in (told_from l.signature l.place (plain_operands (drop l.place l.operands))))
-    ≡ string_bytes l.fn.out ++ flat_map (name_unless (map plain_inst l.insts) l.named) (filter_map id_in (told_from l.signature 0 (plain_operands l.operands)))
+    ++ flat_map (name_unless (map plain_inst l.insts) l.named)
+    (filter_map id_in (told_from l.signature l.place (plain_operands (drop l.place l.operands))))
+    ≡ string_bytes l.fn.out ++ flat_map (name_unless (map plain_inst l.insts) l.named)
+    (filter_map id_in (told_from l.signature 0 (plain_operands l.operands)))

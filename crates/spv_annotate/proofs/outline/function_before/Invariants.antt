@@ -7,4 +7,5 @@ abbrev pub decreases-loop-last : goal.decreases-loop-last
 decreases-loop-last l = l.last
 
 abbrev pub invariant-loop-last : goal.invariant-loop-last
-invariant-loop-last l = open_function (map plain_inst l.insts) l.last ≡ open_function (map plain_inst l.fn.insts) l.fn.at
+invariant-loop-last l =
+    open_function (map plain_inst l.insts) l.last ≡ open_function (map plain_inst l.fn.insts) l.fn.at

@@ -14,9 +14,11 @@ loop-at-preserved g c =
     let n = c.loop-at.at in
     let f = outlined is c.args.asked in
     let i = c.index-insts-at.result in
-    let o : (inst_at is n).opcode ≡ (get_or c.args.insts.now n i).opcode = ap (λ i. i.opcode) (plain_at c.args.insts.now n i c.loop-at-test.true) in
+    let o : (inst_at is n).opcode ≡ (get_or c.args.insts.now n i).opcode = ap (λ i. i.opcode)
+    (plain_at c.args.insts.now n i c.loop-at-test.true) in
     record {
-      written = rw (flat_range_more f n) (written_more g.P.Pen.text g.P.Pen.writes (flat_map f (range_with_len 0 n)) (f n) c.args.pen.now c.loop-at.pen c.write_outlined.new.pen
+      written = rw (flat_range_more f n) (written_more g.P.Pen.text g.P.Pen.writes (flat_map f (range_with_len 0 n))
+          (f n) c.args.pen.now c.loop-at.pen c.write_outlined.new.pen
           c.loop-at.invariant.written c.in_ok-write_outlined.ensures);
       section = c.behind-before.ensures.section is o;
       function = c.behind-before.ensures.function is o c.loop-at.invariant.function;

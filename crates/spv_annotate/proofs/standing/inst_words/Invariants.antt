@@ -6,4 +6,5 @@ use Rattle.spv_annotate.proofs.standing.inst_words.Given as goal
 
 abbrev pub invariant-loop-operand : goal.invariant-loop-operand
 invariant-loop-operand l =
-    l.count + l.operand-index ≡ 1 + length l.operands + sum_by operand_words (take l.operand-index (map plain_operand l.operands))
+    l.count + l.operand-index ≡ 1 + length l.operands + sum_by operand_words
+    (take l.operand-index (map plain_operand l.operands))

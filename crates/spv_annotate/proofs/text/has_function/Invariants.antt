@@ -6,4 +6,5 @@ use Rattle.spv_annotate.proofs.text.has_function.Given as goal
 
 abbrev pub invariant-loop-inst : goal.invariant-loop-inst
 invariant-loop-inst l =
-    list_any (is_function l.id) (map plain_inst (drop l.inst-index l.inst-items)) ≡ list_any (is_function l.id) (map plain_inst l.inst-items)
+    list_any (is_function l.id) (map plain_inst (drop l.inst-index l.inst-items)) ≡ list_any (is_function l.id)
+    (map plain_inst l.inst-items)

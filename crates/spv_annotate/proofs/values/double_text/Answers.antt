@@ -15,7 +15,8 @@ float_from_bits-bits c = T_from_false _ (nan_bits_above binary64 c.args.bits ∙
 
 pub returns : goal.returns
 returns c =
-    IfOk-weaker c.from_str.result (λ t. string_bytes t ≡ c.format.result.now) (λ t. IsValueOf false (Double c.args.bits) (string_bytes t))
+    IfOk-weaker c.from_str.result (λ t. string_bytes t ≡ c.format.result.now)
+    (λ t. IsValueOf false (Double c.args.bits) (string_bytes t))
     (λ t e. subst (λ (z : List ℕ). IsValueOf false (Double c.args.bits) z) (sym e)
     (c.format.ensures.parses, float_tame _ c.format.result.now c.format.ensures.plain c.format.ensures.word))
     c.from_str.ensures.ok

@@ -26,7 +26,8 @@ loop-at-preserved c =
     record {
       done = λ n l. elim (cases_lt n at) [
         | inl low ↦ (let ne : n ≢ at = (λ f. omega arith) in
-            subst (λ (o : Option (String Global)). IsValue (float_of is (inst_at is n)) (text_or_none o)) (sym (k.others n ne)) (v.done n low))
+            subst (λ (o : Option (String Global)). IsValue (float_of is (inst_at is n)) (text_or_none o))
+            (sym (k.others n ne)) (v.done n low))
         | inr high ↦ (let f : at ≡ n = omega arith in
             subst (λ (m : ℕ). IsValue (float_of is (inst_at is m)) (text_or_none (get nat_cmp new m))) f here)
       ];

@@ -9,6 +9,8 @@ use Rattle.spv_annotate.proofs.values.find_values.Given as goal
 
 abbrev pub invariant-loop-at : goal.invariant-loop-at
 invariant-loop-at l = record {
-  done : (n : ℕ) → n < l.at → IsValue (float_of (map plain_inst l.insts) (inst_at (map plain_inst l.insts) n)) (text_or_none (get nat_cmp l.texts n));
+  done : (n : ℕ) → n < l.at
+      → IsValue (float_of (map plain_inst l.insts) (inst_at (map plain_inst l.insts) n))
+      (text_or_none (get nat_cmp l.texts n));
   left : (n : ℕ) → l.at ≤ n → get nat_cmp l.texts n ≡ None;
 }

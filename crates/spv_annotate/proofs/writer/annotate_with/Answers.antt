@@ -1,4 +1,5 @@
-use Rattle.std.proofs.Common.{◌≡◌, ◌∙◌, ℕ, List, [], ap, arith, drop, length, length-append, map, refl, string_bytes, subst, sym, take}
+use Rattle.std.proofs.Common.{◌≡◌, ◌∙◌, ℕ, List, [], ap, arith, drop, length, length-append, map, refl, string_bytes}
+use Rattle.std.proofs.Common.{subst, sym, take}
 use Rattle.std.proofs.lemmas.Result.{IfOk-weaker}
 use Rattle.spv_lines.specs.Text.{ShownLines, header_lines, lines_of}
 use Rattle.spv_module.specs.declared.module.Inst.{Inst}
@@ -18,7 +19,8 @@ pub write_shown-requires-clause-header : goal.write_shown-requires-clause-header
 write_shown-requires-clause-header g c =
     let m = c.args.module.now in
     ap (take 5) (ap lines_of c.as_str.ensures.value
-    ∙ text_lines c.args.table.now m.header (plain_insts m) (string_bytes c.in_ok-text.text) c.in_ok-text.ensures c.requires.spelled)
+    ∙ text_lines c.args.table.now m.header (plain_insts m)
+    (string_bytes c.in_ok-text.text) c.in_ok-text.ensures c.requires.spelled)
 
 pub write_shown-requires-clause-lines : goal.write_shown-requires-clause-lines
 write_shown-requires-clause-lines g c =
@@ -54,10 +56,12 @@ returns g c =
       header = refl;
       insts = refl;
       lines = subst (λ (ls : List (List ℕ)). ShownLines c.args.table.now [] is ls) (sym r) shown.shown;
-      values = subst (λ (xs : List Inst). AreValues (map plain_inst xs) (value_in c.in_ok-known.known.values)) c.as_slice.ensures.value c.in_ok-known.ensures.values;
+      values = subst (λ (xs : List Inst). AreValues (map plain_inst xs) (value_in c.in_ok-known.known.values))
+          c.as_slice.ensures.value c.in_ok-known.ensures.values;
       finding = refl;
       asked = refl;
     } in
     IfOk-weaker c.write_shown.result (λ _. IsWritten text writes (document S) pen c.write_shown.new.pen)
-    (λ _. (T : Subject) × IsSubject c.args.table.now m c.args.finding c.args.function T × IsWritten text writes (document T) pen c.write_shown.new.pen)
+    (λ _. (T : Subject) × IsSubject c.args.table.now m c.args.finding c.args.function T
+    × IsWritten text writes (document T) pen c.write_shown.new.pen)
     (λ _ k. (S, subject, k)) c.write_shown.ensures

@@ -37,6 +37,7 @@ returns g c = λ lines.
     c.as_str.ensures.value ∙ (c.in_ok-push_unmarked.ensures ∙ (ap (λ z. z ++ told) c.new-told.ensures.bytes
     ∙ ap (λ z. unmarked z 0 Outside line) s)) in
     IfOk-weaker c.write_line.result (λ _. IsWritten text writes (line_pieces S at (plain_of c.as_str.result.now)) a b)
-    (λ _. IsWritten text writes (line_pieces S at (plain_of (unmarked (signature_at is (inst_at is at)) 0 Outside line))) a b)
+    (λ _. IsWritten text writes (line_pieces S at
+    (plain_of (unmarked (signature_at is (inst_at is at)) 0 Outside line))) a b)
     (λ _ h. subst (λ (z : List ℕ). IsWritten text writes (line_pieces S at (plain_of z)) a b) t h)
     (c.write_line.ensures lines)

@@ -17,5 +17,6 @@ invariant-loop-at g l = record {
   rest : lines_of l.rest ≡ drop l.at (lines_of l.text);
   tame : l.tame ≡ true → are_tame_lines (lines_of l.rest) ≡ true;
   standing : IsStanding (plain_insts l.task.module.now) l.at l.standing;
-  written : IsWritten g.P.Pen.text g.P.Pen.writes (flat_map (entry (subject_of l.task (lines_of l.text))) (range_with_len 0 l.at)) l.fn.pen l.pen;
+  written : IsWritten g.P.Pen.text g.P.Pen.writes
+      (flat_map (entry (subject_of l.task (lines_of l.text))) (range_with_len 0 l.at)) l.fn.pen l.pen;
 }

@@ -37,15 +37,22 @@ returns g c = λ lines h.
     ∙ ap (λ z. begun (inst_at is at).opcode (section_before is at) (is_some z) at) st.function) in
     let pen = c.args.pen.now in
     let a : IsWritten text writes (beginning is at) pen c.write_beginning.new.pen =
-    subst (λ (ps : List PlainPiece). IsWritten text writes ps pen c.write_beginning.new.pen) eb c.in_ok-write_beginning.ensures in
-    let b : IsWritten text writes (line_pieces S at (plain_of (line_of S at))) c.write_beginning.new.pen c.write_told.new.pen =
-    subst (λ (t : List ℕ). IsWritten text writes (line_pieces S at (plain_of (told_line is (inst_at is at) t))) c.write_beginning.new.pen c.write_told.new.pen) (sym h) (c.in_ok-write_told.ensures lines) in
-    let ab = written_more text writes (beginning is at) (line_pieces S at (plain_of (line_of S at))) pen c.write_beginning.new.pen c.write_told.new.pen a b in
+    subst (λ (ps : List PlainPiece). IsWritten text writes ps pen c.write_beginning.new.pen) eb
+    c.in_ok-write_beginning.ensures in
+    let b : IsWritten text writes (line_pieces S at (plain_of (line_of S at))) c.write_beginning.new.pen
+    c.write_told.new.pen =
+    subst (λ (t : List ℕ). IsWritten text writes
+    (line_pieces S at (plain_of (told_line is (inst_at is at) t))) c.write_beginning.new.pen c.write_told.new.pen)
+    (sym h) (c.in_ok-write_told.ensures lines) in
+    let ab = written_more text writes (beginning is at)
+    (line_pieces S at (plain_of (line_of S at))) pen c.write_beginning.new.pen c.write_told.new.pen a b in
     let all = beginning is at ++ line_pieces S at (plain_of (line_of S at)) ++ marks c.args.task.now.finding at in
-    IfOk-weaker c.write_marks.result (λ _. IsWritten text writes (marks c.args.task.now.finding at) c.write_told.new.pen c.write_marks.new.pen)
+    IfOk-weaker c.write_marks.result (λ _. IsWritten text writes
+    (marks c.args.task.now.finding at) c.write_told.new.pen c.write_marks.new.pen)
     (λ _. IsWritten text writes (entry S at) pen c.write_marks.new.pen)
     (λ _ k. subst (λ (z : Bool). IsWritten text writes (if z then all else []) pen c.write_marks.new.pen) (sym f)
-    (written_more text writes (beginning is at ++ line_pieces S at (plain_of (line_of S at))) (marks c.args.task.now.finding at) pen c.write_told.new.pen c.write_marks.new.pen ab k))
+    (written_more text writes (beginning is at ++ line_pieces S at (plain_of (line_of S at)))
+    (marks c.args.task.now.finding at) pen c.write_told.new.pen c.write_marks.new.pen ab k))
     c.write_marks.ensures
 
 pub returns-then-not-is_asked : goal.returns-then-not-is_asked
@@ -62,7 +69,8 @@ returns-then-not-is_asked g c = λ lines h.
     let fa = c.function_at.ensures is (ap (λ i. i.opcode) e) c.requires.standing.function in
     let f = sym (c.is_asked.ensures at fa) ∙ c.if-not-is_asked.true in
     let all = beginning is at ++ line_pieces S at (plain_of (line_of S at)) ++ marks c.args.task.now.finding at in
-    subst (λ (z : Bool). IsWritten text writes (if z then all else []) c.args.pen.now c.args.pen.now) (sym f) (written_nothing text writes c.args.pen.now)
+    subst (λ (z : Bool). IsWritten text writes (if z then all else []) c.args.pen.now c.args.pen.now) (sym f)
+    (written_nothing text writes c.args.pen.now)
 
 pub index-requires : goal.index-requires
 index-requires g c = grind (arith, common_steps)

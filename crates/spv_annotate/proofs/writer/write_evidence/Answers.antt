@@ -13,7 +13,8 @@ loop-rest-preserved g c =
     record {
       text = search rules;
       done = v.done ++ mark_piece line;
-      written = written_more g.P.Pen.text g.P.Pen.writes v.done (mark_piece line) c.args.pen.now c.loop-rest.pen c.write_mark.new.pen v.written c.in_ok-write_mark.ensures;
+      written = written_more g.P.Pen.text g.P.Pen.writes v.done
+          (mark_piece line) c.args.pen.now c.loop-rest.pen c.write_mark.new.pen v.written c.in_ok-write_mark.ensures;
       left = append_assoc v.done (mark_piece line) (flat_map mark_piece (lines_of further))
           ∙ (ap (λ ls. v.done ++ flat_map mark_piece ls) (sym c.split_line.ensures.lines) ∙ v.left);
     }

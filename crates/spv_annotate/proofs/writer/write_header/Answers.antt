@@ -23,8 +23,12 @@ loop-done-preserved g c =
     let e = sym c.loop-done.invariant.rest ∙ c.split_line.ensures.lines in
     let text = g.P.Pen.text in
     let writes = g.P.Pen.writes in
-    let two = written_more text writes (Header line ∷ []) (Break ∷ []) c.loop-done.pen c.write.new.self c.write-in-loop-done.new.self c.in_ok-write.ensures c.in_ok-write-2.ensures in
-    let all = written_more text writes (flat_map header_piece (take c.loop-done.done ls)) (header_piece line) c.args.pen.now c.loop-done.pen c.write-in-loop-done.new.self c.loop-done.invariant.written two in
+    let two = written_more text writes (Header line ∷ [])
+    (Break ∷ []) c.loop-done.pen c.write.new.self c.write-in-loop-done.new.self c.in_ok-write.ensures
+    c.in_ok-write-2.ensures in
+    let all = written_more text writes (flat_map header_piece (take c.loop-done.done ls))
+    (header_piece line) c.args.pen.now c.loop-done.pen c.write-in-loop-done.new.self c.loop-done.invariant.written
+    two in
     record {
       text = search rules;
       within = omega arith;

@@ -14,5 +14,6 @@ invariant-loop-done g l = record {
   text : shadow (Utf8 l.rest);
   within : l.done ≤ l.count;
   rest : lines_of l.rest ≡ drop l.done (lines_of l.text);
-  written : IsWritten g.P.Pen.text g.P.Pen.writes (flat_map header_piece (take l.done (lines_of l.text))) l.fn.pen l.pen;
+  written : IsWritten g.P.Pen.text g.P.Pen.writes
+      (flat_map header_piece (take l.done (lines_of l.text))) l.fn.pen l.pen;
 }

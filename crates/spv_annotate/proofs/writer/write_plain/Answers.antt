@@ -20,9 +20,11 @@ returns g c = λ lines.
     let b = c.write_both.new.pen in
     let at = c.args.at in
     let line = c.args.line.now in
-    IfOk-weaker c.write_both.result (λ _. IsWritten text writes (Line at line ∷ Comment c.as_str.result.now ∷ Break ∷ []) a b)
+    IfOk-weaker c.write_both.result (λ _. IsWritten text writes
+    (Line at line ∷ Comment c.as_str.result.now ∷ Break ∷ []) a b)
     (λ _. IsWritten text writes (line_pieces (subject_of c.args.task.now lines) at line) a b)
-    (λ _ h. subst (λ (t : List ℕ). IsWritten text writes (Line at line ∷ Comment t ∷ Break ∷ []) a b) (c.as_str.ensures.value ∙ c.in_ok-draft_comment.ensures) h)
+    (λ _ h. subst (λ (t : List ℕ). IsWritten text writes (Line at line ∷ Comment t ∷ Break ∷ []) a b)
+    (c.as_str.ensures.value ∙ c.in_ok-draft_comment.ensures) h)
     c.write_both.ensures
 
 pub returns-then-is_bare : goal.returns-then-is_bare
@@ -39,8 +41,11 @@ returns-then-is_bare g c = λ lines.
     let w = c.requires.within in
     let p = plain_length m.insts.items in
     let e = inst_read m.insts.items at c.index.result.now (omega (arith, w, p)) c.index.ensures in
-    let n : notes is value at (inst_at is at) ≡ [] = ap (notes is value at) e ∙ c.is_bare.ensures is c.requires.known c.if-is_bare.true in
-    IfOk-weaker c.write_bare.result (λ _. IsWritten text writes (Line at line ∷ Comment (gap (length line) ++ place_text at c.args.word) ∷ Break ∷ []) a b)
+    let n : notes is value at (inst_at is at) ≡ [] = ap (notes is value at) e
+    ∙ c.is_bare.ensures is c.requires.known c.if-is_bare.true in
+    IfOk-weaker c.write_bare.result (λ _. IsWritten text writes
+    (Line at line ∷ Comment (gap (length line) ++ place_text at c.args.word) ∷ Break ∷ []) a b)
     (λ _. IsWritten text writes (line_pieces (subject_of c.args.task.now lines) at line) a b)
-    (λ _ h. subst (λ (t : List ℕ). IsWritten text writes (Line at line ∷ Comment t ∷ Break ∷ []) a b) (bare_comment is value at c.args.word line c.requires.word n) h)
+    (λ _ h. subst (λ (t : List ℕ). IsWritten text writes (Line at line ∷ Comment t ∷ Break ∷ []) a b)
+    (bare_comment is value at c.args.word line c.requires.word n) h)
     c.write_bare.ensures

@@ -32,8 +32,11 @@ returns g c =
     let v = verdict_piece t.finding in
     let below = flat_map header_piece h ++ entries S in
     let front : IsWritten text writes (flat_map header_piece h) top one =
-    subst (λ (ls : List (List ℕ)). IsWritten text writes (flat_map header_piece ls) top one) c.requires.header c.in_ok-rest.ensures.written in
-    IfOk-weaker c.write_entries.result (λ _. IsWritten text writes (entries S) one last) (λ _. IsWritten text writes (document S) pen last)
+    subst (λ (ls : List (List ℕ)). IsWritten text writes (flat_map header_piece ls) top one) c.requires.header
+    c.in_ok-rest.ensures.written in
+    IfOk-weaker c.write_entries.result (λ _. IsWritten text writes (entries S) one last)
+    (λ _. IsWritten text writes (document S) pen last)
     (λ _ k. written_more text writes v below pen top last c.in_ok-write_verdict.ensures
     (written_more text writes (flat_map header_piece h) (entries S) top one last front k))
-    (subst (λ (ls : List (List ℕ)). OnOk c.write_entries.result (IsWritten text writes (entries (subject_of t ls)) one last)) c.in_ok-rest.ensures.rest c.write_entries.ensures)
+    (subst (λ (ls : List (List ℕ)). OnOk c.write_entries.result
+    (IsWritten text writes (entries (subject_of t ls)) one last)) c.in_ok-rest.ensures.rest c.write_entries.ensures)

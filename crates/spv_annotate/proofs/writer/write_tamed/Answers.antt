@@ -14,7 +14,8 @@ returns g c = λ lines.
     let b = c.write_plain.new.pen in
     let S = subject_of c.args.task.now lines in
     let plain = plain_of c.args.line.now in
-    let e : c.as_str-text.result.now ≡ plain = c.as_str-text.ensures.value ∙ (c.in_ok-push_plain.ensures ∙ ap (λ z. z ++ plain) c.clear.ensures.bytes) in
+    let e : c.as_str-text.result.now ≡ plain = c.as_str-text.ensures.value
+    ∙ (c.in_ok-push_plain.ensures ∙ ap (λ z. z ++ plain) c.clear.ensures.bytes) in
     IfOk-weaker c.write_plain.result (λ _. IsWritten text writes (line_pieces S c.args.at c.as_str-text.result.now) a b)
     (λ _. IsWritten text writes (line_pieces S c.args.at plain) a b)
     (λ _ k. subst (λ (t : List ℕ). IsWritten text writes (line_pieces S c.args.at t) a b) e k)

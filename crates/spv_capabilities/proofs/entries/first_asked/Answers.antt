@@ -10,7 +10,8 @@ returns-then-not-branch-clause-first c =
     let is = c.args.survey.now.insts in
     let i = plain_inst c.args.inst.now in
     let e : is_asked_more i.opcode ≡ false = sym c.is_asked_more.ensures ∙ c.if-is_asked_more.false in (
-      λ k. let no : false ≡ true = sym c.if-not-branch.true ∙ c.in_ok-are_covered.ensures.answer.1 (covered_then G is i k) in cc,
+      λ k. let no : false ≡ true = sym c.if-not-branch.true
+          ∙ c.in_ok-are_covered.ensures.answer.1 (covered_then G is i k) in cc,
       kept_before_covered G is c.args.number i e,
     )
 
@@ -19,11 +20,14 @@ returns-then-not-keeps_linkage-clause-first c =
     let i = plain_inst c.args.inst.now in
     let e : is_asked_more i.opcode ≡ false = sym c.is_asked_more.ensures ∙ c.if-is_asked_more.false in (
       λ k. let no : false ≡ true = sym c.if-not-keeps_linkage.true ∙ c.keeps_linkage.ensures.1 (λ h. k.linkage h) in cc,
-      kept_before_linkage c.args.survey.now.table c.args.survey.now.insts c.args.number i e (c.in_ok-are_covered.ensures.answer.0 c.if-not-branch.false),
+      kept_before_linkage c.args.survey.now.table c.args.survey.now.insts c.args.number i e
+          (c.in_ok-are_covered.ensures.answer.0 c.if-not-branch.false),
     )
 
 pub returns-clause-first : goal.returns-clause-first
 returns-clause-first c =
     let i = plain_inst c.args.inst.now in
     let e : is_asked_more i.opcode ≡ false = sym c.is_asked_more.ensures ∙ c.if-is_asked_more.false in
-    all_covered c.args.survey.now.table c.args.survey.now.insts c.args.number i e (c.in_ok-are_covered.ensures.answer.0 c.if-not-branch.false) (c.keeps_linkage.ensures.0 c.if-not-keeps_linkage.false)
+    all_covered c.args.survey.now.table c.args.survey.now.insts c.args.number i e
+    (c.in_ok-are_covered.ensures.answer.0 c.if-not-branch.false)
+    (c.keeps_linkage.ensures.0 c.if-not-keeps_linkage.false)

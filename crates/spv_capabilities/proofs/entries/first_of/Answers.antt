@@ -10,4 +10,5 @@ returns-then-is_free-clause-first c =
     all_free s.table s.insts c.args.number (plain_inst c.args.inst.now) c.requires.inst k.0 k.1
 
 pub first_asked-requires-clause-number : goal.first_asked-requires-clause-number
-first_asked-requires-clause-number c = slice_get_within c.args.survey.now.insts c.args.number (plain_inst c.args.inst.now) c.requires.inst
+first_asked-requires-clause-number c =
+    slice_get_within c.args.survey.now.insts c.args.number (plain_inst c.args.inst.now) c.requires.inst

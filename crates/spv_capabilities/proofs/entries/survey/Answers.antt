@@ -6,4 +6,5 @@ use Rattle.spv_capabilities.proofs.entries.survey.Goals as goal
 
 pub new-requires-clause-ids : goal.new-requires-clause-ids
 new-requires-clause-ids c = λ x.
-    subst (λ (l : List Inst). IsDefinitionOf (map plain_inst l) x (definition_in c.args.ids.now x)) (sym c.as_slice.ensures.value) (c.requires.ids x)
+    subst (λ (l : List Inst). IsDefinitionOf (map plain_inst l) x (definition_in c.args.ids.now x))
+    (sym c.as_slice.ensures.value) (c.requires.ids x)

@@ -6,11 +6,13 @@ use Rattle.spv_layout.proofs.Misfits.{inst_there}
 use Rattle.spv_capabilities.proofs.gather.gather.Goals as goal
 
 pub loop-inst-init : goal.loop-inst-init
-loop-inst-init c = c.in_ok-gathered.ensures c.args.linkage (map plain_inst c.args.insts.now) (length-map c.args.insts.now plain_inst)
+loop-inst-init c = c.in_ok-gathered.ensures c.args.linkage (map plain_inst c.args.insts.now)
+    (length-map c.args.insts.now plain_inst)
 
 pub loop-inst-preserved : goal.loop-inst-preserved
 loop-inst-preserved c =
-    let t = inst_there c.args.insts.now c.loop-inst.inst-index c.inst-item.result c.loop-inst-test.true c.inst-item.is in
+    let t = inst_there c.args.insts.now c.loop-inst.inst-index c.inst-item.result c.loop-inst-test.true c.inst-item.is
+    in
     c.in_ok-add.ensures (map plain_inst c.args.insts.now) c.loop-inst.inst-index c.requires t c.loop-inst.invariant
 
 pub returns : goal.returns

@@ -9,5 +9,9 @@ returns c = record {
   capable = record { entry = inr (inl has_kernel); operands = (tt, tt); widths = inl refl };
   not_capable = λ k. elim k.entry [ inl e ↦ cc | inr n ↦ elim n [ inl h ↦ has_no_kernel h | inr z ↦ z ] ];
   linkage = λ e. inr has_linkage;
-  no_linkage = λ k. elim (k refl) [ inl n ↦ no_entry n.0 n.1 | inr h ↦ has_no_other 5 (λ e. absurd (omega (arith, e))) (λ e. absurd (omega (arith, e))) h ];
+  no_linkage = λ k. elim (k refl) [
+    | inl n ↦ no_entry n.0 n.1
+    | inr h ↦
+        has_no_other 5 (λ e. absurd (omega (arith, e))) (λ e. absurd (omega (arith, e))) h
+  ];
 }

@@ -9,9 +9,21 @@ returns c = record {
   entry = inr (inl has_kernel);
   no_entry = λ h. elim h [ inl e ↦ cc | inr n ↦ elim n [ inl k ↦ has_no_kernel k | inr z ↦ z ] ];
   one_of_two = λ o. (inr (inr (inl has_kernel)), tt);
-  unknown_name = λ f. elim ((f (λ e. let no : Some 0 ≡ Some 1 = e in cc)).1.0) [ inl e ↦ cc | inr n ↦ elim n [ inl k ↦ k | inr z ↦ z ] ];
+  unknown_name = λ f. elim ((f (λ e. let no : Some 0 ≡ Some 1 = e in cc)).1.0) [
+    | inl e ↦ cc
+    | inr n ↦
+        elim n [ inl k ↦ k | inr z ↦ z ]
+  ];
   no_bit = λ o. tt;
   capability = λ o. absurd (o refl);
   vector = inr (inl has_vectors);
-  short = λ h. elim h [ inl e ↦ cc | inr n ↦ elim n [ inl k ↦ has_no_other 22 (λ e. absurd (omega (arith, e))) (λ e. absurd (omega (arith, e))) k | inr z ↦ z ] ];
+  short = λ h. elim h [
+    | inl e ↦ cc
+    | inr n ↦
+        elim n [
+          | inl k ↦ has_no_other 22 (λ e. absurd (omega (arith, e))) (λ e. absurd (omega (arith, e))) k
+          | inr z ↦
+              z
+        ]
+  ];
 }

@@ -17,5 +17,9 @@ returns c = record {
       (record { entry = tt; operands = (tt, tt); widths = inl refl })
       (λ e. absurd (omega (arith, e)))
       (λ e. absurd (omega (arith, e)))
-      (record { entry = λ e. absurd (omega (arith, e)); mode = λ e. absurd (omega (arith, e)); linkage = λ e. absurd (omega (arith, e)) });
+      (record {
+        entry = λ e. absurd (omega (arith, e));
+        mode = λ e. absurd (omega (arith, e));
+        linkage = λ e. absurd (omega (arith, e));
+      });
 }

@@ -6,7 +6,8 @@ pub returns-in-Ok-clause-ends : goal.returns-in-Ok-clause-ends
 returns-in-Ok-clause-ends g c =
     let comes = c.in_ok-image.ensures.comes in
     record {
-      whole = made_all c.args.table.now c.args.order c.args.explain _ c.in-Made.image _ _ _ (rw c.in-Made.is at comes) c.in-Ok.ensures.all;
+      whole = made_all c.args.table.now c.args.order c.args.explain _ c.in-Made.image _ _ _
+          (rw c.in-Made.is at comes) c.in-Ok.ensures.all;
       failed = search rules;
       unwritten = search rules;
       unmade = search rules;
@@ -21,14 +22,16 @@ returns-in-Made-clause-ends g c =
       failed = search rules;
       unwritten = search rules;
       unmade = search rules;
-      begun = λ _. made_begun c.args.table.now c.args.order c.args.explain _ c.in-Made.image _ _ _ (rw c.in-Made.is at comes) c.write_image.ensures.begun;
+      begun = λ _. made_begun c.args.table.now c.args.order c.args.explain _ c.in-Made.image _ _ _
+          (rw c.in-Made.is at comes) c.write_image.ensures.begun;
     }
 
 pub returns-in-Ok-write_all-clause-ends : goal.returns-in-Ok-write_all-clause-ends
 returns-in-Ok-write_all-clause-ends g c =
     let comes = c.in_ok-image.ensures.comes in
     record {
-      whole = failed_all c.args.table.now c.args.order c.args.explain _ _ c.as_slice.result.now _ _ _ (rw c.in-Fault.is at comes) (c.as_slice.ensures ∙ c.text_fault.ensures) c.in-Ok-write_all.ensures.all;
+      whole = failed_all c.args.table.now c.args.order c.args.explain _ _ c.as_slice.result.now _ _ _
+          (rw c.in-Fault.is at comes) (c.as_slice.ensures ∙ c.text_fault.ensures) c.in-Ok-write_all.ensures.all;
       failed = search rules;
       unwritten = search rules;
       unmade = search rules;
@@ -43,14 +46,16 @@ returns-in-Fault-clause-ends g c =
       failed = search rules;
       unwritten = search rules;
       unmade = search rules;
-      begun = λ _. failed_begun c.args.table.now c.args.order c.args.explain _ _ c.as_slice.result.now _ _ _ (rw c.in-Fault.is at comes) (c.as_slice.ensures ∙ c.text_fault.ensures) c.write_all.ensures.begun;
+      begun = λ _. failed_begun c.args.table.now c.args.order c.args.explain _ _ c.as_slice.result.now _ _ _
+          (rw c.in-Fault.is at comes) (c.as_slice.ensures ∙ c.text_fault.ensures) c.write_all.ensures.begun;
     }
 
 pub returns-in-Ok-write_all-2-clause-ends : goal.returns-in-Ok-write_all-2-clause-ends
 returns-in-Ok-write_all-2-clause-ends g c =
     let comes = c.in_ok-image.ensures.comes in
     record {
-      whole = failed_all c.args.table.now c.args.order c.args.explain _ _ c.as_slice-in-Told.result.now _ _ _ (rw c.in-Told.is at comes) c.as_slice-in-Told.ensures.value c.in-Ok-write_all-2.ensures.all;
+      whole = failed_all c.args.table.now c.args.order c.args.explain _ _ c.as_slice-in-Told.result.now _ _ _
+          (rw c.in-Told.is at comes) c.as_slice-in-Told.ensures.value c.in-Ok-write_all-2.ensures.all;
       failed = search rules;
       unwritten = search rules;
       unmade = search rules;
@@ -65,5 +70,6 @@ returns-clause-ends g c =
       failed = search rules;
       unwritten = search rules;
       unmade = search rules;
-      begun = λ _. failed_begun c.args.table.now c.args.order c.args.explain _ _ c.as_slice-in-Told.result.now _ _ _ (rw c.in-Told.is at comes) c.as_slice-in-Told.ensures.value c.write_all-in-Told.ensures.begun;
+      begun = λ _. failed_begun c.args.table.now c.args.order c.args.explain _ _ c.as_slice-in-Told.result.now _ _ _
+          (rw c.in-Told.is at comes) c.as_slice-in-Told.ensures.value c.write_all-in-Told.ensures.begun;
     }

@@ -4,7 +4,8 @@ use Rattle.spv_commands.proofs.Worked.{empty_given, never_unread, no_third, noth
 use Rattle.spv_commands.proofs.laws.answer_examples.Goals as goal
 
 pub returns-clause-answers : goal.returns-clause-answers
-returns-clause-answers c = λ g f. show_answers g f empty_table (empty_given c.table_examples.ensures.gives) c.examples.ensures.size_first
+returns-clause-answers c =
+    λ g f. show_answers g f empty_table (empty_given c.table_examples.ensures.gives) c.examples.ensures.size_first
 
 pub returns-clause-not_answered : goal.returns-clause-not_answered
 returns-clause-not_answered c = λ command text file out made err. no_third command text file out made err 3 refl

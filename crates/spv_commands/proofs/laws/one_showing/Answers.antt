@@ -7,7 +7,8 @@ use Rattle.spv_commands.proofs.laws.one_showing.Goals as goal
 
 pub returns : goal.returns
 returns c =
-    let one : (G : Table) (bytes o p : List ℕ) (a b : Bool) → IsShowing G bytes o a → IsShowing G bytes p b → SameShowing o p a b =
+    let one : (G : Table) (bytes o p : List ℕ) (a b : Bool) → IsShowing G bytes o a → IsShowing G bytes p b
+    → SameShowing o p a b =
     showings.one_showing (record {
       words = c.one_word_list.ensures.order;
       once = c.one_refusal.ensures.once;

@@ -9,18 +9,27 @@ returns-in_err-write_all-clause-begun g c =
     let n = c.min-size.result in
     let at = c.loop-at.at in
     let steps = c.args.steps.now in
-    let lent = rest_by c.put_lines-begin.new.block c.put_lines-begin.result _ (omega (arith, c.put_lines-begin.auto.block)) in
-    let part = lent ∙ c.put_lines-begin.ensures.lines ∙ ap (flat_map step_line) (part_lent steps at n (at + n - at) (omega arith)) in
-    steps_begun _ _ _ _ _ steps _ at n c.loop-at.invariant (omega (arith, c.min-size.ensures, c.loop-at.invariant.fits)) part c.in_err-write_all.ensures.begun
+    let lent = rest_by c.put_lines-begin.new.block c.put_lines-begin.result _
+    (omega (arith, c.put_lines-begin.auto.block)) in
+    let part = lent ∙ c.put_lines-begin.ensures.lines
+    ∙ ap (flat_map step_line) (part_lent steps at n (at + n - at) (omega arith)) in
+    steps_begun _ _ _ _ _ steps _ at n c.loop-at.invariant
+    (omega (arith, c.min-size.ensures, c.loop-at.invariant.fits)) part c.in_err-write_all.ensures.begun
 
 pub loop-at-preserved : goal.loop-at-preserved
 loop-at-preserved g c =
     let n = c.min-size.result in
     let at = c.loop-at.at in
     let steps = c.args.steps.now in
-    let lent = rest_by c.put_lines-begin.new.block c.put_lines-begin.result _ (omega (arith, c.put_lines-begin.auto.block)) in
-    let part = lent ∙ c.put_lines-begin.ensures.lines ∙ ap (flat_map step_line) (part_lent steps at n (at + n - at) (omega arith)) in
-    steps_more _ _ _ _ _ _ steps _ at n c.loop-at.invariant (omega (arith, c.min-size.ensures, c.loop-at.invariant.fits)) part c.in_ok-write_all.ensures.all c.in_ok-write_all.ensures.steady
+    let lent = rest_by c.put_lines-begin.new.block c.put_lines-begin.result _
+    (omega (arith, c.put_lines-begin.auto.block)) in
+    let part = lent ∙ c.put_lines-begin.ensures.lines
+    ∙ ap (flat_map step_line) (part_lent steps at n (at + n - at) (omega arith)) in
+    steps_more _ _ _ _ _ _ steps _ at n c.loop-at.invariant
+    (omega (arith, c.min-size.ensures, c.loop-at.invariant.fits)) part c.in_ok-write_all.ensures.all
+    c.in_ok-write_all.ensures.steady
 
 pub returns-clause-begun : goal.returns-clause-begun
-returns-clause-begun g c = begun_all _ _ (flat_map step_line c.args.steps.now) (steps_all _ _ _ _ c.args.steps.now c.loop-at.at c.loop-at.invariant c.loop-at-test.false)
+returns-clause-begun g c =
+    begun_all _ _ (flat_map step_line c.args.steps.now)
+    (steps_all _ _ _ _ c.args.steps.now c.loop-at.at c.loop-at.invariant c.loop-at-test.false)

@@ -4,4 +4,6 @@ use Rattle.spv_commands.proofs.TraceLines.{begun_last}
 use Rattle.spv_commands.proofs.trace_lines.write_trace.Goals as goal
 
 pub returns-clause-begun : goal.returns-clause-begun
-returns-clause-begun g c = begun_last _ _ _ (flat_map step_line c.args.steps.now) (ending_line c.args.ending) c.in_ok-write_steps.ensures.all (rw c.ending_text.ensures at c.write_all.ensures.begun)
+returns-clause-begun g c =
+    begun_last _ _ _ (flat_map step_line c.args.steps.now) (ending_line c.args.ending) c.in_ok-write_steps.ensures.all
+    (rw c.ending_text.ensures at c.write_all.ensures.begun)

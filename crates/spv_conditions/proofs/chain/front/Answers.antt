@@ -7,7 +7,8 @@ use Rattle.spv_conditions.proofs.chain.front.Goals as goal
 
 pub returns-then-count-operands : goal.returns-then-count-operands
 returns-then-count-operands c =
-    ap ids_in (sym (take-map plain_operand c.args.count c.args.operands.now)) ∙ front_ids (plain_operands c.args.operands.now) c.args.count
+    ap ids_in (sym (take-map plain_operand c.args.count c.args.operands.now))
+    ∙ front_ids (plain_operands c.args.operands.now) c.args.count
 
 pub returns-else-count-operands : goal.returns-else-count-operands
 returns-else-count-operands c =

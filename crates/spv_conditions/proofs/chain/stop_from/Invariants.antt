@@ -7,5 +7,6 @@ use Rattle.spv_conditions.proofs.chain.stop_from.Given as goal
 abbrev pub invariant-loop-operand : goal.invariant-loop-operand
 invariant-loop-operand l = record {
   place : l.number ≡ l.operand-index;
-  left : stop_from l.definitions 0 (ids_in (plain_operands l.indexes)) l.t ≡ stop_from l.definitions l.number (ids_in (plain_operands (drop l.operand-index l.indexes))) l.at;
+  left : stop_from l.definitions 0 (ids_in (plain_operands l.indexes)) l.t ≡ stop_from l.definitions l.number
+      (ids_in (plain_operands (drop l.operand-index l.indexes))) l.at;
 }

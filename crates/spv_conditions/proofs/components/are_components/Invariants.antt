@@ -6,4 +6,6 @@ use Rattle.spv_conditions.specs.Rest.{IsComponent}
 use Rattle.spv_conditions.proofs.components.are_components.Given as goal
 
 abbrev pub invariant-loop-operand : goal.invariant-loop-operand
-invariant-loop-operand l = AllByRecursion (IsComponent l.n) (words_in (plain_operands (drop l.operand-index l.operands))) ↔ AllByRecursion (IsComponent l.n) (words_in (plain_operands l.operands))
+invariant-loop-operand l =
+    AllByRecursion (IsComponent l.n) (words_in (plain_operands (drop l.operand-index l.operands)))
+    ↔ AllByRecursion (IsComponent l.n) (words_in (plain_operands l.operands))

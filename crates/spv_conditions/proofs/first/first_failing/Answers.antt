@@ -11,7 +11,8 @@ returns-in-Some c =
     let line = c.args.line.now in
     let k = c.loop-k.k in
     let n = length c.args.types.now in
-    let front = line_front P line k n _ (conditions_in line n) (slice_get-get_or line k _ c.loop-k-test.true) c.loop-k.invariant in
+    let front = line_front P line k n _ (conditions_in line n)
+    (slice_get-get_or line k _ c.loop-k-test.true) c.loop-k.invariant in
     some_fail P _ (conditions_in (drop (k + 1) line) n) (conditions_in line n) c.in-Some.asked front c.in-Some.ensures
 
 pub loop-k-preserved : goal.loop-k-preserved
@@ -20,8 +21,11 @@ loop-k-preserved c =
     let line = c.args.line.now in
     let k = c.loop-k.k in
     let n = length c.args.types.now in
-    let front = line_front P line k n _ (conditions_in line n) (slice_get-get_or line k _ c.loop-k-test.true) c.loop-k.invariant in
+    let front = line_front P line k n _ (conditions_in line n)
+    (slice_get-get_or line k _ c.loop-k-test.true) c.loop-k.invariant in
     some_more P _ (conditions_in (drop (k + 1) line) n) (conditions_in line n) front c.in_default.ensures
 
 pub returns : goal.returns
-returns c = line_end (HoldsOf c.args.definitions.now c.args.number (plain_inst c.args.inst.now) c.args.r c.args.types.now) c.args.line.now c.loop-k.k (length c.args.types.now) (conditions_in c.args.line.now (length c.args.types.now)) c.loop-k-test.false c.loop-k.invariant
+returns c = line_end (HoldsOf c.args.definitions.now c.args.number
+    (plain_inst c.args.inst.now) c.args.r c.args.types.now) c.args.line.now c.loop-k.k (length c.args.types.now)
+    (conditions_in c.args.line.now (length c.args.types.now)) c.loop-k-test.false c.loop-k.invariant

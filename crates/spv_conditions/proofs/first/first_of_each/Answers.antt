@@ -27,4 +27,6 @@ loop-k-preserved c =
     (subst P c.of_each-asked.ensures (c.holds.ensures.0 c.if-not-holds.false))
 
 pub returns : goal.returns
-returns c = each_end (HoldsOf c.args.definitions.now c.args.number (plain_inst c.args.inst.now) c.args.r c.args.types.now) c.args.each c.loop-k.k (length c.args.types.now) (each_from c.args.each 0 (length c.args.types.now)) c.loop-k-test.false c.loop-k.invariant
+returns c = each_end (HoldsOf c.args.definitions.now c.args.number
+    (plain_inst c.args.inst.now) c.args.r c.args.types.now) c.args.each c.loop-k.k (length c.args.types.now)
+    (each_from c.args.each 0 (length c.args.types.now)) c.loop-k-test.false c.loop-k.invariant

@@ -5,4 +5,5 @@ use Rattle.spv_conditions.proofs.lemmas.Listing.{Held}
 use Rattle.spv_conditions.proofs.first.first_of_each.Given as goal
 
 abbrev pub invariant-loop-k : goal.invariant-loop-k
-invariant-loop-k l = Held (HoldsOf l.definitions l.number (plain_inst l.inst) l.r l.types) (each_from l.each l.k (l.count - l.k)) (each_from l.each 0 l.count)
+invariant-loop-k l = Held (HoldsOf l.definitions l.number (plain_inst l.inst) l.r l.types)
+    (each_from l.each l.k (l.count - l.k)) (each_from l.each 0 l.count)

@@ -22,11 +22,13 @@ returns-then-not-holds c =
     let b = asked.Rest (rest.Chosen e (k - first_index e)) in
     let left = indexes_from e (k + 1) (n - (k + 1)) in
     let whole = indexes_from e (first_index e) (n - first_index e) in
-    let held : Held P (indexes_from e k (n - k)) whole = subst (λ (m : ℕ). Held P (indexes_from e k (n - k)) (indexes_from e m (n - m))) first c.loop-k.invariant in
+    let held : Held P (indexes_from e k (n - k)) whole = subst
+    (λ (m : ℕ). Held P (indexes_from e k (n - k)) (indexes_from e m (n - m))) first c.loop-k.invariant in
     let front = index_front P e k n whole c.loop-k-test.true held in
     let same = sym c.is_index-asked.ensures in
     subst (λ (q : Asked). FailsFirst P whole q) same
-    (one_fails P a (b ∷ left) whole front (λ h. let on = c.holds.ensures.1 (subst P same h) in let off = c.if-not-holds.true in cc))
+    (one_fails P a (b ∷ left) whole front (λ h. let on = c.holds.ensures.1 (subst P same h) in
+    let off = c.if-not-holds.true in cc))
 
 pub returns-then-not-leads_past : goal.returns-then-not-leads_past
 returns-then-not-leads_past c =
@@ -39,14 +41,17 @@ returns-then-not-leads_past c =
     let b = asked.Rest (rest.Chosen e (k - first_index e)) in
     let left = indexes_from e (k + 1) (n - (k + 1)) in
     let whole = indexes_from e (first_index e) (n - first_index e) in
-    let held : Held P (indexes_from e k (n - k)) whole = subst (λ (m : ℕ). Held P (indexes_from e k (n - k)) (indexes_from e m (n - m))) first c.loop-k.invariant in
+    let held : Held P (indexes_from e k (n - k)) whole = subst
+    (λ (m : ℕ). Held P (indexes_from e k (n - k)) (indexes_from e m (n - m))) first c.loop-k.invariant in
     let front = index_front P e k n whole c.loop-k-test.true held in
     let holds = subst P c.is_index-asked.ensures (c.holds.ensures.0 c.if-not-holds.false) in
     let next = one_more P a (b ∷ left) whole front holds in
     let stops = c.stops_of-stops.ensures e (k - first_index e) in
-    let same : b ≡ c.is_chosen.result = sym (c.is_chosen.ensures ∙ ap (λ (m : ℕ). asked.Rest (rest.Chosen e (k - m))) first) in
+    let same : b ≡ c.is_chosen.result = sym
+    (c.is_chosen.ensures ∙ ap (λ (m : ℕ). asked.Rest (rest.Chosen e (k - m))) first) in
     subst (λ (q : Asked). FailsFirst P whole q) same
-    (one_fails P b left whole next (λ h. let on = c.leads_past.ensures.1 (rw (← first) at (stops.1 h)) in let off = c.if-not-leads_past.true in cc))
+    (one_fails P b left whole next (λ h. let on = c.leads_past.ensures.1 (rw (← first) at (stops.1 h)) in
+    let off = c.if-not-leads_past.true in cc))
 
 pub loop-k-preserved : goal.loop-k-preserved
 loop-k-preserved c =
@@ -59,7 +64,8 @@ loop-k-preserved c =
     let b = asked.Rest (rest.Chosen e (k - first_index e)) in
     let left = indexes_from e (k + 1) (n - (k + 1)) in
     let whole = indexes_from e (first_index e) (n - first_index e) in
-    let held : Held P (indexes_from e k (n - k)) whole = subst (λ (m : ℕ). Held P (indexes_from e k (n - k)) (indexes_from e m (n - m))) first c.loop-k.invariant in
+    let held : Held P (indexes_from e k (n - k)) whole = subst
+    (λ (m : ℕ). Held P (indexes_from e k (n - k)) (indexes_from e m (n - m))) first c.loop-k.invariant in
     let front = index_front P e k n whole c.loop-k-test.true held in
     let holds = subst P c.is_index-asked.ensures (c.holds.ensures.0 c.if-not-holds.false) in
     let next = one_more P a (b ∷ left) whole front holds in
@@ -73,5 +79,6 @@ returns c =
     let e = c.args.element in
     let k = c.loop-k.k in
     let n = length c.args.types.now in
-    let held = subst (λ (m : ℕ). Held P (indexes_from e k (n - k)) (indexes_from e m (n - m))) c.first_index-first.ensures c.loop-k.invariant in
+    let held = subst (λ (m : ℕ). Held P (indexes_from e k (n - k)) (indexes_from e m (n - m)))
+    c.first_index-first.ensures c.loop-k.invariant in
     index_end P e k n (indexes_from e (first_index e) (n - first_index e)) c.loop-k-test.false held

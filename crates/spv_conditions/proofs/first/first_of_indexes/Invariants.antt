@@ -5,4 +5,5 @@ use Rattle.spv_conditions.proofs.lemmas.Listing.{Held}
 use Rattle.spv_conditions.proofs.first.first_of_indexes.Given as goal
 
 abbrev pub invariant-loop-k : goal.invariant-loop-k
-invariant-loop-k l = Held (HoldsOf l.definitions l.number (plain_inst l.inst) l.r l.types) (indexes_from l.element l.k (l.count - l.k)) (indexes_from l.element l.first (l.count - l.first))
+invariant-loop-k l = Held (HoldsOf l.definitions l.number (plain_inst l.inst) l.r l.types)
+    (indexes_from l.element l.k (l.count - l.k)) (indexes_from l.element l.first (l.count - l.first))

@@ -6,4 +6,6 @@ use Rattle.spv_conditions.specs.Variable.{MayInitialize}
 use Rattle.spv_conditions.proofs.variable.all_initialize.Given as goal
 
 abbrev pub invariant-loop-operand : goal.invariant-loop-operand
-invariant-loop-operand l = AllByRecursion (MayInitialize l.definitions) (ids_in (plain_operands (drop l.operand-index l.operands))) ↔ AllByRecursion (MayInitialize l.definitions) (ids_in (plain_operands l.operands))
+invariant-loop-operand l =
+    AllByRecursion (MayInitialize l.definitions) (ids_in (plain_operands (drop l.operand-index l.operands)))
+    ↔ AllByRecursion (MayInitialize l.definitions) (ids_in (plain_operands l.operands))

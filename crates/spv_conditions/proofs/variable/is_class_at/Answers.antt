@@ -5,7 +5,8 @@ use Rattle.spv_conditions.proofs.variable.is_class_at.Goals as goal
 pub returns-in-Some : goal.returns-in-Some
 returns-in-Some c =
     let is = c.args.definitions.now in
-    let o = of_function is c.args.number c.in-Some.field-0 c.place-place.result.function c.place-place.ensures.function c.in-Some.is in
+    let o = of_function is c.args.number c.in-Some.field-0 c.place-place.result.function c.place-place.ensures.function
+    c.in-Some.is in
     let d = class_inside is c.args.number c.in-Some.field-0 c.args.class o in
     (λ y. d.0 (eqb-true c.args.class 7 y), λ r. eq-eqb c.args.class 7 (d.1 r))
 

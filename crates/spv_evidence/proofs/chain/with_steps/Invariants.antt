@@ -5,4 +5,7 @@ use Rattle.spv_evidence.specs.Chain.{steps_from}
 use Rattle.spv_evidence.proofs.chain.with_steps.Given as goal
 
 abbrev pub invariant-loop-operand : goal.invariant-loop-operand
-invariant-loop-operand l = l.types.items ++ steps_from l.definitions (ids_in (plain_operands (drop l.operand-index l.indexes))) l.at ≡ l.fn.begun.items ++ steps_from l.definitions (ids_in (plain_operands l.indexes)) l.t
+invariant-loop-operand l =
+    l.types.items ++ steps_from l.definitions
+    (ids_in (plain_operands (drop l.operand-index l.indexes))) l.at ≡ l.fn.begun.items
+    ++ steps_from l.definitions (ids_in (plain_operands l.indexes)) l.t

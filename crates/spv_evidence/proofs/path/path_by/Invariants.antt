@@ -5,4 +5,6 @@ use Rattle.spv_evidence.specs.Path.{path_by}
 use Rattle.spv_evidence.proofs.path.path_by.Given as goal
 
 abbrev pub invariant-loop-operand : goal.invariant-loop-operand
-invariant-loop-operand l = path_by l.definitions (words_in (plain_operands l.operands)) l.t ≡ l.types.items ++ path_by l.definitions (words_in (plain_operands (drop l.operand-index l.operands))) l.at
+invariant-loop-operand l =
+    path_by l.definitions (words_in (plain_operands l.operands)) l.t ≡ l.types.items
+    ++ path_by l.definitions (words_in (plain_operands (drop l.operand-index l.operands))) l.at

@@ -9,5 +9,6 @@ pub returns : goal.returns
 returns c =
     let G = c.args.about.now.table.now in
     (subst (λ (xs : List PlainInst). (shown : List (List ℕ)) → ShownLines G [] xs shown
-    → OnOk c.push_members.result (c.push_members.new.out ≡ c.args.out.now ++ members_of G xs shown c.args.facts.now)) c.requires.none c.push_members.ensures)
+    → OnOk c.push_members.result (c.push_members.new.out ≡ c.args.out.now ++ members_of G xs shown c.args.facts.now))
+    c.requires.none c.push_members.ensures)
     [] (ShownLines.end [])

@@ -18,7 +18,8 @@ returns-in_ok-layout_evidence-in-Decoded c = λ reach refused.
     let is = plain_insts c.args.module.now in
     let f = c.args.fault in
     let r = rw c.in-Decoded.is at refused in
-    layout_shown G reach _ is f _ (c.in_ok-layout_evidence-in-Decoded.ensures G (refused_broken G is (stop.Fault f) f refl r))
+    layout_shown G reach _ is f _ (c.in_ok-layout_evidence-in-Decoded.ensures G
+    (refused_broken G is (stop.Fault f) f refl r))
 
 pub id_evidence-requires-clause-first : goal.id_evidence-requires-clause-first
 id_evidence-requires-clause-first c =

@@ -6,14 +6,18 @@ use Rattle.spv_explain.proofs.evidence.flow_evidence.Goals as goal
 
 pub returns-then-is_of_values : goal.returns-then-is_of_values
 returns-then-is_of_values c = λ G reach plan ids first.
-    let v = values_of G (plain_insts c.args.module.now) c.args.fault.rule c.args.fault.inst (sym c.is_of_values.ensures ∙ c.if-is_of_values.true) first in
+    let v = values_of G (plain_insts c.args.module.now) c.args.fault.rule c.args.fault.inst
+    (sym c.is_of_values.ensures ∙ c.if-is_of_values.true) first in
     walk_shown G reach _ _ c.args.fault _ (c.in_ok-walk_evidence.ensures G plan ids v.0)
 
 pub returns-then-is_of_calls : goal.returns-then-is_of_calls
 returns-then-is_of_calls c = λ G reach plan ids first.
-    call_shown G reach _ _ c.args.fault _ (the_call c.args.fault.rule (sym c.is_of_calls.ensures ∙ c.if-is_of_calls.true)) c.in_ok-call_evidence.ensures
+    call_shown G reach _ _ c.args.fault _ (the_call c.args.fault.rule
+    (sym c.is_of_calls.ensures ∙ c.if-is_of_calls.true)) c.in_ok-call_evidence.ensures
 
 pub returns : goal.returns
 returns c = λ G reach plan ids first.
-    branch_shown G reach _ _ c.args.fault _ (c.in_ok-branch_evidence.ensures G plan (branches_of G (plain_insts c.args.module.now) c.args.fault.rule c.args.fault.inst
+    branch_shown G reach _ _ c.args.fault _
+    (c.in_ok-branch_evidence.ensures G plan
+    (branches_of G (plain_insts c.args.module.now) c.args.fault.rule c.args.fault.inst
     (sym c.is_of_values.ensures ∙ c.if-is_of_values.false) (sym c.is_of_calls.ensures ∙ c.if-is_of_calls.false) first))

@@ -1,4 +1,5 @@
-use Rattle.spv_explain.proofs.WorkedJson.{code_told, escaped_told, found_told, late_told, not_full_told, not_named_told, unnamed_told, unread_told, valid_told}
+use Rattle.spv_explain.proofs.WorkedJson.{code_told, escaped_told, found_told, late_told, not_full_told, not_named_told}
+use Rattle.spv_explain.proofs.WorkedJson.{unnamed_told, unread_told, valid_told}
 use Rattle.spv_explain.proofs.laws.json_examples.Goals as goal
 
 pub returns-clause-valid : goal.returns-clause-valid

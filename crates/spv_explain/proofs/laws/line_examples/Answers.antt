@@ -1,4 +1,5 @@
-use Rattle.spv_explain.proofs.Worked.{classes_told, earlier_told, escape_told, kept_told, late_told, names_told, not_later_told, operand_told}
+use Rattle.spv_explain.proofs.Worked.{classes_told, earlier_told, escape_told, kept_told, late_told, names_told}
+use Rattle.spv_explain.proofs.Worked.{not_later_told, operand_told}
 use Rattle.spv_explain.proofs.laws.line_examples.Goals as goal
 
 pub returns-clause-earlier : goal.returns-clause-earlier

@@ -1,4 +1,5 @@
-use Rattle.spv_explain.proofs.Worked.{earlier_version_told, few_told, later_version_told, no_magic_told, not_turned_told, one_told}
+use Rattle.spv_explain.proofs.Worked.{earlier_version_told, few_told, later_version_told, no_magic_told}
+use Rattle.spv_explain.proofs.Worked.{not_turned_told, one_told}
 use Rattle.spv_explain.proofs.laws.refused_examples.Goals as goal
 
 pub returns-clause-few : goal.returns-clause-few

@@ -6,7 +6,8 @@ returns-clause-verdict c = answered c.args.table.now c.args.reach c.args.image.n
 
 pub returns-clause-shown : goal.returns-clause-shown
 returns-clause-shown c =
-    shown c.one_listing.ensures c.listed_or_dead.ensures c.args.table.now c.args.reach c.args.image.now _ c.explained_of.ensures
+    shown c.one_listing.ensures c.listed_or_dead.ensures c.args.table.now c.args.reach c.args.image.now _
+    c.explained_of.ensures
 
 pub returns-clause-dead : goal.returns-clause-dead
 returns-clause-dead c = shown_dead c.args.table.now c.args.reach c.args.image.now _ c.explained_of.ensures

@@ -1,8 +1,8 @@
 use Rattle.std.proofs.Common.{◌∙◌, drop, subst, sym}
 use Rattle.spv_module.specs.Module.{plain_insts}
-use Rattle.spv_verdict.specs.Judged.{IsJudged}
-use Rattle.spv_verdict.specs.Reading.{IsReading}
-use Rattle.spv_verdict.proofs.Judgments.{valid_answer}
+use Rattle.spv_check.specs.Judged.{IsJudged}
+use Rattle.spv_check.specs.Reading.{IsReading}
+use Rattle.spv_check.proofs.Judgments.{valid_answer}
 use Rattle.spv_explain.proofs.Readings.{broken_reading}
 use Rattle.spv_explain.proofs.reading.explained_of.Goals as goal
 
@@ -53,5 +53,7 @@ returns-in_ok-spelled-in-Broken c =
     let reach = c.args.reach in
     let m = c.in-Ok.module in
     let j = subst (λ j. IsJudged G reach m.header.bound (plain_insts m) j) c.in-Broken.is c.in_ok-checked.ensures in
-    broken_reading c.one_listing.ensures G reach c.args.image.now m c.in-Broken.module _ c.in-Broken.fault _ _ c.in-Ok.ensures.header
-    c.in-Ok.ensures.found j (c.in_ok-evidence-in-Broken.ensures reach (rw (j.same_bound, j.same_insts) j.refused)) c.in_ok-spelled-in-Broken.ensures.listing c.in_ok-spelled-in-Broken.ensures.header
+    broken_reading c.one_listing.ensures G reach c.args.image.now m c.in-Broken.module _ c.in-Broken.fault _ _
+    c.in-Ok.ensures.header
+    c.in-Ok.ensures.found j (c.in_ok-evidence-in-Broken.ensures reach (rw (j.same_bound, j.same_insts) j.refused))
+    c.in_ok-spelled-in-Broken.ensures.listing c.in_ok-spelled-in-Broken.ensures.header

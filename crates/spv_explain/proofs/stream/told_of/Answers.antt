@@ -1,6 +1,6 @@
 use Rattle.std.proofs.Common.{◌-◌, ℕ, Ok, arith, drop, length-drop, subst}
 use Rattle.spv_module.specs.Module.{plain_insts}
-use Rattle.spv_verdict.proofs.Verdicts.{Laws}
+use Rattle.spv_check.proofs.Verdicts.{Laws}
 use Rattle.spv_explain.specs.inner.Reading.{IsExplained}
 use Rattle.spv_explain.proofs.Tellings.{as_spelled, broken_told, dead_told, few_insts, some_module, valid_told}
 use Rattle.spv_explain.proofs.stream.told_of.Goals as goal
@@ -21,7 +21,8 @@ returns-in-Ok-Valid c =
     let r = subst (λ r. IsExplained G reach words r) c.in-Ok-Valid.field-0-is c.in-Ok-Valid.ensures in
     record {
       explanation = λ bytes order h.
-          valid_told laws c.args.detail G reach bytes words order c.in-Ok-Valid.checked c.valid_told.result.explanation h r
+          valid_told laws c.args.detail G reach bytes words order c.in-Ok-Valid.checked c.valid_told.result.explanation
+          h r
           c.valid_told.ensures.verdict c.valid_told.ensures.lines;
       decoded = λ e.
           some_module G words c.in-Ok-Valid.checked.insts c.valid_told.result.«module» c.valid_told.ensures.decoded
@@ -45,7 +46,8 @@ returns-in_ok-explanation-in-Ok-Malformed c =
     let r = subst (λ r. IsExplained G reach words r) c.in-Ok-Malformed.field-0-is c.in-Ok-Malformed.ensures in
     record {
       explanation = λ bytes order h.
-          dead_told {E = ℕ} laws c.args.detail G reach bytes words order f c.in-Ok-Malformed.evidence (Ok c.in_ok-explanation-in-Ok-Malformed.explanation) h
+          dead_told {E = ℕ} laws c.args.detail G reach bytes words order f c.in-Ok-Malformed.evidence
+          (Ok c.in_ok-explanation-in-Ok-Malformed.explanation) h
           r.0 r.1 c.in_ok-explanation-in-Ok-Malformed.ensures.verdict c.in_ok-explanation-in-Ok-Malformed.ensures.lines;
       decoded = λ e is l. c.listed_or_dead.ensures G is (drop 5 words) f.rule f.inst (f.word - 5) l r.0.1;
     }
@@ -79,7 +81,8 @@ returns-in_ok-explanation-in-Ok-Broken c =
     let t = (c.shown_reads_back.ensures.shown G m.header (plain_insts m) (drop 5 words) b.listing).1 in
     record {
       explanation = λ bytes order h.
-          broken_told {E = ℕ} laws c.args.detail G reach bytes words order c.in-Ok-Broken.fault c.in-Ok-Broken.evidence m t.lines
+          broken_told {E = ℕ} laws c.args.detail G reach bytes words order c.in-Ok-Broken.fault c.in-Ok-Broken.evidence
+          m t.lines
           (Ok c.in_ok-explanation-in-Ok-Broken.explanation) h b t.shown c.in_ok-explanation-in-Ok-Broken.ensures.verdict
           (c.in_ok-explanation-in-Ok-Broken.ensures.lines t.lines t.shown);
       decoded = λ e. record { listing = b.listing; header = b.header };

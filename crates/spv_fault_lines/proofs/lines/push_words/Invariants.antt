@@ -4,4 +4,5 @@ use Rattle.spv_fault_lines.proofs.lines.push_words.Given as goal
 
 abbrev pub invariant-loop-word : goal.invariant-loop-word
 invariant-loop-word l =
-    string_bytes l.out ++ flat_map word_part (drop l.word-index l.fn.words) ≡ string_bytes l.initial.out ++ flat_map word_part l.fn.words
+    string_bytes l.out ++ flat_map word_part (drop l.word-index l.fn.words) ≡ string_bytes l.initial.out
+    ++ flat_map word_part l.fn.words

@@ -5,5 +5,6 @@ use Rattle.spv_fault_lines.proofs.words.push_lone_lines.Goals as goal
 
 pub returns : goal.returns
 returns c =
-    lone c.args.about.detail c.args.about.table.now (plain_insts c.args.about.«module».now) c.requires.none c.push_lines.result
+    lone c.args.about.detail c.args.about.table.now
+    (plain_insts c.args.about.«module».now) c.requires.none c.push_lines.result
     (string_bytes c.args.out.now) (string_bytes c.push_lines.new.out) c.args.facts.now c.push_lines.ensures

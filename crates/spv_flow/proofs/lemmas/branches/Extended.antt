@@ -1,4 +1,5 @@
--- An OpExtInst before %7, whose operand behind its number is %7: as a value that it takes, as an id that it names, or as
+-- An OpExtInst before %7, whose operand behind its number is %7: as a value that it takes, as an id that it names, or
+-- as
 -- one that is not looked at.
 use Rattle.std.proofs.Common.{◌≡◌, ◌⊎◌, inl, inr, ℕ, zero, suc, List, [], ◌∷◌, Some, None, refl, sym, true, arith}
 use Rattle.std.specs.Prelude.{slice_get}
@@ -55,22 +56,37 @@ extended_classes o = refl
 -- as a value that it takes, it is used
 
 argument_used : IsUse small (extended (Argument 7)) 4 7 role.Value
-argument_used = record { forms = extended_forms; has = has_extended_forms (Argument 7) refl; form = form.Unseen; operand = Argument 7; form_at = refl; operand_at = refl; role = refl; id = refl }
+argument_used = record {
+  forms = extended_forms;
+  has = has_extended_forms (Argument 7) refl;
+  form = form.Unseen;
+  operand = Argument 7;
+  form_at = refl;
+  operand_at = refl;
+  role = refl;
+  id = refl;
+}
 
 pub argument_missed : IsMissing small (extended_early (Argument 7)) 2
-argument_missed = missed_by (extended (Argument 7)) 4 (extended_classes (Argument 7)) (λ t. let e = t in cc) argument_used
+argument_missed = missed_by (extended (Argument 7)) 4 (extended_classes (Argument 7))
+    (λ t. let e = t in cc) argument_used
 
 -- else its type and its set are all that it uses
 
-used_by : (o p : Plain) (k x : ℕ) (f : Form) (r : Role) → role_of form.Unseen o ≡ None → slice_get extended_forms k ≡ Some f → slice_get (extended_operands o) k ≡ Some p → role_of f p ≡ Some r → id_of p ≡ Some x → (x ≡ 20) ⊎ (x ≡ 3)
+used_by : (o p : Plain) (k x : ℕ) (f : Form) (r : Role) → role_of form.Unseen o ≡ None
+    → slice_get extended_forms k ≡ Some f → slice_get (extended_operands o) k ≡ Some p → role_of f p ≡ Some r
+    → id_of p ≡ Some x → (x ≡ 20) ⊎ (x ≡ 3)
 used_by o p zero x f r n a b c d = let e : OfType 20 ≡ p = cc in let s = rw (← e) at d in inl (sym (same_Some 20 x s))
 used_by o p (suc zero) x f r n a b c d = let e : R ≡ f = cc in let s : None ≡ Some r = rw (← e) at c in cc
-used_by o p (suc (suc zero)) x f r n a b c d = let e : Id 3 ≡ p = cc in let s = rw (← e) at d in inr (sym (same_Some 3 x s))
+used_by o p (suc (suc zero)) x f r n a b c d = let e : Id 3 ≡ p = cc in let s = rw (← e) at d in
+    inr (sym (same_Some 3 x s))
 used_by o p (suc (suc (suc zero))) x f r n a b c d = let e : W ≡ f = cc in let s : None ≡ Some r = rw (← e) at c in cc
-used_by o p (suc (suc (suc (suc zero)))) x f r n a b c d = let e : form.Unseen ≡ f = cc in let g : o ≡ p = cc in let s = rw (← e, ← g) at c in cc
+used_by o p (suc (suc (suc (suc zero)))) x f r n a b c d = let e : form.Unseen ≡ f = cc in let g : o ≡ p = cc in
+    let s = rw (← e, ← g) at c in cc
 used_by o p (suc (suc (suc (suc (suc k))))) x f r n a b c d = cc
 
-used_only : (o : Plain) (k x : ℕ) (r : Role) → is_of small form.Unseen o ≡ true → role_of form.Unseen o ≡ None → IsUse small (extended o) k x r → (x ≡ 20) ⊎ (x ≡ 3)
+used_only : (o : Plain) (k x : ℕ) (r : Role) → is_of small form.Unseen o ≡ true → role_of form.Unseen o ≡ None
+    → IsUse small (extended o) k x r → (x ≡ 20) ⊎ (x ≡ 3)
 used_only o k x r h n u =
     let e = forms_same small (extended o) u.forms extended_forms u.has (has_extended_forms o h) in
     let f : slice_get extended_forms k ≡ Some u.form = rw e at u.form_at in
@@ -97,7 +113,8 @@ undefined o (suc (suc (suc zero))) x s d =
     elim s [ inl a ↦ omega (arith, k, a) | inr a ↦ omega (arith, k, a) ]
 undefined o (suc (suc (suc (suc m)))) x s d = let t = d.there in cc
 
-not_missed : (o : Plain) → is_of small form.Unseen o ≡ true → role_of form.Unseen o ≡ None → ¬ (IsMissing small (extended_early o) 2)
+not_missed : (o : Plain) → is_of small form.Unseen o ≡ true → role_of form.Unseen o ≡ None
+    → ¬ (IsMissing small (extended_early o) 2)
 not_missed o h n m =
     let u = use_in small (extended_early o) 2 m.operand m.id m.role (extended o) refl m.used in
     undefined o m.local.place m.id (used_only o m.operand m.id m.role h n u) m.local.defined

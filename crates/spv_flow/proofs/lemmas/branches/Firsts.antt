@@ -1,5 +1,6 @@
 -- Which of the rules F can be broken at an instruction, by its opcode.
-use Rattle.std.proofs.Common.{◌≡◌, ◌≤◌, ◌<◌, ◌+◌, ◌∙◌, inl, inr, ℕ, List, Bool, true, Option, Some, None, map, length, nat_eq, refl, sym, ap, subst, arith}
+use Rattle.std.proofs.Common.{◌≡◌, ◌≤◌, ◌<◌, ◌+◌, ◌∙◌, inl, inr, ℕ, List, Bool, true, Option, Some, None, map, length}
+use Rattle.std.proofs.Common.{nat_eq, refl, sym, ap, subst, arith}
 use Rattle.std.specs.Prelude.{slice_get, IsSomeAnd, IsTrue}
 use Rattle.std.proofs.lemmas.Bool.{eqb-true, cases_lt, cases_order}
 use Rattle.std.proofs.lemmas.Bool.Decides.{nat_tests}
@@ -31,7 +32,8 @@ pub record Holds (is : List PlainInst) (n : ℕ) (test : ℕ → Bool) : Type 0 
   pub there : slice_get is n ≡ Some inst
   pub holds : test inst.opcode ≡ true
 
-holds_by : (is : List PlainInst) (n : ℕ) (test : ℕ → Bool) (p : Option PlainInst) → slice_get is n ≡ p → IsSomeAnd p (λ i. IsTrue (test i.opcode)) → Holds is n test
+holds_by : (is : List PlainInst) (n : ℕ) (test : ℕ → Bool) (p : Option PlainInst) → slice_get is n ≡ p
+    → IsSomeAnd p (λ i. IsTrue (test i.opcode)) → Holds is n test
 holds_by is n test None e h = absurd h
 holds_by is n test (Some i) e h = record { inst = i; there = e; holds = h }
 
@@ -39,15 +41,18 @@ pub holds : (is : List PlainInst) (n : ℕ) (test : ℕ → Bool) → IsOp is n 
 holds is n test o = holds_by is n test (slice_get is n) refl o
 
 -- a test that another one implies
-pub op_moved : (is : List PlainInst) (n : ℕ) (one two : ℕ → Bool) → ((x : ℕ) → one x ≡ true → two x ≡ true) → IsOp is n one → IsOp is n two
+pub op_moved : (is : List PlainInst) (n : ℕ) (one two : ℕ → Bool) → ((x : ℕ) → one x ≡ true → two x ≡ true)
+    → IsOp is n one → IsOp is n two
 op_moved is n one two t o = let h = holds is n one o in op_holds is n h.inst two h.there (t h.inst.opcode h.holds)
 
 -- two tests of one opcode
-pub both_hold : (is : List PlainInst) (n : ℕ) (one two : ℕ → Bool) → IsOp is n one → IsOp is n two → (x : ℕ) × (one x ≡ true) × (two x ≡ true)
+pub both_hold : (is : List PlainInst) (n : ℕ) (one two : ℕ → Bool) → IsOp is n one → IsOp is n two
+    → (x : ℕ) × (one x ≡ true) × (two x ≡ true)
 both_hold is n one two o p = let h = holds is n one o in (h.inst.opcode, h.holds, op_tells is n h.inst two h.there p)
 
 -- a test of a known opcode
-pub known : (is : List PlainInst) (n k : ℕ) (test : ℕ → Bool) → IsOp is n (λ x. nat_eq x k) → IsOp is n test → test k ≡ true
+pub known : (is : List PlainInst) (n k : ℕ) (test : ℕ → Bool) → IsOp is n (λ x. nat_eq x k) → IsOp is n test
+    → test k ≡ true
 known is n k test o p =
     let h = both_hold is n (λ x. nat_eq x k) test o p in
     subst (λ (x : ℕ). test x ≡ true) (eqb-true h.0 k h.1) h.2
@@ -90,12 +95,18 @@ data IsPlaced (G : Table) (is : List PlainInst) (q : Rule) (n : ℕ) : Type 0 wh
   of_merge : IsOp is n is_merge → AtMerge G is n q → IsPlaced G is q n
   of_branch : IsOp is n is_branch → AtBranch G is n q → IsPlaced G is q n
 
-placed : (G : Table) (is : List PlainInst) (q : Rule) (n : ℕ) → stage_of q ≡ of_branches → Broken G is q n → IsPlaced G is q n
-placed G is _ _ s (Broken.no_label n k x (inl b) used none) = of_branch b (AtBranch.lacks (record { operand = k; id = x; used = used; none = none }))
-placed G is _ _ s (Broken.no_label n k x (inr m) used none) = of_merge m (AtMerge.lacks (record { operand = k; id = x; used = used; none = none }))
-placed G is _ _ s (Broken.to_entry n x m target d e) = of_branch target.branch (AtBranch.entry (record { operand = target.operand; id = x; used = target.used; place = m; defined = d; entry = e }))
+placed : (G : Table) (is : List PlainInst) (q : Rule) (n : ℕ) → stage_of q ≡ of_branches → Broken G is q n
+    → IsPlaced G is q n
+placed G is _ _ s (Broken.no_label n k x (inl b) used none) =
+    of_branch b (AtBranch.lacks (record { operand = k; id = x; used = used; none = none }))
+placed G is _ _ s (Broken.no_label n k x (inr m) used none) =
+    of_merge m (AtMerge.lacks (record { operand = k; id = x; used = used; none = none }))
+placed G is _ _ s (Broken.to_entry n x m target d e) =
+    of_branch target.branch (AtBranch.entry
+    (record { operand = target.operand; id = x; used = target.used; place = m; defined = d; entry = e }))
 placed G is _ _ s (Broken.parents n phi not) = of_phi phi refl not
-placed G is _ _ s (Broken.same_labels n x op u w) = of_branch (conditional_branches is n op) (AtBranch.same op (record { id = x; one = u; two = w }))
+placed G is _ _ s (Broken.same_labels n x op u w) =
+    of_branch (conditional_branches is n op) (AtBranch.same op (record { id = x; one = u; two = w }))
 placed G is _ _ s _ = absurd (cc)
 
 -- an instruction at which a rule is broken is there
@@ -107,52 +118,69 @@ within G is q n (of_phi op e not) = op_within is n is_phi op
 within G is q n (of_merge op m) = op_within is n is_merge op
 within G is q n (of_branch op b) = op_within is n is_branch op
 
-pub broken_within : (G : Table) (is : List PlainInst) (q : Rule) (n : ℕ) → stage_of q ≡ of_branches → Broken G is q n → n < length is
+pub broken_within : (G : Table) (is : List PlainInst) (q : Rule) (n : ℕ) → stage_of q ≡ of_branches → Broken G is q n
+    → n < length is
 broken_within G is q n s b = within G is q n (placed G is q n s b)
 
 -- what is broken there, by the opcode
-phi_apart : (is : List PlainInst) (n : ℕ) (test : ℕ → Bool) → (test opcode.PHI ≡ true → ⊥) → IsOp is n is_phi → IsOp is n test → ⊥
+phi_apart : (is : List PlainInst) (n : ℕ) (test : ℕ → Bool) → (test opcode.PHI ≡ true → ⊥) → IsOp is n is_phi
+    → IsOp is n test → ⊥
 phi_apart is n test never phi op = never (known is n opcode.PHI test phi op)
 
-phi_placed : (G : Table) (is : List PlainInst) (q : Rule) (n : ℕ) → IsOp is n is_phi → IsPlaced G is q n → (q ≡ F3) × ¬ (HasParents G is n)
+phi_placed : (G : Table) (is : List PlainInst) (q : Rule) (n : ℕ) → IsOp is n is_phi → IsPlaced G is q n
+    → (q ≡ F3) × ¬ (HasParents G is n)
 phi_placed G is q n phi (of_phi op e not) = (e, not)
 phi_placed G is q n phi (of_merge op m) = absurd (phi_apart is n is_merge (λ h. cc) phi op)
 phi_placed G is q n phi (of_branch op b) = absurd (phi_apart is n is_branch (λ h. cc) phi op)
 
-pub at_phi : (G : Table) (is : List PlainInst) (q : Rule) (n : ℕ) → IsOp is n is_phi → stage_of q ≡ of_branches → Broken G is q n → (q ≡ F3) × ¬ (HasParents G is n)
+pub at_phi : (G : Table) (is : List PlainInst) (q : Rule) (n : ℕ) → IsOp is n is_phi → stage_of q ≡ of_branches
+    → Broken G is q n → (q ≡ F3) × ¬ (HasParents G is n)
 at_phi G is q n phi s b = phi_placed G is q n phi (placed G is q n s b)
 
-merge_placed : (G : Table) (is : List PlainInst) (q : Rule) (n : ℕ) → IsOp is n is_merge → IsPlaced G is q n → AtMerge G is n q
+merge_placed : (G : Table) (is : List PlainInst) (q : Rule) (n : ℕ) → IsOp is n is_merge → IsPlaced G is q n
+    → AtMerge G is n q
 merge_placed G is q n merge (of_phi op e not) = absurd (phi_apart is n is_merge (λ h. cc) op merge)
 merge_placed G is q n merge (of_merge op m) = m
 merge_placed G is q n merge (of_branch op b) = absurd (merge_apart is n merge op)
 
-at_merge : (G : Table) (is : List PlainInst) (q : Rule) (n : ℕ) → IsOp is n is_merge → stage_of q ≡ of_branches → Broken G is q n → AtMerge G is n q
+at_merge : (G : Table) (is : List PlainInst) (q : Rule) (n : ℕ) → IsOp is n is_merge → stage_of q ≡ of_branches
+    → Broken G is q n → AtMerge G is n q
 at_merge G is q n merge s b = merge_placed G is q n merge (placed G is q n s b)
 
-branch_placed : (G : Table) (is : List PlainInst) (q : Rule) (n : ℕ) → IsOp is n is_branch → IsPlaced G is q n → AtBranch G is n q
+branch_placed : (G : Table) (is : List PlainInst) (q : Rule) (n : ℕ) → IsOp is n is_branch → IsPlaced G is q n
+    → AtBranch G is n q
 branch_placed G is q n branch (of_phi op e not) = absurd (phi_apart is n is_branch (λ h. cc) op branch)
 branch_placed G is q n branch (of_merge op m) = absurd (merge_apart is n op branch)
 branch_placed G is q n branch (of_branch op b) = b
 
-at_branch : (G : Table) (is : List PlainInst) (q : Rule) (n : ℕ) → IsOp is n is_branch → stage_of q ≡ of_branches → Broken G is q n → AtBranch G is n q
+at_branch : (G : Table) (is : List PlainInst) (q : Rule) (n : ℕ) → IsOp is n is_branch → stage_of q ≡ of_branches
+    → Broken G is q n → AtBranch G is n q
 at_branch G is q n branch s b = branch_placed G is q n branch (placed G is q n s b)
 
-other_placed : (G : Table) (is : List PlainInst) (q : Rule) (n : ℕ) → ¬ (IsOp is n is_phi) → ¬ (IsOp is n is_merge) → ¬ (IsOp is n is_branch) → ¬ (IsPlaced G is q n)
+other_placed : (G : Table) (is : List PlainInst) (q : Rule) (n : ℕ) → ¬ (IsOp is n is_phi) → ¬ (IsOp is n is_merge)
+    → ¬ (IsOp is n is_branch) → ¬ (IsPlaced G is q n)
 other_placed G is q n not_phi not_merge not_branch (of_phi op e not) = not_phi op
 other_placed G is q n not_phi not_merge not_branch (of_merge op m) = not_merge op
 other_placed G is q n not_phi not_merge not_branch (of_branch op b) = not_branch op
 
 -- nothing is broken at an instruction that is no OpPhi, no merge and no branch
-pub at_other : (G : Table) (is : List PlainInst) (q : Rule) (n : ℕ) → ¬ (IsOp is n is_phi) → ¬ (IsOp is n is_merge) → ¬ (IsOp is n is_branch) → stage_of q ≡ of_branches → ¬ (Broken G is q n)
-at_other G is q n not_phi not_merge not_branch s b = other_placed G is q n not_phi not_merge not_branch (placed G is q n s b)
+pub at_other : (G : Table) (is : List PlainInst) (q : Rule) (n : ℕ) → ¬ (IsOp is n is_phi) → ¬ (IsOp is n is_merge)
+    → ¬ (IsOp is n is_branch) → stage_of q ≡ of_branches → ¬ (Broken G is q n)
+at_other G is q n not_phi not_merge not_branch s b =
+    other_placed G is q n not_phi not_merge not_branch (placed G is q n s b)
 
 labelled : (G : Table) (is : List PlainInst) (n : ℕ) → HasLabels G is n → ¬ (LacksLabel G is n)
 labelled G is n has l = let h = has l.operand l.id l.used in l.none h.0 h.1
 
 -- The first rule, by what was found.
-pub phi_broken : (G : Table) (is : List PlainInst) (n : ℕ) → IsOp is n is_phi → ¬ (HasParents G is n) → IsFirstAt G is n (Some F3)
-phi_broken G is n phi not = (refl, Broken.parents n phi not, λ q s b. let e = (at_phi G is q n phi s b).0 in subst (λ (r : Rule). rank_of F3 ≤ rank_of r) (sym e) (omega arith))
+pub phi_broken : (G : Table) (is : List PlainInst) (n : ℕ) → IsOp is n is_phi → ¬ (HasParents G is n)
+    → IsFirstAt G is n (Some F3)
+phi_broken G is n phi not = (
+  refl,
+  Broken.parents n phi not,
+  λ q s b. let e = (at_phi G is q n phi s b).0 in
+      subst (λ (r : Rule). rank_of F3 ≤ rank_of r) (sym e) (omega arith),
+)
 
 pub phi_fine : (G : Table) (is : List PlainInst) (n : ℕ) → IsOp is n is_phi → HasParents G is n → IsFirstAt G is n None
 phi_fine G is n phi has = λ q s b. (at_phi G is q n phi s b).1 has
@@ -163,10 +191,16 @@ first_of_merge G is n _ (AtMerge.lacks l) = omega arith
 none_of_merge : (G : Table) (is : List PlainInst) (n : ℕ) (q : Rule) → HasLabels G is n → AtMerge G is n q → ⊥
 none_of_merge G is n _ has (AtMerge.lacks l) = labelled G is n has l
 
-pub merge_broken : (G : Table) (is : List PlainInst) (n : ℕ) → IsOp is n is_merge → LacksLabel G is n → IsFirstAt G is n (Some F1)
-merge_broken G is n merge l = (refl, Broken.no_label n l.operand l.id (inr merge) l.used l.none, λ q s b. first_of_merge G is n q (at_merge G is q n merge s b))
+pub merge_broken : (G : Table) (is : List PlainInst) (n : ℕ) → IsOp is n is_merge → LacksLabel G is n
+    → IsFirstAt G is n (Some F1)
+merge_broken G is n merge l = (
+  refl,
+  Broken.no_label n l.operand l.id (inr merge) l.used l.none,
+  λ q s b. first_of_merge G is n q (at_merge G is q n merge s b),
+)
 
-pub merge_fine : (G : Table) (is : List PlainInst) (n : ℕ) → IsOp is n is_merge → HasLabels G is n → IsFirstAt G is n None
+pub merge_fine : (G : Table) (is : List PlainInst) (n : ℕ) → IsOp is n is_merge → HasLabels G is n
+    → IsFirstAt G is n None
 merge_fine G is n merge has = λ q s b. none_of_merge G is n q has (at_merge G is q n merge s b)
 
 -- at a branch F1 comes first
@@ -175,39 +209,56 @@ first_of_branch G is n _ (AtBranch.lacks l) = omega arith
 first_of_branch G is n _ (AtBranch.entry e) = omega arith
 first_of_branch G is n _ (AtBranch.same op h) = omega arith
 
-second_of_branch : (G : Table) (is : List PlainInst) (n : ℕ) (q : Rule) → HasLabels G is n → AtBranch G is n q → rank_of F2 ≤ rank_of q
+second_of_branch : (G : Table) (is : List PlainInst) (n : ℕ) (q : Rule) → HasLabels G is n → AtBranch G is n q
+    → rank_of F2 ≤ rank_of q
 second_of_branch G is n _ has (AtBranch.lacks l) = absurd (labelled G is n has l)
 second_of_branch G is n _ has (AtBranch.entry e) = omega arith
 second_of_branch G is n _ has (AtBranch.same op h) = omega arith
 
-last_of_branch : (G : Table) (is : List PlainInst) (n : ℕ) (q : Rule) → HasLabels G is n → ¬ (LeadsToEntry G is n) → AtBranch G is n q → rank_of F4 ≤ rank_of q
+last_of_branch : (G : Table) (is : List PlainInst) (n : ℕ) (q : Rule) → HasLabels G is n → ¬ (LeadsToEntry G is n)
+    → AtBranch G is n q → rank_of F4 ≤ rank_of q
 last_of_branch G is n _ has free (AtBranch.lacks l) = absurd (labelled G is n has l)
 last_of_branch G is n _ has free (AtBranch.entry e) = absurd (free e)
 last_of_branch G is n _ has free (AtBranch.same op h) = omega arith
 
-none_of_branch : (G : Table) (is : List PlainInst) (n : ℕ) (q : Rule) → HasLabels G is n → ¬ (LeadsToEntry G is n) → (IsOp is n is_conditional → ¬ (HasSameLabels G is n 1 2)) → AtBranch G is n q → ⊥
+none_of_branch : (G : Table) (is : List PlainInst) (n : ℕ) (q : Rule) → HasLabels G is n → ¬ (LeadsToEntry G is n)
+    → (IsOp is n is_conditional → ¬ (HasSameLabels G is n 1 2)) → AtBranch G is n q → ⊥
 none_of_branch G is n _ has free apart (AtBranch.lacks l) = labelled G is n has l
 none_of_branch G is n _ has free apart (AtBranch.entry e) = free e
 none_of_branch G is n _ has free apart (AtBranch.same op h) = apart op h
 
-pub branch_lacks : (G : Table) (is : List PlainInst) (n : ℕ) → IsOp is n is_branch → LacksLabel G is n → IsFirstAt G is n (Some F1)
-branch_lacks G is n branch l = (refl, Broken.no_label n l.operand l.id (inl branch) l.used l.none, λ q s b. first_of_branch G is n q (at_branch G is q n branch s b))
+pub branch_lacks : (G : Table) (is : List PlainInst) (n : ℕ) → IsOp is n is_branch → LacksLabel G is n
+    → IsFirstAt G is n (Some F1)
+branch_lacks G is n branch l = (
+  refl,
+  Broken.no_label n l.operand l.id (inl branch) l.used l.none,
+  λ q s b. first_of_branch G is n q (at_branch G is q n branch s b),
+)
 
-pub branch_enters : (G : Table) (is : List PlainInst) (n : ℕ) → IsOp is n is_branch → HasLabels G is n → LeadsToEntry G is n → IsFirstAt G is n (Some F2)
+pub branch_enters : (G : Table) (is : List PlainInst) (n : ℕ) → IsOp is n is_branch → HasLabels G is n
+    → LeadsToEntry G is n → IsFirstAt G is n (Some F2)
 branch_enters G is n branch has e = (
   refl,
   Broken.to_entry n e.id e.place (record { branch = branch; operand = e.operand; used = e.used }) e.defined e.entry,
   λ q s b. second_of_branch G is n q has (at_branch G is q n branch s b),
 )
 
-pub branch_same : (G : Table) (is : List PlainInst) (n : ℕ) → IsOp is n is_branch → IsOp is n is_conditional → HasLabels G is n → ¬ (LeadsToEntry G is n) → HasSameLabels G is n 1 2 → IsFirstAt G is n (Some F4)
-branch_same G is n branch op has free h = (refl, Broken.same_labels n h.id op h.one h.two, λ q s b. last_of_branch G is n q has free (at_branch G is q n branch s b))
+pub branch_same : (G : Table) (is : List PlainInst) (n : ℕ) → IsOp is n is_branch → IsOp is n is_conditional
+    → HasLabels G is n → ¬ (LeadsToEntry G is n) → HasSameLabels G is n 1 2 → IsFirstAt G is n (Some F4)
+branch_same G is n branch op has free h = (
+  refl,
+  Broken.same_labels n h.id op h.one h.two,
+  λ q s b. last_of_branch G is n q has free (at_branch G is q n branch s b),
+)
 
-pub branch_fine : (G : Table) (is : List PlainInst) (n : ℕ) → IsOp is n is_branch → HasLabels G is n → ¬ (LeadsToEntry G is n) → (IsOp is n is_conditional → ¬ (HasSameLabels G is n 1 2)) → IsFirstAt G is n None
-branch_fine G is n branch has free apart = λ q s b. none_of_branch G is n q has free apart (at_branch G is q n branch s b)
+pub branch_fine : (G : Table) (is : List PlainInst) (n : ℕ) → IsOp is n is_branch → HasLabels G is n
+    → ¬ (LeadsToEntry G is n) → (IsOp is n is_conditional → ¬ (HasSameLabels G is n 1 2)) → IsFirstAt G is n None
+branch_fine G is n branch has free apart =
+    λ q s b. none_of_branch G is n q has free apart (at_branch G is q n branch s b)
 
 -- no rule is broken at one instruction more
-pub unbroken_more : (G : Table) (is : List PlainInst) (n : ℕ) → ((q : Rule) (m : ℕ) → m < n → stage_of q ≡ of_branches → ¬ (Broken G is q m)) → IsFirstAt G is n None
+pub unbroken_more : (G : Table) (is : List PlainInst) (n : ℕ)
+    → ((q : Rule) (m : ℕ) → m < n → stage_of q ≡ of_branches → ¬ (Broken G is q m)) → IsFirstAt G is n None
     → (q : Rule) (m : ℕ) → m < n + 1 → stage_of q ≡ of_branches → ¬ (Broken G is q m)
 unbroken_more G is n before here q m lt s b = elim (cases_lt m n) [
   | inl less ↦ before q m less s b
@@ -215,8 +266,11 @@ unbroken_more G is n before here q m lt s b = elim (cases_lt m n) [
 ]
 
 -- The first instruction at which a rule is broken.
-pub first_found : (G : Table) (is : List PlainInst) (r : Rule) (n : ℕ) → ((q : Rule) (m : ℕ) → m < n → stage_of q ≡ of_branches → ¬ (Broken G is q m)) → stage_of r ≡ of_branches → Broken G is r n
-    → ((q : Rule) → stage_of q ≡ of_branches → Broken G is q n → rank_of r ≤ rank_of q) → IsFirst (Broken G is) of_branches r n
+pub first_found : (G : Table) (is : List PlainInst) (r : Rule) (n : ℕ)
+    → ((q : Rule) (m : ℕ) → m < n → stage_of q ≡ of_branches → ¬ (Broken G is q m)) → stage_of r ≡ of_branches
+    → Broken G is r n
+    → ((q : Rule) → stage_of q ≡ of_branches → Broken G is q n → rank_of r ≤ rank_of q)
+    → IsFirst (Broken G is) of_branches r n
 first_found G is r n before stage broken least = record {
   of_stage = stage;
   broken = broken;
@@ -227,12 +281,15 @@ first_found G is r n before stage broken least = record {
 }
 
 -- the fault that is told
-pub refusal_told : (G : Table) (is : List PlainInst) (r : Rule) (n : ℕ) (stop : Stop) → IsFirst (Broken G is) of_branches r n → IsStopAt is r n stop → IsRefusal G is stop
+pub refusal_told : (G : Table) (is : List PlainInst) (r : Rule) (n : ℕ) (stop : Stop)
+    → IsFirst (Broken G is) of_branches r n → IsStopAt is r n stop → IsRefusal G is stop
 refusal_told G is r n Memory first h = absurd h
 refusal_told G is r n (Fault f) first (e, at, word) =
-    let one : IsFirst (Broken G is) of_branches f.rule n = subst (λ (q : Rule). IsFirst (Broken G is) of_branches q n) (sym e) first in
+    let one : IsFirst (Broken G is) of_branches f.rule n = subst (λ (q : Rule). IsFirst (Broken G is) of_branches q n)
+    (sym e) first in
     (subst (λ (m : ℕ). IsFirst (Broken G is) of_branches f.rule m) (sym at) one, word ∙ ap (first_word_of is) (sym at))
 
 -- a module that has few words has few instructions
 pub few_insts : (insts : List Inst) → IsShort (map plain_inst insts) → AreFew insts
-few_insts insts h = let s = short_list (map plain_inst insts) in let l = length-map insts plain_inst in omega (arith, s, l, h)
+few_insts insts h = let s = short_list (map plain_inst insts) in let l = length-map insts plain_inst in
+    omega (arith, s, l, h)

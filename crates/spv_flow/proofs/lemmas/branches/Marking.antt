@@ -1,5 +1,6 @@
 -- The sources of a chain are marked, or looked at, one after the other.
-use Rattle.std.proofs.Common.{◌≡◌, ◌≢◌, ◌≤◌, ◌<◌, ◌-◌, ◌⊎◌, ◌∙◌, inl, inr, ℕ, List, Bool, true, false, Some, length, set, sym, ap, subst, arith}
+use Rattle.std.proofs.Common.{◌≡◌, ◌≢◌, ◌≤◌, ◌<◌, ◌-◌, ◌⊎◌, ◌∙◌, inl, inr, ℕ, List, Bool, true, false, Some, length}
+use Rattle.std.proofs.Common.{set, sym, ap, subst, arith}
 use Rattle.std.specs.Prelude.{slice_get}
 use Rattle.std.proofs.lemmas.Bool.{cases_eq}
 use Rattle.std.proofs.lemmas.List.{get_or-set_same, get_or-set_other}
@@ -24,7 +25,8 @@ pub record IsMarking (links : List Link) (heads : List ℕ) (t : ℕ) (old now :
   pub only : (p : ℕ) → marked now p ≡ true → (marked old p ≡ true) ⊎ Leading links heads p t
   pub chain : (p : ℕ) → InChain links h p → Leading links heads p t
 
-pub marking_more : (links : List Link) (heads : List ℕ) (t : ℕ) (old now : List Bool) (h : ℕ) (l : Link) → AreEdges links heads → length heads ≡ length now → 0 < h → slice_get links (h - 1) ≡ Some l
+pub marking_more : (links : List Link) (heads : List ℕ) (t : ℕ) (old now : List Bool) (h : ℕ) (l : Link)
+    → AreEdges links heads → length heads ≡ length now → 0 < h → slice_get links (h - 1) ≡ Some l
     → IsMarking links heads t old now h → IsMarking links heads t old (set now l.source true) l.next
 marking_more links heads t old now h l are long some at before =
     let s : ℕ = l.source in
@@ -46,7 +48,8 @@ marking_more links heads t old now h l are long some at before =
         ]
       ];
       only = λ p m. elim (cases_eq p s) [
-        | inl same ↦ inr (before.chain p (subst (λ (q : ℕ). InChain links h q) (sym same) (chain_head links h l some at)))
+        | inl same ↦ inr (before.chain p (subst (λ (q : ℕ). InChain links h q) (sym same)
+            (chain_head links h l some at)))
         | inr apart ↦ before.only p (sym (set_other now s p true apart) ∙ m)
       ];
       chain = λ p c. before.chain p (chain_tail links h p l some at c);
@@ -58,7 +61,8 @@ pub record IsSeeking (links : List Link) (heads : List ℕ) (t : ℕ) (marks : L
   pub left : (p : ℕ) → Leading links heads p t → (marked marks p ≡ false) ⊎ InChain links h p
   pub chain : (p : ℕ) → InChain links h p → Leading links heads p t
 
-pub seeking_more : (links : List Link) (heads : List ℕ) (t : ℕ) (marks : List Bool) (h : ℕ) (l : Link) → AreEdges links heads → 0 < h → slice_get links (h - 1) ≡ Some l → marked marks l.source ≡ false
+pub seeking_more : (links : List Link) (heads : List ℕ) (t : ℕ) (marks : List Bool) (h : ℕ) (l : Link)
+    → AreEdges links heads → 0 < h → slice_get links (h - 1) ≡ Some l → marked marks l.source ≡ false
     → IsSeeking links heads t marks h → IsSeeking links heads t marks l.next
 seeking_more links heads t marks h l are some at free before = record {
   within = (let a = are.next (h - 1) l at in let b = before.within in omega arith);
@@ -72,6 +76,8 @@ seeking_more links heads t marks h l are some at free before = record {
   chain = λ p c. before.chain p (chain_tail links h p l some at c);
 }
 
-pub seeking_found : (links : List Link) (heads : List ℕ) (t : ℕ) (marks : List Bool) (h : ℕ) (l : Link) → 0 < h → slice_get links (h - 1) ≡ Some l → marked marks l.source ≡ true → IsSeeking links heads t marks h
+pub seeking_found : (links : List Link) (heads : List ℕ) (t : ℕ) (marks : List Bool) (h : ℕ) (l : Link) → 0 < h
+    → slice_get links (h - 1) ≡ Some l → marked marks l.source ≡ true → IsSeeking links heads t marks h
     → (p : ℕ) × Leading links heads p t × (marked marks p ≡ true)
-seeking_found links heads t marks h l some at m before = (l.source, before.chain l.source (chain_head links h l some at), m)
+seeking_found links heads t marks h l some at m before =
+    (l.source, before.chain l.source (chain_head links h l some at), m)

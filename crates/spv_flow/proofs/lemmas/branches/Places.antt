@@ -1,5 +1,7 @@
 -- Which operands are labels, by the rows of the table of shapes.
-use Rattle.std.proofs.Common.{◌≡◌, ◌≢◌, ◌∙◌, ◌≤◌, ◌<◌, ◌+◌, ◌-◌, ◌%◌, ℕ, zero, suc, List, [], ◌∷◌, Bool, true, false, Option, Some, None, length, nat_eq, nat_lt, nat_le, ◌&&◌, inl, inr, refl, sym, ap, subst, arith}
+use Rattle.std.proofs.Common.{◌≡◌, ◌≢◌, ◌∙◌, ◌≤◌, ◌<◌, ◌+◌, ◌-◌, ◌%◌, ℕ, zero, suc, List, [], ◌∷◌, Bool, true, false}
+use Rattle.std.proofs.Common.{Option, Some, None, length, nat_eq, nat_lt, nat_le, ◌&&◌, inl, inr, refl, sym, ap, subst}
+use Rattle.std.proofs.Common.{arith}
 use Rattle.std.specs.Prelude.{slice_get, option_and_then, MatchOption, MatchBool}
 use Rattle.std.proofs.Math.Nat.{mod-lt, mod-eq_of_lt, add-mod_left, div-add-mod}
 use Rattle.std.proofs.lemmas.Bool.{cases_Bool, cases_eq, cases_lt, eqb-true, eqb-false}
@@ -8,7 +10,8 @@ use Rattle.spv_module.specs.declared.opcode.TheConstants as opcode
 use Rattle.spv_table.specs.Table.{Table}
 use Rattle.spv_module.specs.Operand.{Plain, PlainInst}
 use Rattle.spv_module.specs.Operand as operand
-use Rattle.spv_layout.specs.declared.class.Class.TheVariants.{Phi, LoopMerge, SelectionMerge, Branch, BranchConditional, Switch}
+use Rattle.spv_layout.specs.declared.class.Class.TheVariants.{Phi, LoopMerge, SelectionMerge, Branch, BranchConditional}
+use Rattle.spv_layout.specs.declared.class.Class.TheVariants.{Switch}
 use Rattle.spv_layout.specs.declared.class.Class.TheVariants as class
 use Rattle.spv_layout.specs.declared.form.Named.TheVariants as kind_of
 use Rattle.spv_layout.specs.declared.form.Role.{Role}
@@ -36,7 +39,8 @@ lt_false a b h = grind (arith, nat_tests)
 fixed_form : (r : PlainRow) (o : Plain) (n : ℕ) → n < length r.fixed → form_at r o n ≡ slice_get r.fixed n
 fixed_form r o n h = rw (lt_true n (length r.fixed) h) refl
 
-later_form : (r : PlainRow) (o : Plain) (n : ℕ) → length r.fixed ≤ n → form_at r o n ≡ form_in r.ending o (n - length r.fixed)
+later_form : (r : PlainRow) (o : Plain) (n : ℕ) → length r.fixed ≤ n
+    → form_at r o n ≡ form_in r.ending o (n - length r.fixed)
 later_form r o n h = rw (lt_false n (length r.fixed) h) refl
 
 -- What is known of an operand of an instruction that fits.
@@ -45,14 +49,16 @@ record Stands (G : Table) (i : PlainInst) (r : PlainRow) (n : ℕ) (o : Plain) :
   pub known : row_of i.opcode ≡ Some r
   pub there : slice_get i.operands n ≡ Some o
 
-label_by : (G : Table) (i : PlainInst) (r : PlainRow) (n : ℕ) (o : Plain) → Stands G i r n o → form_at r o n ≡ Some l → IsRole G i n (Some Label)
+label_by : (G : Table) (i : PlainInst) (r : PlainRow) (n : ℕ) (o : Plain) → Stands G i r n o → form_at r o n ≡ Some l
+    → IsRole G i n (Some Label)
 label_by G i r n o s f = role_by i n r i.operands o (Some l) (Some Label) s.known refl s.there (sym f) refl G s.fits
 
 -- The operand is no label.
 IsOther : Plain → Option Form → Type 0
 IsOther o q = (f : Form) → q ≡ Some f → role_of f o ≡ Some Label → ⊥
 
-other_role : (G : Table) (i : PlainInst) (n x : ℕ) (a : Option Role) → IsRole G i n a → (a ≡ Some Label → ⊥) → ¬ (IsUse G i n x Label)
+other_role : (G : Table) (i : PlainInst) (n x : ℕ) (a : Option Role) → IsRole G i n a → (a ≡ Some Label → ⊥)
+    → ¬ (IsUse G i n x Label)
 other_role G i n x None t k u = t x Label u
 other_role G i n x (Some r) (y, w) k u = k (ap Some (use_same G i n y x r Label w u).role)
 
@@ -61,9 +67,11 @@ unfolding IsOther
 other_form o None k e = cc
 other_form o (Some f) k e = k f refl e
 
-other_by : (G : Table) (i : PlainInst) (r : PlainRow) (n : ℕ) (o : Plain) → Stands G i r n o → IsOther o (form_at r o n) → (x : ℕ) → ¬ (IsUse G i n x Label)
+other_by : (G : Table) (i : PlainInst) (r : PlainRow) (n : ℕ) (o : Plain) → Stands G i r n o → IsOther o (form_at r o n)
+    → (x : ℕ) → ¬ (IsUse G i n x Label)
 other_by G i r n o s k x =
-    let t = role_by i n r i.operands o (form_at r o n) (option_and_then (λ f. role_of f o) (form_at r o n)) s.known refl s.there refl refl G s.fits in
+    let t = role_by i n r i.operands o (form_at r o n)
+    (option_and_then (λ f. role_of f o) (form_at r o n)) s.known refl s.there refl refl G s.fits in
     other_role G i n x (option_and_then (λ f. role_of f o) (form_at r o n)) t (other_form o (form_at r o n) k)
 
 -- forms that are no label's
@@ -96,7 +104,8 @@ even n h = let a = eqb-false (n % 2) 1 h in let b : n % 2 < 2 = mod-lt n (omega 
 Placed : Table → PlainInst → ℕ → Bool → Type 0
 Placed G i n b = MatchBool b (IsRole G i n (Some Label)) ((x : ℕ) → ¬ (IsUse G i n x Label))
 
-placed : (G : Table) (i : PlainInst) (r : PlainRow) (n : ℕ) (o : Plain) (b : Bool) → Stands G i r n o → (b ≡ true → form_at r o n ≡ Some l) → (b ≡ false → IsOther o (form_at r o n)) → Placed G i n b
+placed : (G : Table) (i : PlainInst) (r : PlainRow) (n : ℕ) (o : Plain) (b : Bool) → Stands G i r n o
+    → (b ≡ true → form_at r o n ≡ Some l) → (b ≡ false → IsOther o (form_at r o n)) → Placed G i n b
 unfolding Placed
 placed G i r n o true s holds fails = label_by G i r n o s (holds refl)
 placed G i r n o false s holds fails = other_by G i r n o s (fails refl)
@@ -123,7 +132,8 @@ switch_label : (n : ℕ) (o : Plain) → nat_eq (n % 2) 1 ≡ true → form_at s
 switch_label n o h =
     let odd : n % 2 ≡ 1 = eqb-true (n % 2) 1 h in
     elim (cases_lt n 2) [
-      | inl lt ↦ (let m : n % 2 ≡ n = mod-eq_of_lt lt in let e : n ≡ 1 = sym m ∙ odd in fixed_form switch_row o n lt ∙ ap (slice_get (v ∷ l ∷ [])) e)
+      | inl lt ↦ (let m : n % 2 ≡ n = mod-eq_of_lt lt in let e : n ≡ 1 = sym m ∙ odd in
+          fixed_form switch_row o n lt ∙ ap (slice_get (v ∷ l ∷ [])) e)
       | inr ge ↦ later_form switch_row o n ge ∙ ap (slice_get (N ∷ l ∷ [])) (odd_rest n ge ∙ odd)
     ]
 
@@ -131,8 +141,11 @@ switch_other : (n : ℕ) (o : Plain) → nat_eq (n % 2) 1 ≡ false → IsOther 
 switch_other n o h =
     let e : n % 2 ≡ 0 = even n h in
     elim (cases_lt n 2) [
-      | inl lt ↦ (let m : n % 2 ≡ n = mod-eq_of_lt lt in let z : n ≡ 0 = sym m ∙ e in is_other o (form_at switch_row o n) v (λ k. cc) (fixed_form switch_row o n lt ∙ ap (slice_get (v ∷ l ∷ [])) z))
-      | inr ge ↦ is_other o (form_at switch_row o n) N (λ k. cc) (later_form switch_row o n ge ∙ ap (slice_get (N ∷ l ∷ [])) (odd_rest n ge ∙ e))
+      | inl lt ↦ (let m : n % 2 ≡ n = mod-eq_of_lt lt in let z : n ≡ 0 = sym m ∙ e in
+          is_other o (form_at switch_row o n) v (λ k. cc)
+          (fixed_form switch_row o n lt ∙ ap (slice_get (v ∷ l ∷ [])) z))
+      | inr ge ↦ is_other o (form_at switch_row o n) N (λ k. cc)
+          (later_form switch_row o n ge ∙ ap (slice_get (N ∷ l ∷ [])) (odd_rest n ge ∙ e))
     ]
 
 -- OpPhi
@@ -170,7 +183,8 @@ phi_label n o h =
 phi_fixed : (n : ℕ) (o : Plain) → n < 2 → IsOther o (form_at phi_row o n)
 phi_fixed n o lt = elim (cases_eq n 0) [
   | inl z ↦ is_other o (form_at phi_row o n) T (λ k. cc) (fixed_form phi_row o n lt ∙ ap (slice_get (T ∷ R ∷ [])) z)
-  | inr x ↦ (let e : n ≡ 1 = omega (arith, x, lt) in is_other o (form_at phi_row o n) R (λ k. cc) (fixed_form phi_row o n lt ∙ ap (slice_get (T ∷ R ∷ [])) e))
+  | inr x ↦ (let e : n ≡ 1 = omega (arith, x, lt) in
+      is_other o (form_at phi_row o n) R (λ k. cc) (fixed_form phi_row o n lt ∙ ap (slice_get (T ∷ R ∷ [])) e))
 ]
 
 phi_other : (n : ℕ) (o : Plain) → nat_le 2 n && nat_eq (n % 2) 1 ≡ false → IsOther o (form_at phi_row o n)
@@ -178,13 +192,15 @@ phi_other n o h = elim (cases_Bool (nat_le 2 n)) [
   | inl t ↦ (
       let ge = le_tells 2 n t in
       let e : n % 2 ≡ 0 = even n (and_false (nat_le 2 n) (nat_eq (n % 2) 1) h t) in
-      is_other o (form_at phi_row o n) v (λ k. cc) (later_form phi_row o n ge ∙ ap (slice_get (v ∷ l ∷ [])) (odd_rest n ge ∙ e)))
+      is_other o (form_at phi_row o n) v (λ k. cc)
+      (later_form phi_row o n ge ∙ ap (slice_get (v ∷ l ∷ [])) (odd_rest n ge ∙ e)))
   | inr f ↦ phi_fixed n o (le_denies 2 n f)
 ]
 
 -- OpBranchConditional
 abbrev conditional_row : PlainRow
-conditional_row = row opcode.BRANCH_CONDITIONAL opcode.BRANCH_CONDITIONAL BranchConditional (v ∷ l ∷ l ∷ []) (repeated (W ∷ []))
+conditional_row = row opcode.BRANCH_CONDITIONAL opcode.BRANCH_CONDITIONAL BranchConditional (v ∷ l ∷ l ∷ [])
+    (repeated (W ∷ []))
 
 conditional_known : row_of opcode.BRANCH_CONDITIONAL ≡ Some conditional_row
 unfolding rows
@@ -209,7 +225,8 @@ conditional_other n o h = elim (cases_Bool (nat_le 1 n)) [
   | inr f ↦ (
       let b = le_denies 1 n f in
       let z : n ≡ 0 = omega (arith, b) in
-      is_other o (form_at conditional_row o n) v (λ k. cc) (fixed_form conditional_row o n (omega (arith, b)) ∙ ap (slice_get (v ∷ l ∷ l ∷ [])) z))
+      is_other o (form_at conditional_row o n) v (λ k. cc)
+      (fixed_form conditional_row o n (omega (arith, b)) ∙ ap (slice_get (v ∷ l ∷ l ∷ [])) z))
 ]
 
 -- OpLoopMerge
@@ -233,26 +250,32 @@ loop_other : (n : ℕ) (o : Plain) → nat_le n 1 ≡ false → IsOther o (form_
 loop_other n o h =
     let b = le_denies n 1 h in
     elim (cases_lt n 3) [
-      | inl lt ↦ (let e : n ≡ 2 = omega (arith, b, lt) in is_other o (form_at loop_row o n) (kind kind_of.LoopControl) (λ k. cc) (fixed_form loop_row o n lt ∙ ap (slice_get (l ∷ l ∷ kind kind_of.LoopControl ∷ [])) e))
+      | inl lt ↦ (let e : n ≡ 2 = omega (arith, b, lt) in
+          is_other o (form_at loop_row o n) (kind kind_of.LoopControl) (λ k. cc)
+          (fixed_form loop_row o n lt ∙ ap (slice_get (l ∷ l ∷ kind kind_of.LoopControl ∷ [])) e))
       | inr ge ↦ is_other o (form_at loop_row o n) form.Other (other_kind o) (later_form loop_row o n ge)
     ]
 
 -- OpSelectionMerge
 abbrev selection_row : PlainRow
-selection_row = row opcode.SELECTION_MERGE opcode.SELECTION_MERGE SelectionMerge (l ∷ kind kind_of.SelectionControl ∷ []) closed
+selection_row = row opcode.SELECTION_MERGE opcode.SELECTION_MERGE SelectionMerge
+    (l ∷ kind kind_of.SelectionControl ∷ []) closed
 
 selection_known : row_of opcode.SELECTION_MERGE ≡ Some selection_row
 unfolding rows
 selection_known = refl
 
 selection_label : (n : ℕ) (o : Plain) → nat_eq n 0 ≡ true → form_at selection_row o n ≡ Some l
-selection_label n o h = let e : n ≡ 0 = eqb-true n 0 h in fixed_form selection_row o n (omega (arith, e)) ∙ ap (slice_get (l ∷ kind kind_of.SelectionControl ∷ [])) e
+selection_label n o h = let e : n ≡ 0 = eqb-true n 0 h in
+    fixed_form selection_row o n (omega (arith, e)) ∙ ap (slice_get (l ∷ kind kind_of.SelectionControl ∷ [])) e
 
 selection_other : (n : ℕ) (o : Plain) → nat_eq n 0 ≡ false → IsOther o (form_at selection_row o n)
 selection_other n o h =
     let x = eqb-false n 0 h in
     elim (cases_lt n 2) [
-      | inl lt ↦ (let e : n ≡ 1 = omega (arith, x, lt) in is_other o (form_at selection_row o n) (kind kind_of.SelectionControl) (λ k. cc) (fixed_form selection_row o n lt ∙ ap (slice_get (l ∷ kind kind_of.SelectionControl ∷ [])) e))
+      | inl lt ↦ (let e : n ≡ 1 = omega (arith, x, lt) in
+          is_other o (form_at selection_row o n) (kind kind_of.SelectionControl) (λ k. cc)
+          (fixed_form selection_row o n lt ∙ ap (slice_get (l ∷ kind kind_of.SelectionControl ∷ [])) e))
       | inr ge ↦ no_other o (form_at selection_row o n) (later_form selection_row o n ge)
     ]
 
@@ -265,13 +288,16 @@ unfolding rows
 branch_known = refl
 
 branch_label : (n : ℕ) (o : Plain) → nat_eq n 0 ≡ true → form_at branch_row o n ≡ Some l
-branch_label n o h = let e : n ≡ 0 = eqb-true n 0 h in fixed_form branch_row o n (omega (arith, e)) ∙ ap (slice_get (l ∷ [])) e
+branch_label n o h = let e : n ≡ 0 = eqb-true n 0 h in
+    fixed_form branch_row o n (omega (arith, e)) ∙ ap (slice_get (l ∷ [])) e
 
 branch_other : (n : ℕ) (o : Plain) → nat_eq n 0 ≡ false → IsOther o (form_at branch_row o n)
-branch_other n o h = let x = eqb-false n 0 h in no_other o (form_at branch_row o n) (later_form branch_row o n (omega (arith, x)))
+branch_other n o h = let x = eqb-false n 0 h in
+    no_other o (form_at branch_row o n) (later_form branch_row o n (omega (arith, x)))
 
 -- an instruction of a known opcode
-standing : (G : Table) (i : PlainInst) (r : PlainRow) (n k : ℕ) (o : Plain) → row_of k ≡ Some r → i.opcode ≡ k → FitsShape G i → slice_get i.operands n ≡ Some o → Stands G i r n o
+standing : (G : Table) (i : PlainInst) (r : PlainRow) (n k : ℕ) (o : Plain) → row_of k ≡ Some r → i.opcode ≡ k
+    → FitsShape G i → slice_get i.operands n ≡ Some o → Stands G i r n o
 standing G i r n k o known e fits there = record { fits = fits; known = ap row_of e ∙ known; there = there }
 
 -- the six opcodes
@@ -312,25 +338,48 @@ labelled_cases x h =
       ]
     ]
 
-by_opcode : (G : Table) (i : PlainInst) (n x : ℕ) (o : Plain) → Labelled x → i.opcode ≡ x → FitsShape G i → slice_get i.operands n ≡ Some o → Placed G i n (is_label_at x n)
-by_opcode G i n _ o phi e fits there = placed G i phi_row n o (is_label_at opcode.PHI n) (standing G i phi_row n opcode.PHI o phi_known e fits there) (phi_label n o) (phi_other n o)
-by_opcode G i n _ o loop_merge e fits there = placed G i loop_row n o (is_label_at opcode.LOOP_MERGE n) (standing G i loop_row n opcode.LOOP_MERGE o loop_known e fits there) (loop_label n o) (loop_other n o)
-by_opcode G i n _ o selection_merge e fits there = placed G i selection_row n o (is_label_at opcode.SELECTION_MERGE n) (standing G i selection_row n opcode.SELECTION_MERGE o selection_known e fits there) (selection_label n o) (selection_other n o)
-by_opcode G i n _ o branch e fits there = placed G i branch_row n o (is_label_at opcode.BRANCH n) (standing G i branch_row n opcode.BRANCH o branch_known e fits there) (branch_label n o) (branch_other n o)
-by_opcode G i n _ o conditional e fits there = placed G i conditional_row n o (is_label_at opcode.BRANCH_CONDITIONAL n) (standing G i conditional_row n opcode.BRANCH_CONDITIONAL o conditional_known e fits there) (conditional_label n o) (conditional_other n o)
-by_opcode G i n _ o switch e fits there = placed G i switch_row n o (is_label_at opcode.SWITCH n) (standing G i switch_row n opcode.SWITCH o switch_known e fits there) (switch_label n o) (switch_other n o)
+by_opcode : (G : Table) (i : PlainInst) (n x : ℕ) (o : Plain) → Labelled x → i.opcode ≡ x → FitsShape G i
+    → slice_get i.operands n ≡ Some o → Placed G i n (is_label_at x n)
+by_opcode G i n _ o phi e fits there =
+    placed G i phi_row n o (is_label_at opcode.PHI n) (standing G i phi_row n opcode.PHI o phi_known e fits there)
+    (phi_label n o) (phi_other n o)
+by_opcode G i n _ o loop_merge e fits there =
+    placed G i loop_row n o (is_label_at opcode.LOOP_MERGE n)
+    (standing G i loop_row n opcode.LOOP_MERGE o loop_known e fits there) (loop_label n o) (loop_other n o)
+by_opcode G i n _ o selection_merge e fits there =
+    placed G i selection_row n o (is_label_at opcode.SELECTION_MERGE n)
+    (standing G i selection_row n opcode.SELECTION_MERGE o selection_known e fits there) (selection_label n o)
+    (selection_other n o)
+by_opcode G i n _ o branch e fits there =
+    placed G i branch_row n o (is_label_at opcode.BRANCH n)
+    (standing G i branch_row n opcode.BRANCH o branch_known e fits there) (branch_label n o) (branch_other n o)
+by_opcode G i n _ o conditional e fits there =
+    placed G i conditional_row n o (is_label_at opcode.BRANCH_CONDITIONAL n)
+    (standing G i conditional_row n opcode.BRANCH_CONDITIONAL o conditional_known e fits there) (conditional_label n o)
+    (conditional_other n o)
+by_opcode G i n _ o switch e fits there =
+    placed G i switch_row n o (is_label_at opcode.SWITCH n)
+    (standing G i switch_row n opcode.SWITCH o switch_known e fits there) (switch_label n o) (switch_other n o)
 
 -- the id of an operand at a label's place
-pub label_told : (G : Table) (i : PlainInst) (n : ℕ) (p : Option ℕ) → is_labelled i.opcode ≡ true → is_label_at i.opcode n ≡ true → p ≡ option_and_then id_of (slice_get i.operands n) → FitsShape G i
+pub label_told : (G : Table) (i : PlainInst) (n : ℕ) (p : Option ℕ) → is_labelled i.opcode ≡ true
+    → is_label_at i.opcode n ≡ true → p ≡ option_and_then id_of (slice_get i.operands n) → FitsShape G i
     → MatchOption p ((x : ℕ) → ¬ (IsUse G i n x Label)) (λ x. IsUse G i n x Label)
 label_told G i n p h t e fits = at_operand (slice_get i.operands n) refl
   where
-    at_operand : (q : Option Plain) → slice_get i.operands n ≡ q → MatchOption p ((x : ℕ) → ¬ (IsUse G i n x Label)) (λ x. IsUse G i n x Label)
-    at_operand None g = let f : p ≡ None = e ∙ ap (option_and_then id_of) g in rw f (λ x u. let a : None ≡ Some u.operand = sym g ∙ u.operand_at in cc)
-    at_operand (Some o) g = label_some G i n p e (placed_true G i n (is_label_at i.opcode n) t (by_opcode G i n i.opcode o (labelled_cases i.opcode h) refl fits g))
+    at_operand : (q : Option Plain) → slice_get i.operands n ≡ q
+        → MatchOption p ((x : ℕ) → ¬ (IsUse G i n x Label)) (λ x. IsUse G i n x Label)
+    at_operand None g = let f : p ≡ None = e ∙ ap (option_and_then id_of) g in
+        rw f (λ x u. let a : None ≡ Some u.operand = sym g ∙ u.operand_at in cc)
+    at_operand (Some o) g =
+        label_some G i n p e (placed_true G i n (is_label_at i.opcode n) t
+        (by_opcode G i n i.opcode o (labelled_cases i.opcode h) refl fits g))
 
-pub no_label_told : (G : Table) (i : PlainInst) (n x : ℕ) → is_labelled i.opcode ≡ true → is_label_at i.opcode n ≡ false → FitsShape G i → ¬ (IsUse G i n x Label)
-no_label_told G i n x h t fits u = placed_false G i n x (is_label_at i.opcode n) t (by_opcode G i n i.opcode u.operand (labelled_cases i.opcode h) refl fits u.operand_at) u
+pub no_label_told : (G : Table) (i : PlainInst) (n x : ℕ) → is_labelled i.opcode ≡ true → is_label_at i.opcode n ≡ false
+    → FitsShape G i → ¬ (IsUse G i n x Label)
+no_label_told G i n x h t fits u =
+    placed_false G i n x (is_label_at i.opcode n) t
+    (by_opcode G i n i.opcode u.operand (labelled_cases i.opcode h) refl fits u.operand_at) u
 
 -- Of an OpSwitch the operands between two labels are no labels.
 
@@ -354,7 +403,8 @@ same_start os n y h k low high t =
     let e : k ≡ n + 1 = omega (arith, low, high) in
     absurd (no_case_after n h (subst (λ (m : ℕ). is_label_at opcode.SWITCH m ≡ true) e t))
 
-pub same_more : (os : List Plain) (n next y : ℕ) → is_label_at opcode.SWITCH next ≡ true → option_and_then id_of (slice_get os next) ≡ Some y → AreSameCases os n next y → AreSameCases os n (next + 2) y
+pub same_more : (os : List Plain) (n next y : ℕ) → is_label_at opcode.SWITCH next ≡ true
+    → option_and_then id_of (slice_get os next) ≡ Some y → AreSameCases os n next y → AreSameCases os n (next + 2) y
 same_more os n next y h e same k low high t = elim (cases_lt k next) [
   | inl less ↦ same k low less t
   | inr more ↦ elim (cases_lt k (next + 1)) [
@@ -363,14 +413,16 @@ same_more os n next y h e same k low high t = elim (cases_lt k next) [
   ]
 ]
 
-pub same_case : (G : Table) (i : PlainInst) (n to y k x : ℕ) → i.opcode ≡ opcode.SWITCH → IsUse G i n y Label → AreSameCases i.operands n to y
+pub same_case : (G : Table) (i : PlainInst) (n to y k x : ℕ) → i.opcode ≡ opcode.SWITCH → IsUse G i n y Label
+    → AreSameCases i.operands n to y
     → FitsShape G i → n < k → k < to → IsUse G i k x Label → IsUse G i n x Label
 same_case G i n to y k x s w same fits low high u = by_test (is_label_at opcode.SWITCH k) refl
   where
     by_test : (b : Bool) → is_label_at opcode.SWITCH k ≡ b → IsUse G i n x Label
     by_test true t =
         let a = same k low high t in
-        let o : option_and_then id_of (slice_get i.operands k) ≡ Some x = ap (option_and_then id_of) u.operand_at ∙ u.id in
+        let o : option_and_then id_of (slice_get i.operands k) ≡ Some x = ap (option_and_then id_of) u.operand_at
+        ∙ u.id in
         let d : y ≡ x = cc in
         subst (λ (z : ℕ). IsUse G i n z Label) d w
     by_test false t = absurd (no_label_told G i k x (rw s refl) (rw s t) fits u)
@@ -380,39 +432,49 @@ branch_labelled x h = grind (arith, nat_tests)
 
 -- A branch uses its labels, and beside them its first operand at most: that of OpBranch is a label.
 
-no_use_by : (G : Table) (i : PlainInst) (r : PlainRow) (n : ℕ) (o : Plain) → Stands G i r n o → option_and_then (λ f. role_of f o) (form_at r o n) ≡ None → (x : ℕ) (q : Role) → ¬ (IsUse G i n x q)
+no_use_by : (G : Table) (i : PlainInst) (r : PlainRow) (n : ℕ) (o : Plain) → Stands G i r n o
+    → option_and_then (λ f. role_of f o) (form_at r o n) ≡ None → (x : ℕ) (q : Role) → ¬ (IsUse G i n x q)
 no_use_by G i r n o s e = role_by i n r i.operands o (form_at r o n) None s.known refl s.there refl (sym e) G s.fits
 
-jump_use : (G : Table) (i : PlainInst) (n x : ℕ) (q : Role) → i.opcode ≡ opcode.BRANCH → FitsShape G i → nat_eq n 0 ≡ false → ¬ (IsUse G i n x q)
+jump_use : (G : Table) (i : PlainInst) (n x : ℕ) (q : Role) → i.opcode ≡ opcode.BRANCH → FitsShape G i
+    → nat_eq n 0 ≡ false → ¬ (IsUse G i n x q)
 jump_use G i n x q e fits h u =
     let o = u.operand in
     let k = eqb-false n 0 h in
-    no_use_by G i branch_row n o (standing G i branch_row n opcode.BRANCH o branch_known e fits u.operand_at) (ap (option_and_then (λ f. role_of f o)) (later_form branch_row o n (omega (arith, k)))) x q u
+    no_use_by G i branch_row n o (standing G i branch_row n opcode.BRANCH o branch_known e fits u.operand_at)
+    (ap (option_and_then (λ f. role_of f o)) (later_form branch_row o n (omega (arith, k)))) x q u
 
 word_role : (k : ℕ) (o : Plain) → option_and_then (λ f. role_of f o) (slice_get (W ∷ []) k) ≡ None
 word_role zero o = refl
 word_role (suc k) o = refl
 
-conditional_use : (G : Table) (i : PlainInst) (n x : ℕ) (q : Role) → i.opcode ≡ opcode.BRANCH_CONDITIONAL → FitsShape G i → nat_le 1 n && nat_le n 2 ≡ false → IsUse G i n x q → n ≡ 0
+conditional_use : (G : Table) (i : PlainInst) (n x : ℕ) (q : Role) → i.opcode ≡ opcode.BRANCH_CONDITIONAL
+    → FitsShape G i → nat_le 1 n && nat_le n 2 ≡ false → IsUse G i n x q → n ≡ 0
 conditional_use G i n x q e fits h u =
     let o = u.operand in
     elim (cases_Bool (nat_le 1 n)) [
       | inl t ↦ (
           let b = le_denies n 2 (and_false (nat_le 1 n) (nat_le n 2) h t) in
-          let none = ap (option_and_then (λ f. role_of f o)) (later_form conditional_row o n (omega (arith, b))) ∙ word_role ((n - 3) % 1) o in
-          absurd (no_use_by G i conditional_row n o (standing G i conditional_row n opcode.BRANCH_CONDITIONAL o conditional_known e fits u.operand_at) none x q u))
+          let none = ap (option_and_then (λ f. role_of f o)) (later_form conditional_row o n (omega (arith, b)))
+          ∙ word_role ((n - 3) % 1) o in
+          absurd (no_use_by G i conditional_row n o
+          (standing G i conditional_row n opcode.BRANCH_CONDITIONAL o conditional_known e fits u.operand_at) none x
+          q u))
       | inr f ↦ (let b = le_denies 1 n f in omega (arith, b))
     ]
 
-switch_use : (G : Table) (i : PlainInst) (n x : ℕ) (q : Role) → i.opcode ≡ opcode.SWITCH → FitsShape G i → nat_eq (n % 2) 1 ≡ false → IsUse G i n x q → n ≡ 0
+switch_use : (G : Table) (i : PlainInst) (n x : ℕ) (q : Role) → i.opcode ≡ opcode.SWITCH → FitsShape G i
+    → nat_eq (n % 2) 1 ≡ false → IsUse G i n x q → n ≡ 0
 switch_use G i n x q e fits h u =
     let o = u.operand in
     let z : n % 2 ≡ 0 = even n h in
     elim (cases_lt n 2) [
       | inl lt ↦ (let m : n % 2 ≡ n = mod-eq_of_lt lt in sym m ∙ z)
       | inr ge ↦ (
-          let none = ap (option_and_then (λ f. role_of f o)) (later_form switch_row o n ge ∙ ap (slice_get (N ∷ l ∷ [])) (odd_rest n ge ∙ z)) in
-          absurd (no_use_by G i switch_row n o (standing G i switch_row n opcode.SWITCH o switch_known e fits u.operand_at) none x q u))
+          let none = ap (option_and_then (λ f. role_of f o))
+          (later_form switch_row o n ge ∙ ap (slice_get (N ∷ l ∷ [])) (odd_rest n ge ∙ z)) in
+          absurd (no_use_by G i switch_row n o
+          (standing G i switch_row n opcode.SWITCH o switch_known e fits u.operand_at) none x q u))
     ]
 
 branch_bounds : (x : ℕ) → is_branch x ≡ true → (opcode.BRANCH ≤ x) × (x ≤ opcode.SWITCH)
@@ -421,7 +483,8 @@ branch_bounds x h = (grind (arith, nat_tests), grind (arith, nat_tests))
 at_place : (x k n : ℕ) → x ≡ k → is_label_at x n ≡ false → is_label_at k n ≡ false
 at_place x k n e h = sym (ap (λ (o : ℕ). is_label_at o n) e) ∙ h
 
-pub first_use : (G : Table) (i : PlainInst) (n x : ℕ) (q : Role) → is_branch i.opcode ≡ true → is_label_at i.opcode n ≡ false → FitsShape G i → IsUse G i n x q → (n ≡ 0) × (i.opcode ≢ opcode.BRANCH)
+pub first_use : (G : Table) (i : PlainInst) (n x : ℕ) (q : Role) → is_branch i.opcode ≡ true
+    → is_label_at i.opcode n ≡ false → FitsShape G i → IsUse G i n x q → (n ≡ 0) × (i.opcode ≢ opcode.BRANCH)
 first_use G i n x q h t fits u =
     let b = branch_bounds i.opcode h in
     let lo = b.0 in
@@ -430,7 +493,8 @@ first_use G i n x q h t fits u =
       | inl e ↦ absurd (jump_use G i n x q e fits (at_place i.opcode opcode.BRANCH n e t) u)
       | inr a ↦ elim (cases_eq i.opcode opcode.BRANCH_CONDITIONAL) [
         | inl e ↦ (conditional_use G i n x q e fits (at_place i.opcode opcode.BRANCH_CONDITIONAL n e t) u, a)
-        | inr c ↦ (let e : i.opcode ≡ opcode.SWITCH = omega (arith, lo, hi, a, c) in (switch_use G i n x q e fits (at_place i.opcode opcode.SWITCH n e t) u, a))
+        | inr c ↦ (let e : i.opcode ≡ opcode.SWITCH = omega (arith, lo, hi, a, c) in
+            (switch_use G i n x q e fits (at_place i.opcode opcode.SWITCH n e t) u, a))
       ]
     ]
 
@@ -444,11 +508,14 @@ label_known = refl
 
 label_forms : (n : ℕ) (o : Plain) → option_and_then (λ f. role_of f o) (form_at label_row o n) ≡ None
 label_forms n o = elim (cases_lt n 1) [
-  | inl lt ↦ (let z : n ≡ 0 = omega (arith, lt) in ap (option_and_then (λ f. role_of f o)) (fixed_form label_row o n lt ∙ ap (slice_get (R ∷ [])) z))
+  | inl lt ↦ (let z : n ≡ 0 = omega (arith, lt) in
+      ap (option_and_then (λ f. role_of f o)) (fixed_form label_row o n lt ∙ ap (slice_get (R ∷ [])) z))
   | inr ge ↦ ap (option_and_then (λ f. role_of f o)) (later_form label_row o n ge)
 ]
 
-pub label_use : (G : Table) (i : PlainInst) (n x : ℕ) (q : Role) → i.opcode ≡ opcode.LABEL → FitsShape G i → ¬ (IsUse G i n x q)
+pub label_use : (G : Table) (i : PlainInst) (n x : ℕ) (q : Role) → i.opcode ≡ opcode.LABEL → FitsShape G i
+    → ¬ (IsUse G i n x q)
 label_use G i n x q e fits u =
     let o = u.operand in
-    no_use_by G i label_row n o (standing G i label_row n opcode.LABEL o label_known e fits u.operand_at) (label_forms n o) x q u
+    no_use_by G i label_row n o (standing G i label_row n opcode.LABEL o label_known e fits u.operand_at)
+    (label_forms n o) x q u

@@ -1,5 +1,6 @@
 -- The parents of an OpPhi, operand by operand.
-use Rattle.std.proofs.Common.{◌≡◌, ◌≤◌, ◌<◌, ◌+◌, ◌⊎◌, ◌∙◌, inl, inr, ℕ, List, Bool, true, false, Some, length, set, refl, sym, ap, subst, arith}
+use Rattle.std.proofs.Common.{◌≡◌, ◌≤◌, ◌<◌, ◌+◌, ◌⊎◌, ◌∙◌, inl, inr, ℕ, List, Bool, true, false, Some, length, set}
+use Rattle.std.proofs.Common.{refl, sym, ap, subst, arith}
 use Rattle.std.specs.Prelude.{slice_get}
 use Rattle.std.proofs.lemmas.Bool.{cases_lt, cases_eq, both_ways}
 use Rattle.std.proofs.lemmas.Option.{slice_get_within}
@@ -27,29 +28,38 @@ pub record IsTaking (G : Table) (is : List PlainInst) (at : ℕ) (old now : List
   pub kept : (p : ℕ) → marked old p ≡ true → (marked now p ≡ true) ⊎ ((k : ℕ) × (k < n) × IsParentAt G is at k p)
 
 -- an operand that is no label
-pub taking_other : (G : Table) (is : List PlainInst) (at : ℕ) (old now : List Bool) (n : ℕ) → ((x : ℕ) → ¬ (IsUsedAt G is at n x Label)) → IsTaking G is at old now n → IsTaking G is at old now (n + 1)
+pub taking_other : (G : Table) (is : List PlainInst) (at : ℕ) (old now : List Bool) (n : ℕ)
+    → ((x : ℕ) → ¬ (IsUsedAt G is at n x Label)) → IsTaking G is at old now n → IsTaking G is at old now (n + 1)
 taking_other G is at old now n none before =
     let below : (k x : ℕ) → k < n + 1 → IsUsedAt G is at k x Label → k < n = λ k x lt u. elim (cases_lt k n) [
       | inl less ↦ less
-      | inr more ↦ (let e : k ≡ n = omega (arith, lt, more) in absurd (none x (subst (λ (j : ℕ). IsUsedAt G is at j x Label) e u)))
+      | inr more ↦ (let e : k ≡ n = omega (arith, lt, more) in
+          absurd (none x (subst (λ (j : ℕ). IsUsedAt G is at j x Label) e u)))
     ] in
     record {
       each = λ k x lt u. before.each k x (below k x lt u) u;
       once = λ j k p lj lk a b. before.once j k p (below j a.id lj a.used) (below k b.id lk b.used) a b;
       left = before.left;
       gone = λ k p lt a. before.gone k p (below k a.id lt a.used) a;
-      kept = λ p m. elim (before.kept p m) [ inl still ↦ inl still | inr named ↦ inr (named.0, omega (arith, named.1), named.2) ];
+      kept = λ p m. elim (before.kept p m) [
+        | inl still ↦ inl still
+        | inr named ↦
+            inr (named.0, omega (arith, named.1), named.2)
+      ];
     }
 
 -- a label of a marked block
-pub taking_more : (G : Table) (c : Code) (at : ℕ) (old now : List Bool) (n x p : ℕ) → IsCode G c → p < length now → IsUsedAt G (insts_of c) at n x Label → IsLabelOf (insts_of c) x p → marked now p ≡ true
+pub taking_more : (G : Table) (c : Code) (at : ℕ) (old now : List Bool) (n x p : ℕ) → IsCode G c → p < length now
+    → IsUsedAt G (insts_of c) at n x Label → IsLabelOf (insts_of c) x p → marked now p ≡ true
     → IsTaking G (insts_of c) at old now n → IsTaking G (insts_of c) at old (set now p false) (n + 1)
 taking_more G c at old now n x p is within used label m before =
     let L : List PlainInst = insts_of c in
     let P : ℕ → ℕ → Type 0 = λ k q. IsParentAt G L at k q in
     -- the parent at the last operand
-    let here : (k q : ℕ) → k ≡ n → IsParentAt G L at k q → q ≡ p = λ k q e a. one_parent G c at n x p q is used label (subst (λ (j : ℕ). P j q) e a) in
-    let earlier : (k q : ℕ) → k < n → IsParentAt G L at k q → q ≡ p → ⊥ = λ k q lt a e. both_ways (marked now q) (before.gone k q lt a) (ap (marked now) e ∙ m) in
+    let here : (k q : ℕ) → k ≡ n → IsParentAt G L at k q
+    → q ≡ p = λ k q e a. one_parent G c at n x p q is used label (subst (λ (j : ℕ). P j q) e a) in
+    let earlier : (k q : ℕ) → k < n → IsParentAt G L at k q → q ≡ p
+    → ⊥ = λ k q lt a e. both_ways (marked now q) (before.gone k q lt a) (ap (marked now) e ∙ m) in
     record {
       each = λ k y lt u. elim (cases_lt k n) [
         | inl less ↦ before.each k y less u
@@ -80,7 +90,12 @@ taking_more G c at old now n x p is within used label m before =
         ]
       ];
       kept = λ q t. elim (cases_eq q p) [
-        | inl same ↦ inr (n, omega arith, subst (λ (z : ℕ). P n z) (sym same) (record { id = x; used = used; label = label }))
+        | inl same ↦ inr (
+          n,
+          omega arith,
+          subst (λ (z : ℕ). P n z) (sym same)
+              (record { id = x; used = used; label = label }),
+        )
         | inr apart ↦ elim (before.kept q t) [
           | inl still ↦ inl (set_other now p q false apart ∙ still)
           | inr named ↦ inr (named.0, omega (arith, named.1), named.2)
@@ -89,22 +104,29 @@ taking_more G c at old now n x p is within used label m before =
     }
 
 -- all operands
-pub taking_end : (G : Table) (is : List PlainInst) (at : ℕ) (old now : List Bool) (n : ℕ) (i : PlainInst) → slice_get is at ≡ Some i → length i.operands ≤ n → IsTaking G is at old now n → Takes G is at old now
+pub taking_end : (G : Table) (is : List PlainInst) (at : ℕ) (old now : List Bool) (n : ℕ) (i : PlainInst)
+    → slice_get is at ≡ Some i → length i.operands ≤ n → IsTaking G is at old now n → Takes G is at old now
 taking_end G is at old now n i there all before =
-    let below : (k x : ℕ) → IsUsedAt G is at k x Label → k < n = λ k x u. (let w = use_within G i k x Label (use_in G is at k x Label i there u) in omega arith) in
+    let below : (k x : ℕ) → IsUsedAt G is at k x Label
+    → k < n = λ k x u. (let w = use_within G i k x Label (use_in G is at k x Label i there u) in omega arith) in
     record {
-      can = record { each = λ k x u. before.each k x (below k x u) u; once = λ j k p a b. before.once j k p (below j a.id a.used) (below k b.id b.used) a b };
+      can = record {
+        each = λ k x u. before.each k x (below k x u) u;
+        once = λ j k p a b. before.once j k p (below j a.id a.used) (below k b.id b.used) a b;
+      };
       left = before.left;
       gone = λ k p a. before.gone k p (below k a.id a.used) a;
       kept = λ p m. elim (before.kept p m) [ inl still ↦ inl still | inr named ↦ inr (named.0, named.2) ];
     }
 
 -- a label of no block
-pub not_label : (G : Table) (is : List PlainInst) (at : ℕ) (marks : List Bool) (n x : ℕ) → IsUsedAt G is at n x Label → ((m : ℕ) → ¬ (IsLabelOf is x m)) → ¬ (CanTake G is at marks)
+pub not_label : (G : Table) (is : List PlainInst) (at : ℕ) (marks : List Bool) (n x : ℕ) → IsUsedAt G is at n x Label
+    → ((m : ℕ) → ¬ (IsLabelOf is x m)) → ¬ (CanTake G is at marks)
 not_label G is at marks n x used none can = let e = can.each n x used in none e.0 e.1
 
 -- a label of a block that is not marked, or not any more
-pub not_marked : (G : Table) (c : Code) (at : ℕ) (old now : List Bool) (n x p : ℕ) → IsCode G c → IsUsedAt G (insts_of c) at n x Label → IsLabelOf (insts_of c) x p → marked now p ≡ false
+pub not_marked : (G : Table) (c : Code) (at : ℕ) (old now : List Bool) (n x p : ℕ) → IsCode G c
+    → IsUsedAt G (insts_of c) at n x Label → IsLabelOf (insts_of c) x p → marked now p ≡ false
     → IsTaking G (insts_of c) at old now n → ¬ (CanTake G (insts_of c) at old)
 not_marked G c at old now n x p is used label m before can =
     let e = can.each n x used in
@@ -112,7 +134,8 @@ not_marked G c at old now n x p is used label m before can =
     let was : marked old p ≡ true = ap (marked old) (sym f) ∙ e.2 in
     elim (before.kept p was) [
       | inl still ↦ both_ways (marked now p) m still
-      | inr named ↦ (let g = can.once named.0 n p named.2 (record { id = x; used = used; label = label }) in let lt = named.1 in absurd (omega arith))
+      | inr named ↦ (let g = can.once named.0 n p named.2 (record { id = x; used = used; label = label }) in
+          let lt = named.1 in absurd (omega arith))
     ]
 
 -- What is marked before the parents are taken: the sources of the edges to a block.
@@ -120,14 +143,18 @@ pub record AreSources (e : Edges) (block : ℕ) (marks : List Bool) : Type 0 whe
   pub added : (p : ℕ) → HasEdge e p block → marked marks p ≡ true
   pub only : (p : ℕ) → marked marks p ≡ true → HasEdge e p block
 
-pub sources : (e : Edges) (block : ℕ) (old marks : List Bool) → ((p : ℕ) → marked old p ≡ false) → ((p : ℕ) → HasEdge e p block → marked marks p ≡ true) → ((p : ℕ) → marked marks p ≡ true → (marked old p ≡ true) ⊎ HasEdge e p block) → AreSources e block marks
+pub sources : (e : Edges) (block : ℕ) (old marks : List Bool) → ((p : ℕ) → marked old p ≡ false)
+    → ((p : ℕ) → HasEdge e p block → marked marks p ≡ true)
+    → ((p : ℕ) → marked marks p ≡ true → (marked old p ≡ true) ⊎ HasEdge e p block) → AreSources e block marks
 sources e block old marks clean added only = record {
   added = added;
   only = λ p m. elim (only p m) [ inl was ↦ absurd (both_ways (marked old p) (clean p) was) | inr h ↦ h ];
 }
 
 -- The parents that can be taken are predecessors, and if no mark is left, all of them.
-pub parents : (G : Table) (is : List PlainInst) (count : ℕ) (e : Edges) (at block : ℕ) (marks left : List Bool) → ((t : ℕ) (p b : ℕ) → LeadsToBlock G is t p b → t < count) → AreGathered G is e count → IsOfBlock is at block → AreSources e block marks → Takes G is at marks left
+pub parents : (G : Table) (is : List PlainInst) (count : ℕ) (e : Edges) (at block : ℕ) (marks left : List Bool)
+    → ((t : ℕ) (p b : ℕ) → LeadsToBlock G is t p b → t < count) → AreGathered G is e count → IsOfBlock is at block
+    → AreSources e block marks → Takes G is at marks left
     → ((p : ℕ) → HasEdge e p block → marked left p ≡ false) → HasParents G is at
 parents G is count e at block marks left within gathered of from takes none = record {
   block = block;
@@ -151,11 +178,16 @@ pub leads_within : (G : Table) (is : List PlainInst) (t p b : ℕ) → LeadsToBl
 leads_within G is t p b leads = slice_get_within is t leads.target.used.inst leads.target.used.there
 
 -- Nothing is left marked.
-pub clean_after : (G : Table) (is : List PlainInst) (e : Edges) (at block : ℕ) (marks left : List Bool) → AreSources e block marks → Takes G is at marks left → ((p : ℕ) → HasEdge e p block → marked left p ≡ false) → (p : ℕ) → marked left p ≡ false
-clean_after G is e at block marks left from takes none p = unmarked (marked left p) (λ m. both_ways (marked left p) (none p (from.only p (takes.left p m))) m)
+pub clean_after : (G : Table) (is : List PlainInst) (e : Edges) (at block : ℕ) (marks left : List Bool)
+    → AreSources e block marks → Takes G is at marks left → ((p : ℕ) → HasEdge e p block → marked left p ≡ false)
+    → (p : ℕ) → marked left p ≡ false
+clean_after G is e at block marks left from takes none p =
+    unmarked (marked left p) (λ m. both_ways (marked left p) (none p (from.only p (takes.left p m))) m)
 
 -- Parents that can't be taken are not the predecessors.
-pub not_taken : (G : Table) (is : List PlainInst) (count : ℕ) (e : Edges) (at block : ℕ) (marks : List Bool) → ((t : ℕ) (p b : ℕ) → LeadsToBlock G is t p b → t < count) → AreGathered G is e count → IsOfBlock is at block → AreSources e block marks → ¬ (CanTake G is at marks) → ¬ (HasParents G is at)
+pub not_taken : (G : Table) (is : List PlainInst) (count : ℕ) (e : Edges) (at block : ℕ) (marks : List Bool)
+    → ((t : ℕ) (p b : ℕ) → LeadsToBlock G is t p b → t < count) → AreGathered G is e count → IsOfBlock is at block
+    → AreSources e block marks → ¬ (CanTake G is at marks) → ¬ (HasParents G is at)
 not_taken G is count e at block marks within gathered of from cannot has =
     let same : has.block ≡ block = block_same is at has.block block has.of of in
     cannot (record {
@@ -168,7 +200,9 @@ not_taken G is count e at block marks within gathered of from cannot has =
     })
 
 -- A predecessor that no parent names.
-pub not_named : (G : Table) (is : List PlainInst) (count : ℕ) (e : Edges) (at block p : ℕ) (marks left : List Bool) → AreGathered G is e count → IsOfBlock is at block → Takes G is at marks left → HasEdge e p block → marked left p ≡ true → ¬ (HasParents G is at)
+pub not_named : (G : Table) (is : List PlainInst) (count : ℕ) (e : Edges) (at block p : ℕ) (marks left : List Bool)
+    → AreGathered G is e count → IsOfBlock is at block → Takes G is at marks left → HasEdge e p block
+    → marked left p ≡ true → ¬ (HasParents G is at)
 not_named G is count e at block p marks left gathered of takes edge m has =
     let same : has.block ≡ block = block_same is at has.block block has.of of in
     let sound = gathered.sound p block edge in

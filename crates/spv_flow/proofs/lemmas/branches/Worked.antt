@@ -5,7 +5,8 @@ use Rattle.spv_module.specs.declared.opcode.TheConstants as opcode
 use Rattle.spv_module.specs.Example.{small}
 use Rattle.spv_module.specs.Operand.{Id, Mask, OfType, Result, PlainInst}
 use Rattle.spv_layout.specs.declared.class.Class.{Class}
-use Rattle.spv_layout.specs.declared.class.Class.TheVariants.{Function, FunctionEnd, Label, LoopMerge, Phi, Body, Branch}
+use Rattle.spv_layout.specs.declared.class.Class.TheVariants.{Function, FunctionEnd, Label, LoopMerge, Phi, Body}
+use Rattle.spv_layout.specs.declared.class.Class.TheVariants.{Branch}
 use Rattle.spv_layout.specs.declared.form.Form.{Form}
 use Rattle.spv_layout.specs.declared.form.Named.TheVariants as kind_of
 use Rattle.spv_layout.specs.declared.form.Role.{Role}
@@ -19,10 +20,12 @@ use Rattle.spv_layout.specs.Place.{IsOfFunction, IsOfBlock, terminators}
 use Rattle.spv_layout.proofs.Places.{block_same}
 use Rattle.spv_layout.proofs.Shapes.{use_same}
 use Rattle.spv_ids.specs.Definition.{IsDefinedAt, IsUsedAt}
-use Rattle.spv_flow.specs.branches.Target.{is_branch, is_opcode, IsOp, IsLabelOf, IsTarget, LeadsToBlock, IsParentAt, HasParents}
+use Rattle.spv_flow.specs.branches.Target.{is_branch, is_opcode, IsOp, IsLabelOf, IsTarget, LeadsToBlock, IsParentAt}
+use Rattle.spv_flow.specs.branches.Target.{HasParents}
 use Rattle.spv_flow.specs.branches.Walk.{Next, IsWalk, IsResultAmong}
 use Rattle.spv_flow.specs.branches.Ready.{IsLocalValue, IsMissing}
-use Rattle.spv_flow.specs.branches.Example.{branch, label, function, return_void, two_blocks, phi, valued, bare_phi, paired, unpaired, negation, before_7, early, loop_merge, looped}
+use Rattle.spv_flow.specs.branches.Example.{branch, label, function, return_void, two_blocks, phi, valued, bare_phi}
+use Rattle.spv_flow.specs.branches.Example.{paired, unpaired, negation, before_7, early, loop_merge, looped}
 use Rattle.spv_flow.proofs.lemmas.branches.Labelled.{use_in, use_within, one_id}
 use Rattle.spv_flow.proofs.lemmas.branches.Direct.{placed_at}
 use Rattle.spv_flow.proofs.lemmas.branches.Laid.{not_at, within_by}
@@ -31,13 +34,31 @@ use Rattle.spv_flow.proofs.lemmas.branches.Laid.{not_at, within_by}
 
 branch_forms : (x : ℕ) → HasForms small (branch x) (l ∷ [])
 unfolding rows
-branch_forms x = record { row = row opcode.BRANCH opcode.BRANCH Branch (l ∷ []) closed; rest = []; known = refl; forms = refl; ending = Ends.nothing; each = AreOf.more l (Id x) [] [] refl AreOf.none }
+branch_forms x = record {
+  row = row opcode.BRANCH opcode.BRANCH Branch (l ∷ []) closed;
+  rest = [];
+  known = refl;
+  forms = refl;
+  ending = Ends.nothing;
+  each = AreOf.more l (Id x) [] [] refl AreOf.none;
+}
 
 pub branch_used : (x : ℕ) → IsUse small (branch x) 0 x role.Label
-branch_used x = record { forms = l ∷ []; has = branch_forms x; form = l; operand = Id x; form_at = refl; operand_at = refl; role = refl; id = refl }
+branch_used x = record {
+  forms = l ∷ [];
+  has = branch_forms x;
+  form = l;
+  operand = Id x;
+  form_at = refl;
+  operand_at = refl;
+  role = refl;
+  id = refl;
+}
 
 at_zero : (k x y : ℕ) (r : Role) → k ≡ 0 → IsUse small (branch x) k y r → (y ≡ x) × (r ≡ role.Label)
-at_zero k x y r e u = (let s = use_same small (branch x) 0 y x r role.Label (subst (λ (j : ℕ). IsUse small (branch x) j y r) e u) (branch_used x) in (s.id, s.role))
+at_zero k x y r e u =
+    (let s = use_same small (branch x) 0 y x r role.Label (subst (λ (j : ℕ). IsUse small (branch x) j y r) e u)
+    (branch_used x) in (s.id, s.role))
 
 pub branch_only : (k x y : ℕ) (r : Role) → IsUse small (branch x) k y r → (y ≡ x) × (r ≡ role.Label)
 branch_only k x y r u = (let w = use_within small (branch x) k y r u in at_zero k x y r (omega (arith, w)) u)
@@ -56,13 +77,32 @@ has_loop_forms x y = record {
   forms = refl;
   ending = Ends.no_other;
   each = AreOf.more l (Id x) (l ∷ kind kind_of.LoopControl ∷ []) (Id y ∷ Mask 0 0 ∷ []) refl
-      (AreOf.more l (Id y) (kind kind_of.LoopControl ∷ []) (Mask 0 0 ∷ []) refl (AreOf.more (kind kind_of.LoopControl) (Mask 0 0) [] [] refl AreOf.none));
+      (AreOf.more l (Id y) (kind kind_of.LoopControl ∷ []) (Mask 0 0 ∷ []) refl
+      (AreOf.more (kind kind_of.LoopControl) (Mask 0 0) [] [] refl AreOf.none));
 }
 
 pub loop_used : (x y : ℕ) → IsUse looped (loop_merge x y) 0 x role.Label × IsUse looped (loop_merge x y) 1 y role.Label
 loop_used x y = (
-  record { forms = loop_forms; has = has_loop_forms x y; form = l; operand = Id x; form_at = refl; operand_at = refl; role = refl; id = refl },
-  record { forms = loop_forms; has = has_loop_forms x y; form = l; operand = Id y; form_at = refl; operand_at = refl; role = refl; id = refl },
+  record {
+    forms = loop_forms;
+    has = has_loop_forms x y;
+    form = l;
+    operand = Id x;
+    form_at = refl;
+    operand_at = refl;
+    role = refl;
+    id = refl;
+  },
+  record {
+    forms = loop_forms;
+    has = has_loop_forms x y;
+    form = l;
+    operand = Id y;
+    form_at = refl;
+    operand_at = refl;
+    role = refl;
+    id = refl;
+  },
 )
 
 -- the only branch of the two lists is instruction 2
@@ -83,21 +123,29 @@ unfolding rows
 valued_classes x = refl
 
 pub first_block : IsOfBlock (paired 1) 2 1
-first_block = within_by (paired 1) laid Label terminators 2 1 3 2 (valued_classes 5) (omega arith) (omega arith) (omega arith) (omega arith) refl refl refl
+first_block = within_by (paired 1) laid Label terminators 2 1 3 2 (valued_classes 5) (omega arith) (omega arith)
+    (omega arith) (omega arith) refl refl refl
 
 second_block : IsOfBlock (paired 1) 4 3
-second_block = within_by (paired 1) laid Label terminators 4 3 5 4 (valued_classes 5) (omega arith) (omega arith) (omega arith) (omega arith) refl refl refl
+second_block = within_by (paired 1) laid Label terminators 4 3 5 4 (valued_classes 5) (omega arith) (omega arith)
+    (omega arith) (omega arith) refl refl refl
 
 -- all instructions are of the function
 pub of_function : (x n : ℕ) → n ≤ 4 → IsOfFunction (valued x 1) n 0
-of_function x n lt = within_by (valued x 1) laid Function (FunctionEnd ∷ []) n 0 5 5 (valued_classes x) (omega (arith, lt)) (omega arith) (omega (arith, lt)) (omega arith) refl refl refl
+of_function x n lt = within_by (valued x 1) laid Function (FunctionEnd ∷ []) n 0 5 5 (valued_classes x)
+    (omega (arith, lt)) (omega arith) (omega (arith, lt)) (omega arith) refl refl refl
 
 -- predecessors
 target : IsTarget small (paired 1) 2 2
 target = record { branch = refl; operand = 0; used = record { inst = branch 2; there = refl; used = branch_used 2 } }
 
 pub leads : LeadsToBlock small (paired 1) 2 1 3
-leads = record { of = first_block; id = 2; target = target; label = record { defined = record { inst = label 2; there = refl; result = refl }; label = refl } }
+leads = record {
+  of = first_block;
+  id = 2;
+  target = target;
+  label = record { defined = record { inst = label 2; there = refl; result = refl }; label = refl };
+}
 
 first_only : (t p : ℕ) → LeadsToBlock small (paired 1) t p 3 → p ≡ 1
 first_only t p h =
@@ -113,24 +161,44 @@ phi_forms = record {
   known = refl;
   forms = refl;
   ending = Ends.again (v ∷ l ∷ []) [] (Ends.done (v ∷ l ∷ []));
-  each = AreOf.more T (OfType 20) (R ∷ v ∷ l ∷ []) (Result 9 ∷ Id 5 ∷ Id 1 ∷ []) refl (AreOf.more R (Result 9) (v ∷ l ∷ []) (Id 5 ∷ Id 1 ∷ []) refl (AreOf.more v (Id 5) (l ∷ []) (Id 1 ∷ []) refl (AreOf.more l (Id 1) [] [] refl AreOf.none)));
+  each = AreOf.more T (OfType 20) (R ∷ v ∷ l ∷ []) (Result 9 ∷ Id 5 ∷ Id 1 ∷ []) refl
+      (AreOf.more R (Result 9) (v ∷ l ∷ []) (Id 5 ∷ Id 1 ∷ []) refl
+      (AreOf.more v (Id 5) (l ∷ []) (Id 1 ∷ []) refl (AreOf.more l (Id 1) [] [] refl AreOf.none)));
 }
 
 phi_used : IsUse small (phi 1) 3 1 role.Label
-phi_used = record { forms = T ∷ R ∷ v ∷ l ∷ []; has = phi_forms; form = l; operand = Id 1; form_at = refl; operand_at = refl; role = refl; id = refl }
+phi_used = record {
+  forms = T ∷ R ∷ v ∷ l ∷ [];
+  has = phi_forms;
+  form = l;
+  operand = Id 1;
+  form_at = refl;
+  operand_at = refl;
+  role = refl;
+  id = refl;
+}
 
 named : IsUsedAt small (paired 1) 4 3 1 role.Label
 named = record { inst = phi 1; there = refl; used = phi_used }
 
 pub label_place : (k x : ℕ) → IsUsedAt small (paired 1) 4 k x role.Label → k ≡ 3
-label_place zero x u = (let t = placed_at small (paired 1) 4 0 x opcode.PHI (phi 1) refl refl refl (record { forms = T ∷ R ∷ v ∷ l ∷ []; has = phi_forms }) u in cc)
-label_place (suc zero) x u = (let t = placed_at small (paired 1) 4 1 x opcode.PHI (phi 1) refl refl refl (record { forms = T ∷ R ∷ v ∷ l ∷ []; has = phi_forms }) u in cc)
-label_place (suc (suc zero)) x u = (let t = placed_at small (paired 1) 4 2 x opcode.PHI (phi 1) refl refl refl (record { forms = T ∷ R ∷ v ∷ l ∷ []; has = phi_forms }) u in cc)
+label_place zero x u =
+    (let t = placed_at small (paired 1) 4 0 x opcode.PHI (phi 1) refl refl refl
+    (record { forms = T ∷ R ∷ v ∷ l ∷ []; has = phi_forms }) u in cc)
+label_place (suc zero) x u =
+    (let t = placed_at small (paired 1) 4 1 x opcode.PHI (phi 1) refl refl refl
+    (record { forms = T ∷ R ∷ v ∷ l ∷ []; has = phi_forms }) u in cc)
+label_place (suc (suc zero)) x u =
+    (let t = placed_at small (paired 1) 4 2 x opcode.PHI (phi 1) refl refl refl
+    (record { forms = T ∷ R ∷ v ∷ l ∷ []; has = phi_forms }) u in cc)
 label_place (suc (suc (suc zero))) x u = refl
-label_place (suc (suc (suc (suc k)))) x u = (let w = use_within small (phi 1) (suc (suc (suc (suc k)))) x role.Label (use_in small (paired 1) 4 (suc (suc (suc (suc k)))) x role.Label (phi 1) refl u) in absurd (omega (arith, w)))
+label_place (suc (suc (suc (suc k)))) x u =
+    (let w = use_within small (phi 1) (suc (suc (suc (suc k)))) x role.Label
+    (use_in small (paired 1) 4 (suc (suc (suc (suc k)))) x role.Label (phi 1) refl u) in absurd (omega (arith, w)))
 
 pub label_name : (k x : ℕ) → IsUsedAt small (paired 1) 4 k x role.Label → x ≡ 1
-label_name k x u = one_id small (paired 1) 4 3 x 1 role.Label role.Label (subst (λ (j : ℕ). IsUsedAt small (paired 1) 4 j x role.Label) (label_place k x u) u) named
+label_name k x u = one_id small (paired 1) 4 3 x 1 role.Label role.Label
+    (subst (λ (j : ℕ). IsUsedAt small (paired 1) 4 j x role.Label) (label_place k x u) u) named
 
 of_1 : IsLabelOf (paired 1) 1 1
 of_1 = record { defined = record { inst = label 1; there = refl; result = refl }; label = refl }
@@ -160,19 +228,27 @@ bare_forms = record {
 }
 
 pub bare_label : (k x : ℕ) → ¬ (IsUsedAt small unpaired 4 k x role.Label)
-bare_label zero x u = (let t = placed_at small unpaired 4 0 x opcode.PHI bare_phi refl refl refl (record { forms = T ∷ R ∷ []; has = bare_forms }) u in cc)
-bare_label (suc zero) x u = (let t = placed_at small unpaired 4 1 x opcode.PHI bare_phi refl refl refl (record { forms = T ∷ R ∷ []; has = bare_forms }) u in cc)
-bare_label (suc (suc k)) x u = (let w = use_within small bare_phi (suc (suc k)) x role.Label (use_in small unpaired 4 (suc (suc k)) x role.Label bare_phi refl u) in omega (arith, w))
+bare_label zero x u =
+    (let t = placed_at small unpaired 4 0 x opcode.PHI bare_phi refl refl refl
+    (record { forms = T ∷ R ∷ []; has = bare_forms }) u in cc)
+bare_label (suc zero) x u =
+    (let t = placed_at small unpaired 4 1 x opcode.PHI bare_phi refl refl refl
+    (record { forms = T ∷ R ∷ []; has = bare_forms }) u in cc)
+bare_label (suc (suc k)) x u =
+    (let w = use_within small bare_phi (suc (suc k)) x role.Label
+    (use_in small unpaired 4 (suc (suc k)) x role.Label bare_phi refl u) in omega (arith, w))
 
 unpaired_classes : classes unpaired ≡ laid
 unfolding rows
 unpaired_classes = refl
 
 pub u_block : IsOfBlock unpaired 2 1
-u_block = within_by unpaired laid Label terminators 2 1 3 2 unpaired_classes (omega arith) (omega arith) (omega arith) (omega arith) refl refl refl
+u_block = within_by unpaired laid Label terminators 2 1 3 2 unpaired_classes (omega arith) (omega arith) (omega arith)
+    (omega arith) refl refl refl
 
 pub phi_block : IsOfBlock unpaired 4 3
-phi_block = within_by unpaired laid Label terminators 4 3 5 4 unpaired_classes (omega arith) (omega arith) (omega arith) (omega arith) refl refl refl
+phi_block = within_by unpaired laid Label terminators 4 3 5 4 unpaired_classes (omega arith) (omega arith) (omega arith)
+    (omega arith) refl refl refl
 
 pub u_leads : LeadsToBlock small unpaired 2 1 3
 u_leads = record {
@@ -197,7 +273,8 @@ negation_forms r x = record {
   known = refl;
   forms = refl;
   ending = Ends.nothing;
-  each = AreOf.more T (OfType 20) (R ∷ v ∷ []) (Result r ∷ Id x ∷ []) refl (AreOf.more R (Result r) (v ∷ []) (Id x ∷ []) refl (AreOf.more v (Id x) [] [] refl AreOf.none));
+  each = AreOf.more T (OfType 20) (R ∷ v ∷ []) (Result r ∷ Id x ∷ []) refl
+      (AreOf.more R (Result r) (v ∷ []) (Id x ∷ []) refl (AreOf.more v (Id x) [] [] refl AreOf.none));
 }
 
 abbrev pub laid_early : List Class
@@ -208,11 +285,22 @@ unfolding rows
 early_classes = refl
 
 of_early : (i : PlainInst) (n : ℕ) → classes (before_7 i) ≡ laid_early → n ≤ 3 → IsOfFunction (before_7 i) n 0
-of_early i n e lt = within_by (before_7 i) laid_early Function (FunctionEnd ∷ []) n 0 4 4 e (omega (arith, lt)) (omega arith) (omega (arith, lt)) (omega arith) refl refl refl
+of_early i n e lt = within_by (before_7 i) laid_early Function (FunctionEnd ∷ []) n 0 4 4 e (omega (arith, lt))
+    (omega arith) (omega (arith, lt)) (omega arith) refl refl refl
 
 local_by : (i : PlainInst) → classes (before_7 i) ≡ laid_early → IsLocalValue (before_7 i) 7
 local_by i e = record {
-  local = (0, record { place = 3; defined = record { inst = negation 7 6; there = refl; result = refl }; of = of_early i 3 e (omega arith); after = omega arith; before = not_at (before_7 i) laid_early (FunctionEnd ∷ []) 0 4 3 e refl (omega arith) (omega arith) });
+  local = (
+    0,
+    record {
+      place = 3;
+      defined = record { inst = negation 7 6; there = refl; result = refl };
+      of = of_early i 3 e (omega arith);
+      after = omega arith;
+      before =
+          not_at (before_7 i) laid_early (FunctionEnd ∷ []) 0 4 3 e refl (omega arith) (omega arith);
+    },
+  );
   place = 3;
   defined = record { inst = negation 7 6; there = refl; result = refl };
   inst = negation 7 6;
@@ -225,7 +313,8 @@ pub local_7 : IsLocalValue early 7
 local_7 = local_by (negation 6 7) early_classes
 
 none_at_1 : (i : PlainInst) → ¬ (IsDefinedAt (before_7 i) 7 1)
-none_at_1 i d = let t = d.there in let e : label 1 ≡ d.inst = cc in let r = rw (← e) at d.result in absurd (omega (arith, same_Some 1 7 r))
+none_at_1 i d = let t = d.there in let e : label 1 ≡ d.inst = cc in let r = rw (← e) at d.result in
+    absurd (omega (arith, same_Some 1 7 r))
 
 none_at_0 : (i : PlainInst) → ¬ (IsDefinedAt (before_7 i) 7 0)
 none_at_0 i d = let t = d.there in let e : function ≡ d.inst = cc in let r = rw (← e) at d.result in cc
@@ -244,11 +333,13 @@ undefined i (suc (suc k), n, lt, e, d) = absurd (omega (arith, lt))
 walked : (i : PlainInst) → classes (before_7 i) ≡ laid_early → IsWalk small (before_7 i) 0 (1 ∷ 0 ∷ []) 2
 walked i e =
     let w0 : IsWalk small (before_7 i) 0 [] 0 = IsWalk.begins refl in
-    let w1 : IsWalk small (before_7 i) 0 (0 ∷ []) 1 = IsWalk.goes [] 0 1 w0 (Next.follows (λ t. let e = t in cc)) (of_early i 1 e (omega arith)) in
+    let w1 : IsWalk small (before_7 i) 0 (0 ∷ []) 1 = IsWalk.goes [] 0 1 w0 (Next.follows (λ t. let e = t in cc))
+    (of_early i 1 e (omega arith)) in
     IsWalk.goes (0 ∷ []) 1 2 w1 (Next.follows (λ t. let e = t in cc)) (of_early i 2 e (omega arith))
 
 -- that instruction misses %7 where it uses it
-pub missed_by : (i : PlainInst) (k : ℕ) → classes (before_7 i) ≡ laid_early → ¬ (IsOp (before_7 i) 2 (is_opcode opcode.PHI)) → IsUse small i k 7 role.Value → IsMissing small (before_7 i) 2
+pub missed_by : (i : PlainInst) (k : ℕ) → classes (before_7 i) ≡ laid_early
+    → ¬ (IsOp (before_7 i) 2 (is_opcode opcode.PHI)) → IsUse small i k 7 role.Value → IsMissing small (before_7 i) 2
 missed_by i k e other u = record {
   other = other;
   function = 0;
@@ -263,7 +354,16 @@ missed_by i k e other u = record {
 }
 
 negation_used : IsUse small (negation 6 7) 2 7 role.Value
-negation_used = record { forms = T ∷ R ∷ v ∷ []; has = negation_forms 6 7; form = v; operand = Id 7; form_at = refl; operand_at = refl; role = refl; id = refl }
+negation_used = record {
+  forms = T ∷ R ∷ v ∷ [];
+  has = negation_forms 6 7;
+  form = v;
+  operand = Id 7;
+  form_at = refl;
+  operand_at = refl;
+  role = refl;
+  id = refl;
+}
 
 pub missed : IsMissing small early 2
 missed = missed_by (negation 6 7) 2 early_classes (λ t. let e = t in cc) negation_used
@@ -271,10 +371,12 @@ missed = missed_by (negation 6 7) 2 early_classes (λ t. let e = t in cc) negati
 -- a label has no type
 label_2 : (m : ℕ) → IsDefinedAt two_blocks 2 m → m ≡ 3
 label_2 zero d = let t = d.there in let e : function ≡ d.inst = cc in let r = rw (← e) at d.result in cc
-label_2 (suc zero) d = let t = d.there in let e : label 1 ≡ d.inst = cc in let r = rw (← e) at d.result in absurd (omega (arith, same_Some 1 2 r))
+label_2 (suc zero) d = let t = d.there in let e : label 1 ≡ d.inst = cc in let r = rw (← e) at d.result in
+    absurd (omega (arith, same_Some 1 2 r))
 label_2 (suc (suc zero)) d = let t = d.there in let e : branch 2 ≡ d.inst = cc in let r = rw (← e) at d.result in cc
 label_2 (suc (suc (suc zero))) d = refl
-label_2 (suc (suc (suc (suc zero)))) d = let t = d.there in let e : return_void ≡ d.inst = cc in let r = rw (← e) at d.result in cc
+label_2 (suc (suc (suc (suc zero)))) d = let t = d.there in let e : return_void ≡ d.inst = cc in
+    let r = rw (← e) at d.result in cc
 label_2 (suc (suc (suc (suc (suc k))))) d = let t = d.there in cc
 
 pub not_local : ¬ (IsLocalValue two_blocks 2)

@@ -17,14 +17,21 @@ use Rattle.spv_flow.specs.calls.inner.Found.{AreCalls, AreEntries}
 use Rattle.spv_flow.proofs.lemmas.calls.Chains.{mapped, moved}
 
 call_moved : (is : List PlainInst) (n f g h j : ℕ) → f ≡ h → g ≡ j → IsCall is n f g → IsCall is n h j
-call_moved is n f g h j a b k = let P : ℕ → Type 0 = λ x. IsCall is n x g in let Q : ℕ → Type 0 = λ x. IsCall is n h x in subst Q b (subst P a k)
+call_moved is n f g h j a b k = let P : ℕ → Type 0 = λ x. IsCall is n x g in let Q : ℕ
+    → Type 0 = λ x. IsCall is n h x in subst Q b (subst P a k)
 
-has_calls : (is : List PlainInst) (n : ℕ) (calls : List Call) → AreCalls is n calls → (f g : ℕ) → HasCall calls f g → Calls is f g
+has_calls : (is : List PlainInst) (n : ℕ) (calls : List Call) → AreCalls is n calls → (f g : ℕ) → HasCall calls f g
+    → Calls is f g
 has_calls is n calls a f g h =
     let s = a.sound h.place h.call h.there in
-    record { place = h.call.inst; call = call_moved is h.call.inst h.call.caller h.call.callee f g h.from h.to s.0.call }
+    record {
+      place = h.call.inst;
+      call = call_moved is h.call.inst h.call.caller h.call.callee f g h.from h.to
+          s.0.call;
+    }
 
-pub calls_has : (is : List PlainInst) (calls : List Call) → AreCalls is (length is) calls → (f g : ℕ) → Calls is f g → HasCall calls f g
+pub calls_has : (is : List PlainInst) (calls : List Call) → AreCalls is (length is) calls → (f g : ℕ) → Calls is f g
+    → HasCall calls f g
 calls_has is calls a f g k =
     let r = a.complete k.place f g k.call.of.begun.within k.call in
     record { place = r.0; call = r.1; there = r.2; from = r.3; to = r.4 }
@@ -39,11 +46,13 @@ calls_within is n calls a = record {
       (omega (arith, u, w), d);
 }
 
-pub entries_below : (is : List PlainInst) (n : ℕ) (entries : List ℕ) → AreEntries is n entries → AreBelow (length is) entries
+pub entries_below : (is : List PlainInst) (n : ℕ) (entries : List ℕ) → AreEntries is n entries
+    → AreBelow (length is) entries
 entries_below is n entries a = record { each = λ k e h. let s = a.sound k e h in defined_within is s.id e s.function }
 
 -- a call on a cycle breaks the rule
-pub cyclic_broken : (is : List PlainInst) (m n : ℕ) (calls : List Call) (entries : List ℕ) (k : ℕ) → AreCalls is m calls → AreEntries is n entries → (y : IsCyclic calls entries k) → Broken is G1 y.call.inst
+pub cyclic_broken : (is : List PlainInst) (m n : ℕ) (calls : List Call) (entries : List ℕ) (k : ℕ) → AreCalls is m calls
+    → AreEntries is n entries → (y : IsCyclic calls entries k) → Broken is G1 y.call.inst
 cyclic_broken is m n calls entries k a b y =
     let s = a.sound k y.call y.there in
     let r = y.reached in
@@ -58,7 +67,8 @@ record IsGathered (calls : List Call) (entries : List ℕ) (r : Rule) (n : ℕ) 
   pub cyclic : IsCyclic calls entries place
   pub inst : cyclic.call.inst ≡ n
 
-broken_gathered : (is : List PlainInst) (calls : List Call) (entries : List ℕ) → AreCalls is (length is) calls → AreEntries is (length is) entries → (r : Rule) (n : ℕ) → Broken is r n
+broken_gathered : (is : List PlainInst) (calls : List Call) (entries : List ℕ) → AreCalls is (length is) calls
+    → AreEntries is (length is) entries → (r : Rule) (n : ℕ) → Broken is r n
     → IsGathered calls entries r n
 broken_gathered is calls entries a b _ _ (on_cycle n e f g k h c d) =
     let w = k.of.begun.within in
@@ -72,22 +82,30 @@ broken_gathered is calls entries a b _ _ (on_cycle n e f g k h c d) =
       cyclic = record {
         call = r.1;
         there = r.2;
-        reached = record { place = q.0; start = e; listed = q.1; chain = moved (HasCall calls) e f e r.1.caller refl (sym r.3) to };
+        reached = record {
+          place = q.0;
+          start = e;
+          listed = q.1;
+          chain = moved (HasCall calls) e f e r.1.caller refl (sym r.3) to;
+        };
         back = moved (HasCall calls) g f r.1.callee r.1.caller (sym r.4) (sym r.3) back;
       };
       inst = r.5;
     }
 
-pub none_broken : (is : List PlainInst) (calls : List Call) (entries : List ℕ) → AreCalls is (length is) calls → AreEntries is (length is) entries → NoneBefore calls entries (length calls)
+pub none_broken : (is : List PlainInst) (calls : List Call) (entries : List ℕ) → AreCalls is (length is) calls
+    → AreEntries is (length is) entries → NoneBefore calls entries (length calls)
     → IsUnbroken (Broken is) of_calls
 none_broken is calls entries a b none = λ r n e k.
     let g = broken_gathered is calls entries a b r n k in
     none.each g.place (slice_get_within calls g.place g.cyclic.call g.cyclic.there) g.cyclic
 
-same_call : (calls : List Call) (j k : ℕ) (c d : Call) → j ≡ k → slice_get calls j ≡ Some c → slice_get calls k ≡ Some d → c ≡ d
+same_call : (calls : List Call) (j k : ℕ) (c d : Call) → j ≡ k → slice_get calls j ≡ Some c → slice_get calls k ≡ Some d
+    → c ≡ d
 same_call calls j k c d e h g = let h' : slice_get calls k ≡ Some c = rw (← e) h in cc
 
-pub first_broken : (is : List PlainInst) (calls : List Call) (entries : List ℕ) (k : ℕ) → AreCalls is (length is) calls → AreEntries is (length is) entries → (y : IsFirstCyclic calls entries k)
+pub first_broken : (is : List PlainInst) (calls : List Call) (entries : List ℕ) (k : ℕ) → AreCalls is (length is) calls
+    → AreEntries is (length is) entries → (y : IsFirstCyclic calls entries k)
     → IsFirst (Broken is) of_calls G1 y.cyclic.call.inst
 first_broken is calls entries k a b y = record {
   of_stage = refl;
@@ -110,7 +128,8 @@ first_broken is calls entries k a b y = record {
 }
 
 -- what the first call on a cycle says, by its place in the list
-pub first_told : (is : List PlainInst) (calls : List Call) (entries : List ℕ) (k : ℕ) (c : Call) → AreCalls is (length is) calls → AreEntries is (length is) entries → slice_get calls k ≡ Some c
+pub first_told : (is : List PlainInst) (calls : List Call) (entries : List ℕ) (k : ℕ) (c : Call)
+    → AreCalls is (length is) calls → AreEntries is (length is) entries → slice_get calls k ≡ Some c
     → IsFirstCyclic calls entries k → IsFirst (Broken is) of_calls G1 c.inst
 first_told is calls entries k c a b h y =
     let e : y.cyclic.call ≡ c = same_call calls k k y.cyclic.call c refl y.cyclic.there h in

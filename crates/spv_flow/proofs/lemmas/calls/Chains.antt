@@ -22,9 +22,11 @@ turned R S t f _ alone = alone
 turned R S t f _ (more k h b s) = joined S h k f (single S h k (t k h s)) (turned R S t f k b)
 
 -- what each step keeps, a chain keeps
-pub keeps : (R : ℕ → ℕ → Type 0) (P : ℕ → Type 0) → ((f g : ℕ) → R f g → P f → P g) → (f g : ℕ) → Chain R f g → P f → P g
+pub keeps : (R : ℕ → ℕ → Type 0) (P : ℕ → Type 0) → ((f g : ℕ) → R f g → P f → P g) → (f g : ℕ) → Chain R f g → P f
+    → P g
 keeps R P t f _ alone p = p
 keeps R P t f _ (more k h b s) p = t k h s (keeps R P t f k b p)
 
 pub moved : (R : ℕ → ℕ → Type 0) (f g h k : ℕ) → f ≡ h → g ≡ k → Chain R f g → Chain R h k
-moved R f g h k a b c = let P : ℕ → Type 0 = λ x. Chain R x g in let Q : ℕ → Type 0 = λ x. Chain R h x in subst Q b (subst P a c)
+moved R f g h k a b c = let P : ℕ → Type 0 = λ x. Chain R x g in let Q : ℕ → Type 0 = λ x. Chain R h x in
+    subst Q b (subst P a c)

@@ -35,10 +35,12 @@ goes_forward calls a f _ (more g h c k) =
     let y = k.to in
     omega (arith, i, e, x, y)
 
-falls_at : (numbers : List ℕ) (g h : ℕ) (c : Call) → c.caller ≡ g → c.callee ≡ h → number_of numbers c.callee < number_of numbers c.caller → number_of numbers h < number_of numbers g
+falls_at : (numbers : List ℕ) (g h : ℕ) (c : Call) → c.caller ≡ g → c.callee ≡ h
+    → number_of numbers c.callee < number_of numbers c.caller → number_of numbers h < number_of numbers g
 falls_at numbers g h c x y l = rw (← x, ← y) l
 
-falls : (calls : List Call) (numbers : List ℕ) → AreFalling calls numbers → (f g : ℕ) → Chain (HasCall calls) f g → number_of numbers g ≤ number_of numbers f
+falls : (calls : List Call) (numbers : List ℕ) → AreFalling calls numbers → (f g : ℕ) → Chain (HasCall calls) f g
+    → number_of numbers g ≤ number_of numbers f
 falls calls numbers a f _ alone = omega arith
 falls calls numbers a f _ (more g h c k) =
     let i = falls calls numbers a f g c in
@@ -46,16 +48,29 @@ falls calls numbers a f _ (more g h c k) =
     omega (arith, i, e)
 
 pub leading_acyclic : (calls : List Call) (way : Way) → AllLead way calls → AreAcyclic calls
-leading_acyclic calls Back a = record { each = λ k c h b. let i = goes_backward calls a c.callee c.caller b in let e = a.each k c h in absurd (omega (arith, i, e)) }
-leading_acyclic calls On a = record { each = λ k c h b. let i = goes_forward calls a c.callee c.caller b in let e = a.each k c h in absurd (omega (arith, i, e)) }
+leading_acyclic calls Back a =
+    record {
+      each = λ k c h b. let i = goes_backward calls a c.callee c.caller b in let e = a.each k c h in
+          absurd (omega (arith, i, e));
+    }
+leading_acyclic calls On a =
+    record {
+      each = λ k c h b. let i = goes_forward calls a c.callee c.caller b in let e = a.each k c h in
+          absurd (omega (arith, i, e));
+    }
 
 pub falling_acyclic : (calls : List Call) (numbers : List ℕ) → AreFalling calls numbers → AreAcyclic calls
-falling_acyclic calls numbers a = record { each = λ k c h b. let i = falls calls numbers a c.callee c.caller b in let e = a.each k c h in absurd (omega (arith, i, e)) }
+falling_acyclic calls numbers a =
+    record {
+      each = λ k c h b. let i = falls calls numbers a c.callee c.caller b in let e = a.each k c h in
+          absurd (omega (arith, i, e));
+    }
 
 pub acyclic_none : (calls : List Call) (starts : List ℕ) (n : ℕ) → AreAcyclic calls → NoneBefore calls starts n
 acyclic_none calls starts n a = record { each = λ j l y. a.each j y.call y.there y.back }
 
-broken_back : (is : List PlainInst) (calls : List Call) → AreCalls is (length is) calls → AreAcyclic calls → (r : Rule) (n : ℕ) → ¬ (Broken is r n)
+broken_back : (is : List PlainInst) (calls : List Call) → AreCalls is (length is) calls → AreAcyclic calls
+    → (r : Rule) (n : ℕ) → ¬ (Broken is r n)
 broken_back is calls a y _ _ (on_cycle n e f g k h c d) =
     let w = k.of.begun.within in
     let r = a.complete n f g w k in
@@ -63,5 +78,6 @@ broken_back is calls a y _ _ (on_cycle n e f g k h c d) =
     y.each r.0 r.1 r.2 (moved (HasCall calls) g f r.1.callee r.1.caller (sym r.4) (sym r.3) back)
 
 -- Calls that make no cycle break nothing.
-pub acyclic_unbroken : (is : List PlainInst) (calls : List Call) → AreCalls is (length is) calls → AreAcyclic calls → IsUnbroken (Broken is) of_calls
+pub acyclic_unbroken : (is : List PlainInst) (calls : List Call) → AreCalls is (length is) calls → AreAcyclic calls
+    → IsUnbroken (Broken is) of_calls
 acyclic_unbroken is calls a y = λ r n e b. broken_back is calls a y r n b

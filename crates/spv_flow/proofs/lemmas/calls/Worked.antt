@@ -25,10 +25,12 @@ unfolding rows
 looped_classes = refl
 
 of_1 : (n : ℕ) → 1 ≤ n → n ≤ 3 → IsOfFunction looped n 1
-of_1 n from to = within_by looped laid Function (FunctionEnd ∷ []) n 1 4 3 looped_classes (omega (arith, to)) (omega arith) to from refl refl refl
+of_1 n from to = within_by looped laid Function (FunctionEnd ∷ []) n 1 4 3 looped_classes (omega (arith, to))
+    (omega arith) to from refl refl refl
 
 of_6 : (n : ℕ) → 6 ≤ n → n ≤ 8 → IsOfFunction looped n 6
-of_6 n from to = within_by looped laid Function (FunctionEnd ∷ []) n 6 9 8 looped_classes (omega (arith, to)) (omega arith) to from refl refl refl
+of_6 n from to = within_by looped laid Function (FunctionEnd ∷ []) n 6 9 8 looped_classes (omega (arith, to))
+    (omega arith) to from refl refl refl
 
 call_1 : IsOfFunction looped 3 1
 call_1 = of_1 3 (omega arith) (omega arith)
@@ -69,24 +71,41 @@ called_8 = record {
 }
 
 pub entry_0 : IsEntryFunction looped 1
-entry_0 = record { place = 0; inst = entry 1; there = refl; opcode = refl; id = 1; named = refl; function = record { inst = function 1; there = refl; result = refl } }
+entry_0 = record {
+  place = 0;
+  inst = entry 1;
+  there = refl;
+  opcode = refl;
+  id = 1;
+  named = refl;
+  function = record { inst = function 1; there = refl; result = refl };
+}
 
 pub chain_6 : Chain (Calls looped) 1 6
 chain_6 = single (Calls looped) 1 6 (record { place = 3; call = called_3 })
 
 -- the calls are instructions 3 and 8
 call_places : (m f g : ℕ) → IsCall looped m f g → (m ≡ 3) ⊎ (m ≡ 8)
-call_places zero f g c = let t = c.there in let e : entry 1 ≡ c.inst = cc in let b = rw (← e) at c.opcode in absurd (omega (arith, b))
-call_places (suc zero) f g c = let t = c.there in let e : function 1 ≡ c.inst = cc in let b = rw (← e) at c.opcode in absurd (omega (arith, b))
-call_places (suc (suc zero)) f g c = let t = c.there in let e : label 2 ≡ c.inst = cc in let b = rw (← e) at c.opcode in absurd (omega (arith, b))
+call_places zero f g c = let t = c.there in let e : entry 1 ≡ c.inst = cc in let b = rw (← e) at c.opcode in
+    absurd (omega (arith, b))
+call_places (suc zero) f g c = let t = c.there in let e : function 1 ≡ c.inst = cc in let b = rw (← e) at c.opcode in
+    absurd (omega (arith, b))
+call_places (suc (suc zero)) f g c = let t = c.there in let e : label 2 ≡ c.inst = cc in let b = rw (← e) at c.opcode in
+    absurd (omega (arith, b))
 call_places (suc (suc (suc zero))) f g c = inl refl
-call_places (suc (suc (suc (suc zero)))) f g c = let t = c.there in let e : return_op ≡ c.inst = cc in let b = rw (← e) at c.opcode in absurd (omega (arith, b))
-call_places (suc (suc (suc (suc (suc zero))))) f g c = let t = c.there in let e : end ≡ c.inst = cc in let b = rw (← e) at c.opcode in absurd (omega (arith, b))
-call_places (suc (suc (suc (suc (suc (suc zero)))))) f g c = let t = c.there in let e : function 4 ≡ c.inst = cc in let b = rw (← e) at c.opcode in absurd (omega (arith, b))
-call_places (suc (suc (suc (suc (suc (suc (suc zero))))))) f g c = let t = c.there in let e : label 5 ≡ c.inst = cc in let b = rw (← e) at c.opcode in absurd (omega (arith, b))
+call_places (suc (suc (suc (suc zero)))) f g c = let t = c.there in let e : return_op ≡ c.inst = cc in
+    let b = rw (← e) at c.opcode in absurd (omega (arith, b))
+call_places (suc (suc (suc (suc (suc zero))))) f g c = let t = c.there in let e : end ≡ c.inst = cc in
+    let b = rw (← e) at c.opcode in absurd (omega (arith, b))
+call_places (suc (suc (suc (suc (suc (suc zero)))))) f g c = let t = c.there in let e : function 4 ≡ c.inst = cc in
+    let b = rw (← e) at c.opcode in absurd (omega (arith, b))
+call_places (suc (suc (suc (suc (suc (suc (suc zero))))))) f g c = let t = c.there in let e : label 5 ≡ c.inst = cc in
+    let b = rw (← e) at c.opcode in absurd (omega (arith, b))
 call_places (suc (suc (suc (suc (suc (suc (suc (suc zero)))))))) f g c = inr refl
-call_places (suc (suc (suc (suc (suc (suc (suc (suc (suc zero))))))))) f g c = let t = c.there in let e : return_op ≡ c.inst = cc in let b = rw (← e) at c.opcode in absurd (omega (arith, b))
-call_places (suc (suc (suc (suc (suc (suc (suc (suc (suc (suc zero)))))))))) f g c = let t = c.there in let e : end ≡ c.inst = cc in let b = rw (← e) at c.opcode in absurd (omega (arith, b))
+call_places (suc (suc (suc (suc (suc (suc (suc (suc (suc zero))))))))) f g c = let t = c.there in
+    let e : return_op ≡ c.inst = cc in let b = rw (← e) at c.opcode in absurd (omega (arith, b))
+call_places (suc (suc (suc (suc (suc (suc (suc (suc (suc (suc zero)))))))))) f g c = let t = c.there in
+    let e : end ≡ c.inst = cc in let b = rw (← e) at c.opcode in absurd (omega (arith, b))
 call_places (suc (suc (suc (suc (suc (suc (suc (suc (suc (suc (suc k))))))))))) f g c = let t = c.there in cc
 
 -- %4 is the result of instruction 6
@@ -94,14 +113,21 @@ defined_by_4 : (m : ℕ) → IsDefinedAt looped 4 m → m ≡ 6
 defined_by_4 zero d = let t = d.there in let e : entry 1 ≡ d.inst = cc in let b = rw (← e) at d.result in cc
 defined_by_4 (suc zero) d = let t = d.there in let e : function 1 ≡ d.inst = cc in let b = rw (← e) at d.result in cc
 defined_by_4 (suc (suc zero)) d = let t = d.there in let e : label 2 ≡ d.inst = cc in let b = rw (← e) at d.result in cc
-defined_by_4 (suc (suc (suc zero))) d = let t = d.there in let e : call 3 4 ≡ d.inst = cc in let b = rw (← e) at d.result in cc
-defined_by_4 (suc (suc (suc (suc zero)))) d = let t = d.there in let e : return_op ≡ d.inst = cc in let b = rw (← e) at d.result in cc
-defined_by_4 (suc (suc (suc (suc (suc zero))))) d = let t = d.there in let e : end ≡ d.inst = cc in let b = rw (← e) at d.result in cc
+defined_by_4 (suc (suc (suc zero))) d = let t = d.there in let e : call 3 4 ≡ d.inst = cc in
+    let b = rw (← e) at d.result in cc
+defined_by_4 (suc (suc (suc (suc zero)))) d = let t = d.there in let e : return_op ≡ d.inst = cc in
+    let b = rw (← e) at d.result in cc
+defined_by_4 (suc (suc (suc (suc (suc zero))))) d = let t = d.there in let e : end ≡ d.inst = cc in
+    let b = rw (← e) at d.result in cc
 defined_by_4 (suc (suc (suc (suc (suc (suc zero)))))) d = refl
-defined_by_4 (suc (suc (suc (suc (suc (suc (suc zero))))))) d = let t = d.there in let e : label 5 ≡ d.inst = cc in let b = rw (← e) at d.result in cc
-defined_by_4 (suc (suc (suc (suc (suc (suc (suc (suc zero)))))))) d = let t = d.there in let e : call 6 4 ≡ d.inst = cc in let b = rw (← e) at d.result in cc
-defined_by_4 (suc (suc (suc (suc (suc (suc (suc (suc (suc zero))))))))) d = let t = d.there in let e : return_op ≡ d.inst = cc in let b = rw (← e) at d.result in cc
-defined_by_4 (suc (suc (suc (suc (suc (suc (suc (suc (suc (suc zero)))))))))) d = let t = d.there in let e : end ≡ d.inst = cc in let b = rw (← e) at d.result in cc
+defined_by_4 (suc (suc (suc (suc (suc (suc (suc zero))))))) d = let t = d.there in let e : label 5 ≡ d.inst = cc in
+    let b = rw (← e) at d.result in cc
+defined_by_4 (suc (suc (suc (suc (suc (suc (suc (suc zero)))))))) d = let t = d.there in
+    let e : call 6 4 ≡ d.inst = cc in let b = rw (← e) at d.result in cc
+defined_by_4 (suc (suc (suc (suc (suc (suc (suc (suc (suc zero))))))))) d = let t = d.there in
+    let e : return_op ≡ d.inst = cc in let b = rw (← e) at d.result in cc
+defined_by_4 (suc (suc (suc (suc (suc (suc (suc (suc (suc (suc zero)))))))))) d = let t = d.there in
+    let e : end ≡ d.inst = cc in let b = rw (← e) at d.result in cc
 defined_by_4 (suc (suc (suc (suc (suc (suc (suc (suc (suc (suc (suc k))))))))))) d = let t = d.there in cc
 
 defined_as_4 : (x m : ℕ) → x ≡ 4 → IsDefinedAt looped x m → m ≡ 6
@@ -128,13 +154,15 @@ callee_at : (m f g : ℕ) → IsCall looped m f g → g ≡ 6
 callee_at m f g c = elim (call_places m f g c) [ inl e ↦ callee_3 f g (rw e at c) | inr e ↦ callee_8 f g (rw e at c) ]
 
 pub label_no_call : (f g : ℕ) → ¬ (IsCall looped 2 f g)
-label_no_call f g c = elim (call_places 2 f g c) [ inl e ↦ absurd (omega (arith, e)) | inr e ↦ absurd (omega (arith, e)) ]
+label_no_call f g c =
+    elim (call_places 2 f g c) [ inl e ↦ absurd (omega (arith, e)) | inr e ↦ absurd (omega (arith, e)) ]
 
 pub never_calls : ¬ (Calls looped 6 1)
 never_calls c = let e = callee_at c.place 6 1 c.call in absurd (omega (arith, e))
 
 stays : (f g : ℕ) → Chain (Calls looped) f g → f ≡ 6 → g ≡ 6
-stays f g c e = let P : ℕ → Type 0 = λ x. x ≡ 6 in keeps (Calls looped) P (λ a b s p. callee_at s.place a b s.call) f g c e
+stays f g c e = let P : ℕ → Type 0 = λ x. x ≡ 6 in
+    keeps (Calls looped) P (λ a b s p. callee_at s.place a b s.call) f g c e
 
 pub no_chain : ¬ (Chain (Calls looped) 6 1)
 no_chain c = let e = stays 6 1 c refl in absurd (omega (arith, e))
@@ -151,17 +179,28 @@ from_outside _ _ (on_cycle n e f g k h c d) q =
 
 -- no instruction of the functions alone is an OpEntryPoint
 no_entry_at : (m f : ℕ) (h : IsEntryFunction functions f) → h.place ≡ m → ⊥
-no_entry_at zero f h q = let t = h.there in let t' = rw q at t in let e : function 1 ≡ h.inst = cc in let b = rw (← e) at h.opcode in absurd (omega (arith, b))
-no_entry_at (suc zero) f h q = let t = h.there in let t' = rw q at t in let e : label 2 ≡ h.inst = cc in let b = rw (← e) at h.opcode in absurd (omega (arith, b))
-no_entry_at (suc (suc zero)) f h q = let t = h.there in let t' = rw q at t in let e : call 3 4 ≡ h.inst = cc in let b = rw (← e) at h.opcode in absurd (omega (arith, b))
-no_entry_at (suc (suc (suc zero))) f h q = let t = h.there in let t' = rw q at t in let e : return_op ≡ h.inst = cc in let b = rw (← e) at h.opcode in absurd (omega (arith, b))
-no_entry_at (suc (suc (suc (suc zero)))) f h q = let t = h.there in let t' = rw q at t in let e : end ≡ h.inst = cc in let b = rw (← e) at h.opcode in absurd (omega (arith, b))
-no_entry_at (suc (suc (suc (suc (suc zero))))) f h q = let t = h.there in let t' = rw q at t in let e : function 4 ≡ h.inst = cc in let b = rw (← e) at h.opcode in absurd (omega (arith, b))
-no_entry_at (suc (suc (suc (suc (suc (suc zero)))))) f h q = let t = h.there in let t' = rw q at t in let e : label 5 ≡ h.inst = cc in let b = rw (← e) at h.opcode in absurd (omega (arith, b))
-no_entry_at (suc (suc (suc (suc (suc (suc (suc zero))))))) f h q = let t = h.there in let t' = rw q at t in let e : call 6 4 ≡ h.inst = cc in let b = rw (← e) at h.opcode in absurd (omega (arith, b))
-no_entry_at (suc (suc (suc (suc (suc (suc (suc (suc zero)))))))) f h q = let t = h.there in let t' = rw q at t in let e : return_op ≡ h.inst = cc in let b = rw (← e) at h.opcode in absurd (omega (arith, b))
-no_entry_at (suc (suc (suc (suc (suc (suc (suc (suc (suc zero))))))))) f h q = let t = h.there in let t' = rw q at t in let e : end ≡ h.inst = cc in let b = rw (← e) at h.opcode in absurd (omega (arith, b))
-no_entry_at (suc (suc (suc (suc (suc (suc (suc (suc (suc (suc k)))))))))) f h q = let t = h.there in let t' = rw q at t in cc
+no_entry_at zero f h q = let t = h.there in let t' = rw q at t in let e : function 1 ≡ h.inst = cc in
+    let b = rw (← e) at h.opcode in absurd (omega (arith, b))
+no_entry_at (suc zero) f h q = let t = h.there in let t' = rw q at t in let e : label 2 ≡ h.inst = cc in
+    let b = rw (← e) at h.opcode in absurd (omega (arith, b))
+no_entry_at (suc (suc zero)) f h q = let t = h.there in let t' = rw q at t in let e : call 3 4 ≡ h.inst = cc in
+    let b = rw (← e) at h.opcode in absurd (omega (arith, b))
+no_entry_at (suc (suc (suc zero))) f h q = let t = h.there in let t' = rw q at t in let e : return_op ≡ h.inst = cc in
+    let b = rw (← e) at h.opcode in absurd (omega (arith, b))
+no_entry_at (suc (suc (suc (suc zero)))) f h q = let t = h.there in let t' = rw q at t in let e : end ≡ h.inst = cc in
+    let b = rw (← e) at h.opcode in absurd (omega (arith, b))
+no_entry_at (suc (suc (suc (suc (suc zero))))) f h q = let t = h.there in let t' = rw q at t in
+    let e : function 4 ≡ h.inst = cc in let b = rw (← e) at h.opcode in absurd (omega (arith, b))
+no_entry_at (suc (suc (suc (suc (suc (suc zero)))))) f h q = let t = h.there in let t' = rw q at t in
+    let e : label 5 ≡ h.inst = cc in let b = rw (← e) at h.opcode in absurd (omega (arith, b))
+no_entry_at (suc (suc (suc (suc (suc (suc (suc zero))))))) f h q = let t = h.there in let t' = rw q at t in
+    let e : call 6 4 ≡ h.inst = cc in let b = rw (← e) at h.opcode in absurd (omega (arith, b))
+no_entry_at (suc (suc (suc (suc (suc (suc (suc (suc zero)))))))) f h q = let t = h.there in let t' = rw q at t in
+    let e : return_op ≡ h.inst = cc in let b = rw (← e) at h.opcode in absurd (omega (arith, b))
+no_entry_at (suc (suc (suc (suc (suc (suc (suc (suc (suc zero))))))))) f h q = let t = h.there in let t' = rw q at t in
+    let e : end ≡ h.inst = cc in let b = rw (← e) at h.opcode in absurd (omega (arith, b))
+no_entry_at (suc (suc (suc (suc (suc (suc (suc (suc (suc (suc k)))))))))) f h q = let t = h.there in
+    let t' = rw q at t in cc
 
 pub no_entry : (f : ℕ) → ¬ (IsEntryFunction functions f)
 no_entry f h = no_entry_at h.place f h refl

@@ -1,5 +1,6 @@
 -- What is added to a list, step by step.
-use Rattle.std.proofs.Common.{◌≡◌, ◌≤◌, ◌<◌, ◌+◌, ◌++◌, ◌∙◌, inl, inr, ℕ, zero, suc, List, [], ◌∷◌, refl, ap, subst, arith}
+use Rattle.std.proofs.Common.{◌≡◌, ◌≤◌, ◌<◌, ◌+◌, ◌++◌, ◌∙◌, inl, inr, ℕ, zero, suc, List, [], ◌∷◌, refl, ap, subst}
+use Rattle.std.proofs.Common.{arith}
 use Rattle.std.specs.Prelude.{Contains}
 use Rattle.std.proofs.lemmas.Bool.{cases_lt}
 use Rattle.std.proofs.lemmas.List.Elements.{Contains-append_left, Contains-append_right, Contains-append_cases}
@@ -31,7 +32,8 @@ module _ {A : Type 0} where
   only_there x a (zero, lt, e) = e
   only_there x a (suc k, lt, e) = absurd (omega (arith, lt))
 
-  pub adds_none : (c : Code) (P : Table → A → Type 0) (xs : List A) → ((G : Table) → IsCode G c → (a : A) → ¬ (P G a)) → AddsBy c P xs xs
+  pub adds_none : (c : Code) (P : Table → A → Type 0) (xs : List A) → ((G : Table) → IsCode G c → (a : A) → ¬ (P G a))
+      → AddsBy c P xs xs
   adds_none c P xs none = record {
     added = [];
     all = nil_right xs;
@@ -39,7 +41,8 @@ module _ {A : Type 0} where
     complete = λ a q. absurd (none q.0 q.1 a q.2);
   }
 
-  pub adds_one : (c : Code) (P : Table → A → Type 0) (xs : List A) (x : A) → ((G : Table) → IsCode G c → P G x) → ((G : Table) → IsCode G c → (a : A) → P G a → x ≡ a) → AddsBy c P xs (xs ++ x ∷ [])
+  pub adds_one : (c : Code) (P : Table → A → Type 0) (xs : List A) (x : A) → ((G : Table) → IsCode G c → P G x)
+      → ((G : Table) → IsCode G c → (a : A) → P G a → x ≡ a) → AddsBy c P xs (xs ++ x ∷ [])
   adds_one c P xs x here only = record {
     added = x ∷ [];
     all = refl;
@@ -47,7 +50,9 @@ module _ {A : Type 0} where
     complete = λ a q. subst (λ (y : A). Contains (x ∷ []) y) (only q.0 q.1 a q.2) (one_there x);
   }
 
-  pub adds_as : (c : Code) (P Q : Table → A → Type 0) (xs ys : List A) → AddsBy c P xs ys → ((G : Table) → IsCode G c → (a : A) → P G a → Q G a) → ((G : Table) → IsCode G c → (a : A) → Q G a → P G a) → AddsBy c Q xs ys
+  pub adds_as : (c : Code) (P Q : Table → A → Type 0) (xs ys : List A) → AddsBy c P xs ys
+      → ((G : Table) → IsCode G c → (a : A) → P G a → Q G a) → ((G : Table) → IsCode G c → (a : A) → Q G a → P G a)
+      → AddsBy c Q xs ys
   adds_as c P Q xs ys h to from = record {
     added = h.added;
     all = h.all;
@@ -55,10 +60,12 @@ module _ {A : Type 0} where
     complete = λ a q. h.complete a (q.0, q.1, from q.0 q.1 a q.2);
   }
 
-  pub adds_start : (c : Code) (P : Table → ℕ → A → Type 0) (n : ℕ) (xs : List A) → ((G : Table) → IsCode G c → (j : ℕ) (a : A) → j < n → ¬ (P G j a)) → AddsBy c (UpTo n P) xs xs
+  pub adds_start : (c : Code) (P : Table → ℕ → A → Type 0) (n : ℕ) (xs : List A)
+      → ((G : Table) → IsCode G c → (j : ℕ) (a : A) → j < n → ¬ (P G j a)) → AddsBy c (UpTo n P) xs xs
   adds_start c P n xs none = adds_none c (UpTo n P) xs (λ G is a h. none G is h.0 a h.1 h.2)
 
-  pub adds_step : (c : Code) (P : Table → ℕ → A → Type 0) (n : ℕ) (xs ys zs : List A) → AddsBy c (UpTo n P) xs ys → AddsBy c (λ G a. P G n a) ys zs → AddsBy c (UpTo (n + 1) P) xs zs
+  pub adds_step : (c : Code) (P : Table → ℕ → A → Type 0) (n : ℕ) (xs ys zs : List A) → AddsBy c (UpTo n P) xs ys
+      → AddsBy c (λ G a. P G n a) ys zs → AddsBy c (UpTo (n + 1) P) xs zs
   adds_step c P n xs ys zs before here = record {
     added = before.added ++ here.added;
     all = here.all ∙ ap (λ (us : List A). us ++ here.added) before.all ∙ joined xs before.added here.added;
@@ -71,12 +78,15 @@ module _ {A : Type 0} where
       | inr more ↦ (
           let lt = q.2.1 in
           let e : q.2.0 ≡ n = omega (arith, lt, more) in
-          Contains-append_right before.added here.added a (here.complete a (q.0, q.1, subst (λ (j : ℕ). P q.0 j a) e q.2.2)))
+          Contains-append_right before.added here.added a
+          (here.complete a (q.0, q.1, subst (λ (j : ℕ). P q.0 j a) e q.2.2)))
     ];
   }
 
   -- steps that add nothing new
-  pub adds_past : (c : Code) (P : Table → ℕ → A → Type 0) (n m : ℕ) (xs ys : List A) → n ≤ m → AddsBy c (UpTo n P) xs ys → ((G : Table) → IsCode G c → (j : ℕ) (a : A) → n ≤ j → j < m → P G j a → UpTo n P G a) → AddsBy c (UpTo m P) xs ys
+  pub adds_past : (c : Code) (P : Table → ℕ → A → Type 0) (n m : ℕ) (xs ys : List A) → n ≤ m → AddsBy c (UpTo n P) xs ys
+      → ((G : Table) → IsCode G c → (j : ℕ) (a : A) → n ≤ j → j < m → P G j a → UpTo n P G a)
+      → AddsBy c (UpTo m P) xs ys
   adds_past c P n m xs ys le h past = adds_as c (UpTo n P) (UpTo m P) xs ys h
       (λ G is a k. let lt = k.1 in (k.0, omega (arith, lt, le), k.2))
       (λ G is a k. elim (cases_lt k.0 n) [
@@ -84,5 +94,8 @@ module _ {A : Type 0} where
         | inr more ↦ past G is k.0 a more k.1 k.2
       ])
 
-  pub adds_end : (c : Code) (P : Table → ℕ → A → Type 0) (n : ℕ) (xs ys : List A) → AddsBy c (UpTo n P) xs ys → ((G : Table) → IsCode G c → (j : ℕ) (a : A) → P G j a → j < n) → AddsBy c (λ G a. (j : ℕ) × P G j a) xs ys
-  adds_end c P n xs ys h within = adds_as c (UpTo n P) (λ G a. (j : ℕ) × P G j a) xs ys h (λ G is a k. (k.0, k.2)) (λ G is a k. (k.0, within G is k.0 a k.1, k.1))
+  pub adds_end : (c : Code) (P : Table → ℕ → A → Type 0) (n : ℕ) (xs ys : List A) → AddsBy c (UpTo n P) xs ys
+      → ((G : Table) → IsCode G c → (j : ℕ) (a : A) → P G j a → j < n) → AddsBy c (λ G a. (j : ℕ) × P G j a) xs ys
+  adds_end c P n xs ys h within =
+      adds_as c (UpTo n P) (λ G a. (j : ℕ) × P G j a) xs ys h (λ G is a k. (k.0, k.2))
+      (λ G is a k. (k.0, within G is k.0 a k.1, k.1))

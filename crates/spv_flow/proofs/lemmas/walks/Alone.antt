@@ -1,5 +1,6 @@
 -- Classes that one opcode alone has.
-use Rattle.std.proofs.Common.{◌≡◌, ◌∙◌, ℕ, List, [], ◌∷◌, refl, ap, Bool, true, false, Option, Some, None, nat_eq, eq-eqb, arith}
+use Rattle.std.proofs.Common.{◌≡◌, ◌∙◌, ℕ, List, [], ◌∷◌, refl, ap, Bool, true, false, Option, Some, None, nat_eq}
+use Rattle.std.proofs.Common.{eq-eqb, arith}
 use Rattle.std.specs.Prelude.{slice_get, option_map, not, ◌&&◌, ◌||◌}
 use Rattle.std.proofs.lemmas.Bool.{eqb-true}
 use Rattle.std.proofs.lemmas.Option.{slice_get-map}
@@ -38,22 +39,28 @@ by_row c k n r h a =
     let m = h.to in
     omega (arith, f, t, l, m)
 
-one_opcode : (c : Class) (k n : ℕ) (o : Option PlainRow) → all_rows (alone c k) rows ≡ true → is_among (class_in None) (c ∷ []) ≡ false → row_in rows n ≡ o → is_among (class_in o) (c ∷ []) ≡ true → n ≡ k
+one_opcode : (c : Class) (k n : ℕ) (o : Option PlainRow) → all_rows (alone c k) rows ≡ true
+    → is_among (class_in None) (c ∷ []) ≡ false → row_in rows n ≡ o → is_among (class_in o) (c ∷ []) ≡ true → n ≡ k
 one_opcode c k n None all none e a = cc
 one_opcode c k n (Some r) all none e a = by_row c k n r (row_tells (alone c k) rows n r all e) a
 
 -- the opcode of an OpFunction, and of an OpFunctionEnd
-pub function_opcode : (is : List PlainInst) (n : ℕ) (i : PlainInst) → slice_get is n ≡ Some i → IsAt is n (Function ∷ []) → i.opcode ≡ opcode.FUNCTION
-function_opcode is n i h a = let c = rw (class_at is n i h) at a in one_opcode Function opcode.FUNCTION i.opcode (row_of i.opcode) function_alone refl refl c
+pub function_opcode : (is : List PlainInst) (n : ℕ) (i : PlainInst) → slice_get is n ≡ Some i
+    → IsAt is n (Function ∷ []) → i.opcode ≡ opcode.FUNCTION
+function_opcode is n i h a = let c = rw (class_at is n i h) at a in
+    one_opcode Function opcode.FUNCTION i.opcode (row_of i.opcode) function_alone refl refl c
 
-pub end_opcode : (is : List PlainInst) (n : ℕ) (i : PlainInst) → slice_get is n ≡ Some i → IsAt is n (FunctionEnd ∷ []) → i.opcode ≡ opcode.FUNCTION_END
-end_opcode is n i h a = let c = rw (class_at is n i h) at a in one_opcode FunctionEnd opcode.FUNCTION_END i.opcode (row_of i.opcode) end_alone refl refl c
+pub end_opcode : (is : List PlainInst) (n : ℕ) (i : PlainInst) → slice_get is n ≡ Some i → IsAt is n (FunctionEnd ∷ [])
+    → i.opcode ≡ opcode.FUNCTION_END
+end_opcode is n i h a = let c = rw (class_at is n i h) at a in
+    one_opcode FunctionEnd opcode.FUNCTION_END i.opcode (row_of i.opcode) end_alone refl refl c
 
 pub function_op : (is : List PlainInst) (n : ℕ) → IsAt is n (Function ∷ []) → IsOp is n is_function
 function_op is n a = by_inst (slice_get is n) refl
   where
     by_inst : (o : Option PlainInst) → slice_get is n ≡ o → IsOp is n is_function
     by_inst None e = (
-        let none : slice_get (classes is) n ≡ None = slice_get-map (λ j. class_of j.opcode) is n ∙ ap (option_map (λ j. class_of j.opcode)) e in
+        let none : slice_get (classes is) n ≡ None = slice_get-map (λ j. class_of j.opcode) is n
+        ∙ ap (option_map (λ j. class_of j.opcode)) e in
         absurd (rw none at a))
     by_inst (Some i) e = op_holds is n i is_function e (eq-eqb i.opcode opcode.FUNCTION (function_opcode is n i e a))

@@ -52,7 +52,9 @@ pub record HasRow (p : PlainRow → Bool) (n : ℕ) (r : PlainRow) : Type 0 wher
   pub from : r.from ≤ n
   pub to : n ≤ r.to
 
-row_by : (p : PlainRow → Bool) (s r : PlainRow) (rs : List PlainRow) (n : ℕ) (b : Bool) → nat_le s.from n && nat_le n s.to ≡ b → p s ≡ true → (row_in rs n ≡ Some r → HasRow p n r) → cond b (Some s) (row_in rs n) ≡ Some r → HasRow p n r
+row_by : (p : PlainRow → Bool) (s r : PlainRow) (rs : List PlainRow) (n : ℕ) (b : Bool)
+    → nat_le s.from n && nat_le n s.to ≡ b → p s ≡ true → (row_in rs n ≡ Some r → HasRow p n r)
+    → cond b (Some s) (row_in rs n) ≡ Some r → HasRow p n r
 row_by p s r rs n true f y k g =
     let q : s ≡ r = cc in
     let l = leb-true s.from n (and_first (nat_le s.from n) (nat_le n s.to) f) in
@@ -61,11 +63,13 @@ row_by p s r rs n true f y k g =
     rw q at t
 row_by p s r rs n false f y k g = k g
 
-pub row_tells : (p : PlainRow → Bool) (rs : List PlainRow) (n : ℕ) (r : PlainRow) → all_rows p rs ≡ true → row_in rs n ≡ Some r → HasRow p n r
+pub row_tells : (p : PlainRow → Bool) (rs : List PlainRow) (n : ℕ) (r : PlainRow) → all_rows p rs ≡ true
+    → row_in rs n ≡ Some r → HasRow p n r
 unfolding all_rows
 row_tells p [] n r a h = cc
 row_tells p (s ∷ rs) n r a h =
-    row_by p s r rs n (nat_le s.from n && nat_le n s.to) refl (and_first (p s) (all_rows p rs) a) (λ k. row_tells p rs n r (and_second (p s) (all_rows p rs) a) k) h
+    row_by p s r rs n (nat_le s.from n && nat_le n s.to) refl (and_first (p s) (all_rows p rs) a)
+    (λ k. row_tells p rs n r (and_second (p s) (all_rows p rs) a) k) h
 
 -- An OpFunctionEnd has no operands.
 
@@ -87,20 +91,25 @@ pub end_by : (b : Bool) (c : Bool) → not b || c ≡ true → b ≡ true → c 
 end_by true c h g = h
 end_by false c h g = cc
 
-end_operands : (G : Table) (i : PlainInst) (fs : List Form) (h : HasForms G i fs) → is_among h.row.class (FunctionEnd ∷ []) ≡ true → i.operands ≡ []
+end_operands : (G : Table) (i : PlainInst) (fs : List Form) (h : HasForms G i fs)
+    → is_among h.row.class (FunctionEnd ∷ []) ≡ true → i.operands ≡ []
 unfolding row_ends
 end_operands G i fs h c =
     let t = row_tells row_ends rows i.opcode h.row rows_end h.known in
-    let e = end_by (is_among h.row.class (FunctionEnd ∷ [])) (is_nil h.row.fixed && is_closed h.row.ending) t.passes c in
+    let e = end_by (is_among h.row.class (FunctionEnd ∷ []))
+    (is_nil h.row.fixed && is_closed h.row.ending) t.passes c in
     let a = nil_tells h.row.fixed (and_first (is_nil h.row.fixed) (is_closed h.row.ending) e) in
     let b = ends_closed h.row.ending h.rest (and_second (is_nil h.row.fixed) (is_closed h.row.ending) e) h.ending in
     let n : h.row.fixed ++ h.rest ≡ [] = rw (a, b) refl in
     none_of G fs i.operands h.each (h.forms ∙ n)
 
-pub class_at : (is : List PlainInst) (n : ℕ) (i : PlainInst) → slice_get is n ≡ Some i → slice_get (classes is) n ≡ Some (class_of i.opcode)
+pub class_at : (is : List PlainInst) (n : ℕ) (i : PlainInst) → slice_get is n ≡ Some i
+    → slice_get (classes is) n ≡ Some (class_of i.opcode)
 class_at is n i h = slice_get-map (λ j. class_of j.opcode) is n ∙ ap (option_map (λ j. class_of j.opcode)) h
 
-pub no_result_at_end : (G : Table) (is : List PlainInst) → ((n : ℕ) (i : PlainInst) → slice_get is n ≡ Some i → FitsShape G i) → (n x : ℕ) → IsDefinedAt is x n → ¬ (IsAt is n (FunctionEnd ∷ []))
+pub no_result_at_end : (G : Table) (is : List PlainInst)
+    → ((n : ℕ) (i : PlainInst) → slice_get is n ≡ Some i → FitsShape G i) → (n x : ℕ) → IsDefinedAt is x n
+    → ¬ (IsAt is n (FunctionEnd ∷ []))
 no_result_at_end G is f n x d a =
     let i = d.inst in
     let h = (f n i d.there).has in
@@ -133,7 +142,8 @@ result_alone G _ _ (AreOf.more f o fs os p r) h =
     let m : os ≡ [] = none_of G fs os r n in
     rw m (no_type G o (rw e at p))
 
-pub label_forms : (G : Table) (i : PlainInst) (fs : List Form) (h : HasForms G i fs) → i.opcode ≡ opcode.LABEL → fs ≡ R ∷ []
+pub label_forms : (G : Table) (i : PlainInst) (fs : List Form) (h : HasForms G i fs) → i.opcode ≡ opcode.LABEL
+    → fs ≡ R ∷ []
 unfolding is_closed
 label_forms G i fs h e =
     let s : Some h.row ≡ Some label_row = sym h.known ∙ ap row_of e ∙ label_known in

@@ -1,5 +1,6 @@
 -- Laws of lists.
-use Rattle.std.proofs.Common.{◌≡◌, ◌⊎◌, ◌++◌, ℕ, zero, suc, List, [], ◌∷◌, refl, sym, ap, subst, inl, inr, length, take, ◌∙◌, arith}
+use Rattle.std.proofs.Common.{◌≡◌, ◌⊎◌, ◌++◌, ℕ, zero, suc, List, [], ◌∷◌, refl, sym, ap, subst, inl, inr, length, take}
+use Rattle.std.proofs.Common.{◌∙◌, arith}
 use Rattle.std.specs.Prelude.{Any, All}
 use Rattle.std.proofs.Math.Seq.{take-append_seam}
 
@@ -49,7 +50,8 @@ module _ {A : Type 0} where
   heads x y xs ys e = (cc, cc)
 
   -- a list divides at the first element of a sort in one way
-  pub one_division : (P : A → Type 0) (us vs xs ys : List A) (a b : A) → us ++ (a ∷ xs) ≡ vs ++ (b ∷ ys) → All (λ x. ¬ (P x)) us → All (λ x. ¬ (P x)) vs → P a → P b → (a ≡ b) × (xs ≡ ys)
+  pub one_division : (P : A → Type 0) (us vs xs ys : List A) (a b : A) → us ++ (a ∷ xs) ≡ vs ++ (b ∷ ys)
+      → All (λ x. ¬ (P x)) us → All (λ x. ¬ (P x)) vs → P a → P b → (a ≡ b) × (xs ≡ ys)
   one_division P [] [] xs ys a b e nu nv p q = heads a b xs ys e
   one_division P [] (v ∷ vs) xs ys a b e nu nv p q = (
       let h = heads a v xs (vs ++ (b ∷ ys)) e in

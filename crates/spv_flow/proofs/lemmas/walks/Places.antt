@@ -20,7 +20,8 @@ use Rattle.spv_flow.specs.branches.inner.Target.{is_function, is_terminator}
 use Rattle.spv_flow.proofs.lemmas.branches.Firsts.{holds}
 use Rattle.spv_flow.proofs.lemmas.walks.Ended.{class_at}
 
-at_by : (is : List PlainInst) (n k : ℕ) (i : PlainInst) (cs : List Class) → slice_get is n ≡ Some i → i.opcode ≡ k → is_among (class_of k) cs ≡ true → IsAt is n cs
+at_by : (is : List PlainInst) (n k : ℕ) (i : PlainInst) (cs : List Class) → slice_get is n ≡ Some i → i.opcode ≡ k
+    → is_among (class_of k) cs ≡ true → IsAt is n cs
 at_by is n k i cs h e c = rw (class_at is n i h, e) c
 
 function_class : is_among (class_of opcode.FUNCTION) (Function ∷ []) ≡ true
@@ -72,7 +73,9 @@ unfolding rows
 switch_late = refl
 
 pub function_at : (is : List PlainInst) (n : ℕ) → IsOp is n is_function → IsAt is n (Function ∷ [])
-function_at is n op = let h = holds is n is_function op in at_by is n opcode.FUNCTION h.inst (Function ∷ []) h.there (eqb-true h.inst.opcode opcode.FUNCTION h.holds) function_class
+function_at is n op = let h = holds is n is_function op in
+    at_by is n opcode.FUNCTION h.inst (Function ∷ []) h.there
+    (eqb-true h.inst.opcode opcode.FUNCTION h.holds) function_class
 
 -- no OpFunction stands among the first instructions
 pub no_function : (is : List PlainInst) (places : List Place) (count : ℕ) → ArePlacesOf is places
@@ -80,14 +83,17 @@ pub no_function : (is : List PlainInst) (places : List Place) (count : ℕ) → 
     → (k : ℕ) → k < count → ¬ (IsOp is k is_function)
 no_function is places count p before k lt op = before is k p lt (function_at is k op)
 
-pub end_at : (is : List PlainInst) (n : ℕ) (i : PlainInst) → slice_get is n ≡ Some i → i.opcode ≡ opcode.FUNCTION_END → IsAt is n (FunctionEnd ∷ [])
+pub end_at : (is : List PlainInst) (n : ℕ) (i : PlainInst) → slice_get is n ≡ Some i → i.opcode ≡ opcode.FUNCTION_END
+    → IsAt is n (FunctionEnd ∷ [])
 end_at is n i there e = at_by is n opcode.FUNCTION_END i (FunctionEnd ∷ []) there e end_class
 
 pub label_at : (is : List PlainInst) (n : ℕ) → IsOp is n is_label → IsAt is n (Label ∷ [])
-label_at is n op = let h = holds is n is_label op in at_by is n opcode.LABEL h.inst (Label ∷ []) h.there (eqb-true h.inst.opcode opcode.LABEL h.holds) label_class
+label_at is n op = let h = holds is n is_label op in
+    at_by is n opcode.LABEL h.inst (Label ∷ []) h.there (eqb-true h.inst.opcode opcode.LABEL h.holds) label_class
 
 -- the opcodes of branches, and of the other terminators
-branch_cases : (x : ℕ) → is_branch x ≡ true → (x ≡ opcode.BRANCH) ⊎ (x ≡ opcode.BRANCH_CONDITIONAL) ⊎ (x ≡ opcode.SWITCH)
+branch_cases : (x : ℕ) → is_branch x ≡ true
+    → (x ≡ opcode.BRANCH) ⊎ (x ≡ opcode.BRANCH_CONDITIONAL) ⊎ (x ≡ opcode.SWITCH)
 branch_cases x h =
     let low : opcode.BRANCH ≤ x = grind (arith, nat_tests) in
     let high : x ≤ opcode.SWITCH = grind (arith, nat_tests) in
@@ -99,7 +105,8 @@ branch_cases x h =
       ]
     ]
 
-other_cases : (x : ℕ) → (nat_le opcode.RETURN x && nat_le x opcode.UNREACHABLE) ≡ true → (x ≡ opcode.RETURN) ⊎ (x ≡ opcode.RETURN_VALUE) ⊎ (x ≡ opcode.UNREACHABLE)
+other_cases : (x : ℕ) → (nat_le opcode.RETURN x && nat_le x opcode.UNREACHABLE) ≡ true
+    → (x ≡ opcode.RETURN) ⊎ (x ≡ opcode.RETURN_VALUE) ⊎ (x ≡ opcode.UNREACHABLE)
 other_cases x h =
     let low : opcode.RETURN ≤ x = grind (arith, nat_tests) in
     let high : x ≤ opcode.UNREACHABLE = grind (arith, nat_tests) in
@@ -114,7 +121,8 @@ other_cases x h =
 pub terminator_at : (is : List PlainInst) (n : ℕ) → IsOp is n is_terminator → IsAt is n terminators
 terminator_at is n op =
     let h = holds is n is_terminator op in
-    elim (or_cases (is_branch h.inst.opcode) (nat_le opcode.RETURN h.inst.opcode && nat_le h.inst.opcode opcode.UNREACHABLE) h.holds) [
+    elim (or_cases (is_branch h.inst.opcode)
+    (nat_le opcode.RETURN h.inst.opcode && nat_le h.inst.opcode opcode.UNREACHABLE) h.holds) [
       | inl b ↦ elim (branch_cases h.inst.opcode b) [
         | inl e ↦ at_by is n opcode.BRANCH h.inst terminators h.there e branch_class
         | inr other ↦ elim other [
@@ -143,11 +151,15 @@ branch_is_late x b = elim (branch_cases x b) [
   ]
 ]
 
-scoped_by : (is : List PlainInst) (n s : ℕ) (d : Class) → slice_get (classes is) n ≡ Some d → section_of d ≡ None → IsOfSection is n s → IsScoped is n
-scoped_by is n _ d there late (IsOfSection.early c s h k) = absurd (let e : c ≡ d = cc in let m : section_of d ≡ Some s = rw (← e) k in cc)
+scoped_by : (is : List PlainInst) (n s : ℕ) (d : Class) → slice_get (classes is) n ≡ Some d → section_of d ≡ None
+    → IsOfSection is n s → IsScoped is n
+scoped_by is n _ d there late (IsOfSection.early c s h k) =
+    absurd (let e : c ≡ d = cc in let m : section_of d ≡ Some s = rw (← e) k in cc)
 scoped_by is n _ d there late (IsOfSection.global c h k none) = inl (IsOfSection.global c h k none)
-scoped_by is n _ d there late (IsOfSection.declaration c f h k last none) = inr (inl (IsOfSection.declaration c f h k last none))
-scoped_by is n _ d there late (IsOfSection.definition c f h k last def) = inr (inr (IsOfSection.definition c f h k last def))
+scoped_by is n _ d there late (IsOfSection.declaration c f h k last none) =
+    inr (inl (IsOfSection.declaration c f h k last none))
+scoped_by is n _ d there late (IsOfSection.definition c f h k last def) =
+    inr (inr (IsOfSection.definition c f h k last def))
 
 -- a branch stands where uses come in scope
 pub branch_scoped : (is : List PlainInst) (n s : ℕ) → IsOp is n is_branch → IsOfSection is n s → IsScoped is n
@@ -161,7 +173,12 @@ of_itself is f op =
     let h = holds is f is_function op in
     let w = slice_get_within is f h.inst h.there in
     record {
-      begun = record { within = w; up_to = omega arith; there = function_at is f op; last = λ k l u. absurd (omega (arith, l, u)) };
+      begun = record {
+        within = w;
+        up_to = omega arith;
+        there = function_at is f op;
+        last = λ k l u. absurd (omega (arith, l, u));
+      };
       not_ended = λ k l u. absurd (omega (arith, l, u));
     }
 
@@ -170,6 +187,11 @@ pub of_before : (is : List PlainInst) (f n m : ℕ) → IsOfFunction is n f → 
 of_before is f n m of from to =
     let w = of.begun.within in
     record {
-      begun = record { within = omega (arith, w, to); up_to = from; there = of.begun.there; last = λ k l u. of.begun.last k l (omega (arith, u, to)) };
+      begun = record {
+        within = omega (arith, w, to);
+        up_to = from;
+        there = of.begun.there;
+        last = λ k l u. of.begun.last k l (omega (arith, u, to));
+      };
       not_ended = λ k l u. of.not_ended k l (omega (arith, u, to));
     }

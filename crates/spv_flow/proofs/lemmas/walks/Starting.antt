@@ -1,5 +1,6 @@
 -- Where a function ends, and where its blocks begin.
-use Rattle.std.proofs.Common.{◌≡◌, ◌≢◌, ◌≤◌, ◌<◌, ◌+◌, ◌-◌, ◌++◌, ◌∙◌, inl, inr, ℕ, zero, suc, List, [], ◌∷◌, Bool, true, false, Some, length, set, refl, sym, ap, subst, arith}
+use Rattle.std.proofs.Common.{◌≡◌, ◌≢◌, ◌≤◌, ◌<◌, ◌+◌, ◌-◌, ◌++◌, ◌∙◌, inl, inr, ℕ, zero, suc, List, [], ◌∷◌, Bool}
+use Rattle.std.proofs.Common.{true, false, Some, length, set, refl, sym, ap, subst, arith}
 use Rattle.std.specs.Prelude.{slice_get, slice_index, MatchBool}
 use Rattle.std.proofs.lemmas.Bool.{cases_lt, cases_order, eqb-true}
 use Rattle.std.proofs.lemmas.List.{get_or-set_same, get_or-set_other, length-append, get_or_append_left, length-map}
@@ -39,25 +40,35 @@ open_start is f op = record {
       omega (arith, x, y));
 }
 
-pub open_more : (is : List PlainInst) (f n : ℕ) (i : PlainInst) → slice_get is n ≡ Some i → (i.opcode ≡ opcode.FUNCTION → ⊥) → (i.opcode ≡ opcode.FUNCTION_END → ⊥) → IsOpenTo is f n → IsOpenTo is f (n + 1)
+pub open_more : (is : List PlainInst) (f n : ℕ) (i : PlainInst) → slice_get is n ≡ Some i
+    → (i.opcode ≡ opcode.FUNCTION → ⊥) → (i.opcode ≡ opcode.FUNCTION_END → ⊥) → IsOpenTo is f n → IsOpenTo is f (n + 1)
 open_more is f n i there isnt unended before = record {
   alone = λ k l u a. elim (cases_lt k n) [
     | inl less ↦ before.alone k l less a
-    | inr more ↦ (let e : k ≡ n = omega (arith, u, more) in isnt (function_opcode is n i there (subst (λ (j : ℕ). IsAt is j (Function ∷ [])) e a)))
+    | inr more ↦ (let e : k ≡ n = omega (arith, u, more) in
+        isnt (function_opcode is n i there (subst (λ (j : ℕ). IsAt is j (Function ∷ [])) e a)))
   ];
   unended = λ k l u a. elim (cases_lt k n) [
     | inl less ↦ before.unended k l less a
-    | inr more ↦ (let e : k ≡ n = omega (arith, u, more) in unended (end_opcode is n i there (subst (λ (j : ℕ). IsAt is j (FunctionEnd ∷ [])) e a)))
+    | inr more ↦ (let e : k ≡ n = omega (arith, u, more) in
+        unended (end_opcode is n i there (subst (λ (j : ℕ). IsAt is j (FunctionEnd ∷ [])) e a)))
   ];
 }
 
-open_of : (is : List PlainInst) (f at n : ℕ) → IsOp is f is_function → IsOpenTo is f at → at ≤ length is → f ≤ n → n < at → IsOfFunction is n f
+open_of : (is : List PlainInst) (f at n : ℕ) → IsOp is f is_function → IsOpenTo is f at → at ≤ length is → f ≤ n
+    → n < at → IsOfFunction is n f
 open_of is f at n op o within from to = record {
-  begun = record { within = omega (arith, within, to); up_to = from; there = function_at is f op; last = λ k l u. o.alone k l (omega (arith, u, to)) };
+  begun = record {
+    within = omega (arith, within, to);
+    up_to = from;
+    there = function_at is f op;
+    last = λ k l u. o.alone k l (omega (arith, u, to));
+  };
   not_ended = λ k l u. o.unended k l (omega (arith, u, to));
 }
 
-pub extent_to : (is : List PlainInst) (f at : ℕ) → IsOp is f is_function → f < at → at ≤ length is → ((n : ℕ) → f ≤ n → n < at → IsOfFunction is n f) → (at < length is → ¬ (IsOfFunction is at f)) → IsExtent is f at
+pub extent_to : (is : List PlainInst) (f at : ℕ) → IsOp is f is_function → f < at → at ≤ length is
+    → ((n : ℕ) → f ≤ n → n < at → IsOfFunction is n f) → (at < length is → ¬ (IsOfFunction is at f)) → IsExtent is f at
 extent_to is f at op some within before not = record {
   function = op;
   some = some;
@@ -67,13 +78,15 @@ extent_to is f at op some within before not = record {
     of.begun.up_to,
     elim (cases_lt n at) [
       | inl less ↦ less
-      | inr more ↦ (let w = of.begun.within in absurd (not (omega (arith, w, more)) (of_before is f n at of (omega (arith, some)) more)))
+      | inr more ↦ (let w = of.begun.within in
+          absurd (not (omega (arith, w, more)) (of_before is f n at of (omega (arith, some)) more)))
     ],
   );
 }
 
 -- a function that ends with its OpFunctionEnd, before another OpFunction, and with the module
-pub extent_ended : (is : List PlainInst) (f n : ℕ) (i : PlainInst) → IsOp is f is_function → f < n → slice_get is n ≡ Some i → i.opcode ≡ opcode.FUNCTION_END → IsOpenTo is f n → IsExtent is f (n + 1)
+pub extent_ended : (is : List PlainInst) (f n : ℕ) (i : PlainInst) → IsOp is f is_function → f < n
+    → slice_get is n ≡ Some i → i.opcode ≡ opcode.FUNCTION_END → IsOpenTo is f n → IsExtent is f (n + 1)
 extent_ended is f n i op some there e o =
     let w = slice_get_within is n i there in
     let last : IsOfFunction is n f = record {
@@ -83,7 +96,9 @@ extent_ended is f n i op some there e o =
         there = function_at is f op;
         last = λ k l u a. elim (cases_lt k n) [
           | inl less ↦ o.alone k l less a
-          | inr more ↦ (let s : k ≡ n = omega (arith, u, more) in let x = function_opcode is n i there (subst (λ (j : ℕ). IsAt is j (Function ∷ [])) s a) in omega (arith, x, e))
+          | inr more ↦ (let s : k ≡ n = omega (arith, u, more) in
+              let x = function_opcode is n i there (subst (λ (j : ℕ). IsAt is j (Function ∷ [])) s a) in
+              omega (arith, x, e))
         ];
       };
       not_ended = o.unended;
@@ -95,42 +110,57 @@ extent_ended is f n i op some there e o =
     ])
     (λ lt of. of.not_ended n (omega (arith, some)) (omega arith) (end_at is n i there e))
 
-pub extent_before : (is : List PlainInst) (f n : ℕ) → IsOp is f is_function → f < n → IsOp is n is_function → IsOpenTo is f n → IsExtent is f n
+pub extent_before : (is : List PlainInst) (f n : ℕ) → IsOp is f is_function → f < n → IsOp is n is_function
+    → IsOpenTo is f n → IsExtent is f n
 extent_before is f n op some next o =
     let h = holds is n is_function next in
     let w = slice_get_within is n h.inst h.there in
-    extent_to is f n op some (omega (arith, w)) (λ m from to. open_of is f n m op o (omega (arith, w)) from to) (λ lt of. of.begun.last n some (omega arith) (function_at is n next))
+    extent_to is f n op some (omega (arith, w)) (λ m from to. open_of is f n m op o (omega (arith, w)) from to)
+    (λ lt of. of.begun.last n some (omega arith) (function_at is n next))
 
-pub extent_last : (is : List PlainInst) (f n at : ℕ) → IsOp is f is_function → n ≡ length is → n ≤ at → IsOpenTo is f at → IsExtent is f n
+pub extent_last : (is : List PlainInst) (f n at : ℕ) → IsOp is f is_function → n ≡ length is → n ≤ at → IsOpenTo is f at
+    → IsExtent is f n
 extent_last is f n at op e all o =
     let h = holds is f is_function op in
     let w = slice_get_within is f h.inst h.there in
-    let less : IsOpenTo is f n = record { alone = λ k l u. o.alone k l (omega (arith, u, all)); unended = λ k l u. o.unended k l (omega (arith, u, all)) } in
-    extent_to is f n op (omega (arith, w, e)) (omega (arith, e)) (λ m from to. open_of is f n m op less (omega (arith, e)) from to) (λ lt. absurd (omega (arith, lt, e)))
+    let less : IsOpenTo is f n = record {
+      alone = λ k l u. o.alone k l (omega (arith, u, all));
+      unended = λ k l u. o.unended k l (omega (arith, u, all));
+    } in
+    extent_to is f n op (omega (arith, w, e)) (omega (arith, e))
+    (λ m from to. open_of is f n m op less (omega (arith, e)) from to) (λ lt. absurd (omega (arith, lt, e)))
 
 -- no OpPhi as far as instruction n
-pub unmarked_start : (is : List PlainInst) (f : ℕ) → IsOp is f is_function → (n : ℕ) → f ≤ n → n < f + 1 → ¬ (IsOp is n is_phi)
+pub unmarked_start : (is : List PlainInst) (f : ℕ) → IsOp is f is_function → (n : ℕ) → f ≤ n → n < f + 1
+    → ¬ (IsOp is n is_phi)
 unmarked_start is f op n from to phi =
     let h = holds is f is_function op in
     let e : n ≡ f = omega (arith, from, to) in
-    let x = eqb-true h.inst.opcode opcode.PHI (op_tells is f h.inst is_phi h.there (subst (λ (k : ℕ). IsOp is k is_phi) e phi)) in
+    let x = eqb-true h.inst.opcode opcode.PHI
+    (op_tells is f h.inst is_phi h.there (subst (λ (k : ℕ). IsOp is k is_phi) e phi)) in
     let y = eqb-true h.inst.opcode opcode.FUNCTION h.holds in
     omega (arith, x, y)
 
-pub unmarked_more : (is : List PlainInst) (f at : ℕ) (i : PlainInst) → slice_get is at ≡ Some i → (i.opcode ≡ opcode.PHI → ⊥) → ((n : ℕ) → f ≤ n → n < at → ¬ (IsOp is n is_phi)) → (n : ℕ) → f ≤ n → n < at + 1 → ¬ (IsOp is n is_phi)
+pub unmarked_more : (is : List PlainInst) (f at : ℕ) (i : PlainInst) → slice_get is at ≡ Some i
+    → (i.opcode ≡ opcode.PHI → ⊥) → ((n : ℕ) → f ≤ n → n < at → ¬ (IsOp is n is_phi)) → (n : ℕ) → f ≤ n → n < at + 1
+    → ¬ (IsOp is n is_phi)
 unmarked_more is f at i there isnt before n from to phi = elim (cases_lt n at) [
   | inl less ↦ before n from less phi
-  | inr more ↦ (let e : n ≡ at = omega (arith, to, more) in isnt (eqb-true i.opcode opcode.PHI (op_tells is at i is_phi there (subst (λ (k : ℕ). IsOp is k is_phi) e phi))))
+  | inr more ↦ (let e : n ≡ at = omega (arith, to, more) in
+      isnt (eqb-true i.opcode opcode.PHI (op_tells is at i is_phi there (subst (λ (k : ℕ). IsOp is k is_phi) e phi))))
 ]
 
 -- whether an instruction that is no OpLabel begins a block
-pub begins_by : (is : List PlainInst) (n m : ℕ) (i j : PlainInst) (b : Bool) → slice_get is n ≡ Some i → (i.opcode ≡ opcode.LABEL → ⊥) → m + 1 ≡ n → slice_get is m ≡ Some j → b ≡ is_terminator j.opcode → MatchBool b (IsBegin is n) (¬ (IsBegin is n))
+pub begins_by : (is : List PlainInst) (n m : ℕ) (i j : PlainInst) (b : Bool) → slice_get is n ≡ Some i
+    → (i.opcode ≡ opcode.LABEL → ⊥) → m + 1 ≡ n → slice_get is m ≡ Some j → b ≡ is_terminator j.opcode
+    → MatchBool b (IsBegin is n) (¬ (IsBegin is n))
 begins_by is n m i j true there isnt e before t = inr (m, e, op_holds is m j is_terminator before (sym t))
 begins_by is n m i j false there isnt e before t = λ begin. elim begin [
   | inl label ↦ isnt (eqb-true i.opcode opcode.LABEL (op_tells is n i is_label there label))
   | inr ended ↦ (
       let s : ended.0 ≡ m = (let h = ended.1 in omega (arith, h, e)) in
-      let h : is_terminator j.opcode ≡ true = op_tells is m j is_terminator before (subst (λ (k : ℕ). IsOp is k is_terminator) s ended.2) in
+      let h : is_terminator j.opcode ≡ true = op_tells is m j is_terminator before
+      (subst (λ (k : ℕ). IsOp is k is_terminator) s ended.2) in
       cc)
 ]
 
@@ -146,7 +176,8 @@ kept_index xs y k lt = get_or_append_left xs (y ∷ []) 0 k lt
 pushed_length : (xs : List ℕ) (y : ℕ) → length (xs ++ y ∷ []) ≡ length xs + 1
 pushed_length xs y = length-append xs (y ∷ [])
 
-pub rising_more : (xs : List ℕ) (y : ℕ) → IsRising xs → ((k : ℕ) → k < length xs → slice_index xs k < y) → IsRising (xs ++ y ∷ [])
+pub rising_more : (xs : List ℕ) (y : ℕ) → IsRising xs → ((k : ℕ) → k < length xs → slice_index xs k < y)
+    → IsRising (xs ++ y ∷ [])
 rising_more xs y rising below j k lt within =
     let l = pushed_length xs y in
     let a = kept_index xs y j (omega (arith, l, within, lt)) in
@@ -154,7 +185,8 @@ rising_more xs y rising below j k lt within =
       | inl less ↦ (let b = kept_index xs y k less in let h = rising j k lt less in omega (arith, a, b, h))
       | inr more ↦ (
           let e : length xs ≡ k = omega (arith, more, l, within) in
-          let b : slice_index (xs ++ y ∷ []) k ≡ y = subst (λ (n : ℕ). slice_index (xs ++ y ∷ []) n ≡ y) e (pushed_index xs y) in
+          let b : slice_index (xs ++ y ∷ []) k ≡ y = subst (λ (n : ℕ). slice_index (xs ++ y ∷ []) n ≡ y) e
+          (pushed_index xs y) in
           let h = below j (omega (arith, l, within, lt)) in
           omega (arith, a, b, h))
     ]
@@ -164,7 +196,8 @@ one_index : (f k : ℕ) → k < 1 → slice_index (f ∷ []) k ≡ f
 one_index f zero lt = refl
 one_index f (suc k) lt = absurd (omega (arith, lt))
 
-pub starts_first : (is : List PlainInst) (f : ℕ) (numbers : List ℕ) → f < length numbers → AreStarts is f (f + 1) (f ∷ []) (set numbers f 0)
+pub starts_first : (is : List PlainInst) (f : ℕ) (numbers : List ℕ) → f < length numbers
+    → AreStarts is f (f + 1) (f ∷ []) (set numbers f 0)
 starts_first is f numbers within = record {
   some = omega arith;
   first = refl;
@@ -172,11 +205,13 @@ starts_first is f numbers within = record {
   below = λ k lt. (let e = one_index f k lt in omega (arith, e));
   begun = λ k pos lt. absurd (omega (arith, pos, lt));
   found = λ m after before begin. absurd (omega (arith, after, before));
-  numbered = λ k lt. ap (slice_index (set numbers f 0)) (one_index f k lt) ∙ get_or-set_same numbers f 0 0 within ∙ omega (arith, lt);
+  numbered = λ k lt. ap (slice_index (set numbers f 0)) (one_index f k lt) ∙ get_or-set_same numbers f 0 0 within
+      ∙ omega (arith, lt);
 }
 
 -- an instruction that begins no block
-pub starts_other : (is : List PlainInst) (f n : ℕ) (starts numbers : List ℕ) → AreStarts is f n starts numbers → ¬ (IsBegin is n) → AreStarts is f (n + 1) starts numbers
+pub starts_other : (is : List PlainInst) (f n : ℕ) (starts numbers : List ℕ) → AreStarts is f n starts numbers
+    → ¬ (IsBegin is n) → AreStarts is f (n + 1) starts numbers
 starts_other is f n starts numbers s not = record {
   some = s.some;
   first = s.first;
@@ -191,7 +226,8 @@ starts_other is f n starts numbers s not = record {
 }
 
 -- one that begins a block
-pub starts_more : (is : List PlainInst) (f n : ℕ) (starts numbers : List ℕ) → AreStarts is f n starts numbers → n < length numbers → IsBegin is n → AreStarts is f (n + 1) (starts ++ n ∷ []) (set numbers n (length starts))
+pub starts_more : (is : List PlainInst) (f n : ℕ) (starts numbers : List ℕ) → AreStarts is f n starts numbers
+    → n < length numbers → IsBegin is n → AreStarts is f (n + 1) (starts ++ n ∷ []) (set numbers n (length starts))
 starts_more is f n starts numbers s within here =
     let l = pushed_length starts n in
     record {
@@ -202,14 +238,17 @@ starts_more is f n starts numbers s within here =
         | inl less ↦ (let h = s.below k less in let a = kept_index starts n k less in omega (arith, h, a))
         | inr more ↦ (
             let e : length starts ≡ k = omega (arith, more, l, lt) in
-            let b : slice_index (starts ++ n ∷ []) k ≡ n = subst (λ (j : ℕ). slice_index (starts ++ n ∷ []) j ≡ n) e (pushed_index starts n) in
+            let b : slice_index (starts ++ n ∷ []) k ≡ n = subst (λ (j : ℕ). slice_index (starts ++ n ∷ []) j ≡ n) e
+            (pushed_index starts n) in
             omega (arith, b))
       ];
       begun = λ k pos lt. elim (cases_lt k (length starts)) [
-        | inl less ↦ (let a = kept_index starts n k less in subst (λ (j : ℕ). IsBegin is j) (sym a) (s.begun k pos less))
+        | inl less ↦ (let a = kept_index starts n k less in
+            subst (λ (j : ℕ). IsBegin is j) (sym a) (s.begun k pos less))
         | inr more ↦ (
             let e : length starts ≡ k = omega (arith, more, l, lt) in
-            let b : slice_index (starts ++ n ∷ []) k ≡ n = subst (λ (j : ℕ). slice_index (starts ++ n ∷ []) j ≡ n) e (pushed_index starts n) in
+            let b : slice_index (starts ++ n ∷ []) k ≡ n = subst (λ (j : ℕ). slice_index (starts ++ n ∷ []) j ≡ n) e
+            (pushed_index starts n) in
             subst (λ (j : ℕ). IsBegin is j) (sym b) here)
       ];
       found = λ m after before begin. elim (cases_lt m n) [
@@ -217,33 +256,39 @@ starts_more is f n starts numbers s within here =
             let r = s.found m after less begin in
             let lt = r.1 in
             (r.0, omega (arith, lt, l), kept_index starts n r.0 lt ∙ r.2))
-        | inr more ↦ (let e : n ≡ m = omega (arith, before, more) in (length starts, omega (arith, l), pushed_index starts n ∙ e))
+        | inr more ↦ (let e : n ≡ m = omega (arith, before, more) in
+            (length starts, omega (arith, l), pushed_index starts n ∙ e))
       ];
       numbered = λ k lt. elim (cases_lt k (length starts)) [
         | inl less ↦ (
             let a = kept_index starts n k less in
             let h = s.below k less in
             let apart : slice_index starts k ≢ n = λ e. omega (arith, h, e) in
-            ap (slice_index (set numbers n (length starts))) a ∙ get_or-set_other numbers n (slice_index starts k) (length starts) 0 apart ∙ s.numbered k less)
+            ap (slice_index (set numbers n (length starts))) a
+            ∙ get_or-set_other numbers n (slice_index starts k) (length starts) 0 apart ∙ s.numbered k less)
         | inr more ↦ (
             let e : length starts ≡ k = omega (arith, more, l, lt) in
-            let b : slice_index (starts ++ n ∷ []) k ≡ n = subst (λ (j : ℕ). slice_index (starts ++ n ∷ []) j ≡ n) e (pushed_index starts n) in
+            let b : slice_index (starts ++ n ∷ []) k ≡ n = subst (λ (j : ℕ). slice_index (starts ++ n ∷ []) j ≡ n) e
+            (pushed_index starts n) in
             ap (slice_index (set numbers n (length starts))) b ∙ get_or-set_same numbers n (length starts) 0 within ∙ e)
       ];
     }
 
 -- the block of an instruction
-in_front : (is : List PlainInst) (f n : ℕ) (starts : List ℕ) → IsRising starts → slice_index starts 0 ≤ n → (b : ℕ) → b + 1 < length starts → n < slice_index starts (b + 1) → (c : ℕ) × IsIn starts c n
+in_front : (is : List PlainInst) (f n : ℕ) (starts : List ℕ) → IsRising starts → slice_index starts 0 ≤ n → (b : ℕ)
+    → b + 1 < length starts → n < slice_index starts (b + 1) → (c : ℕ) × IsIn starts c n
 in_front is f n starts rising from zero within lt = (0, record { block = within; from = from; to = lt })
 in_front is f n starts rising from (suc b) within lt = elim (cases_lt n (slice_index starts (suc b))) [
   | inr above ↦ (suc b, record { block = within; from = above; to = lt })
   | inl below ↦ (
       let e : suc b ≡ b + 1 = omega arith in
-      in_front is f n starts rising from b (omega (arith, within)) (subst (λ (k : ℕ). n < slice_index starts k) e below))
+      in_front is f n starts rising from b (omega (arith, within))
+      (subst (λ (k : ℕ). n < slice_index starts k) e below))
 ]
 
 -- all of a function, and at last the instruction after it
-pub starts_all : (is : List PlainInst) (f end : ℕ) (starts numbers : List ℕ) → IsExtent is f end → AreStarts is f end starts numbers → IsLaid is f end (starts ++ end ∷ []) numbers
+pub starts_all : (is : List PlainInst) (f end : ℕ) (starts numbers : List ℕ) → IsExtent is f end
+    → AreStarts is f end starts numbers → IsLaid is f end (starts ++ end ∷ []) numbers
 starts_all is f end starts numbers x s =
     let l = pushed_length starts end in
     let some = s.some in
@@ -266,7 +311,8 @@ starts_all is f end starts numbers x s =
               | inl pos ↦ (let h = rising 0 b pos (omega (arith, w)) in omega (arith, h))
               | inr none ↦ (let e : b ≡ 0 = omega (arith, none) in rw e (omega arith))
             ] in
-            let high : slice_index all (b + 1) ≤ slice_index all (length starts) = elim (cases_lt (b + 1) (length starts)) [
+            let high : slice_index all (b + 1) ≤ slice_index all (length starts) = elim
+            (cases_lt (b + 1) (length starts)) [
               | inl less ↦ (let h = rising (b + 1) (length starts) less (omega (arith, l)) in omega (arith, h))
               | inr more ↦ (let e : b + 1 ≡ length starts = omega (arith, more, w, l) in rw e (omega arith))
             ] in
@@ -288,7 +334,8 @@ starts_all is f end starts numbers x s =
               | inl pos ↦ (let h = rising 0 b pos (omega (arith, w)) in omega (arith, h))
               | inr none ↦ (let e : b ≡ 0 = omega (arith, none) in rw e (omega arith))
             ] in
-            let high : slice_index all (b + 1) ≤ slice_index all (length starts) = elim (cases_lt (b + 1) (length starts)) [
+            let high : slice_index all (b + 1) ≤ slice_index all (length starts) = elim
+            (cases_lt (b + 1) (length starts)) [
               | inl less ↦ (let h = rising (b + 1) (length starts) less (omega (arith, l)) in omega (arith, h))
               | inr more ↦ (let e : b + 1 ≡ length starts = omega (arith, more, w, l) in rw e (omega arith))
             ] in
@@ -302,25 +349,31 @@ starts_all is f end starts numbers x s =
                 | inr more ↦ elim (cases_order (b + 1) r.0) [
                   | inl same ↦ (let e = ap (slice_index all) same in omega (arith, e, at, to))
                   | inr other ↦ elim other [
-                    | inl lower ↦ (let h = rising (b + 1) r.0 lower (omega (arith, in_list, l)) in omega (arith, h, at, to))
+                    | inl lower ↦ (let h = rising (b + 1) r.0 lower (omega (arith, in_list, l)) in
+                        omega (arith, h, at, to))
                     | inr higher ↦ omega (arith, higher, more)
                   ]
                 ]
               ]
             ];
       };
-      numbered = λ k lt. (let a = kept_index starts end k (omega (arith, lt, l)) in ap (slice_index numbers) a ∙ s.numbered k (omega (arith, lt, l)));
-      last = (let e : length starts ≡ length all - 1 = omega (arith, l) in subst (λ (k : ℕ). slice_index all k ≡ end) e last);
+      numbered = λ k lt. (let a = kept_index starts end k (omega (arith, lt, l)) in
+          ap (slice_index numbers) a ∙ s.numbered k (omega (arith, lt, l)));
+      last = (let e : length starts ≡ length all - 1 = omega (arith, l) in
+          subst (λ (k : ℕ). slice_index all k ≡ end) e last);
     }
 
 -- the block that a label of the function begins
-pub label_block : (is : List PlainInst) (b : Blocks) (label : ℕ) → AreBlocks is b → IsOp is label is_label → b.function ≤ label → label < b.end
-    → (slice_index b.numbers.now label + 1 < length b.starts.now) × (slice_index b.starts.now (slice_index b.numbers.now label) ≡ label)
+pub label_block : (is : List PlainInst) (b : Blocks) (label : ℕ) → AreBlocks is b → IsOp is label is_label
+    → b.function ≤ label → label < b.end
+    → (slice_index b.numbers.now label + 1 < length b.starts.now)
+    × (slice_index b.starts.now (slice_index b.numbers.now label) ≡ label)
 label_block is b label are op from to =
     let d = are.laid.divided in
     let r = d.all label (are.laid.extent.of label from to) in
     let w = r.1.block in
-    let first : slice_index b.starts.now r.0 ≡ label = begin_first is b.function b.starts.now d r.0 label r.1 (inl op) in
+    let first : slice_index b.starts.now r.0 ≡ label = begin_first is b.function b.starts.now d r.0 label r.1
+    (inl op) in
     let n : slice_index b.numbers.now (slice_index b.starts.now r.0) ≡ r.0 = are.laid.numbered r.0 (omega (arith, w)) in
     let k : slice_index b.numbers.now label ≡ r.0 = subst (λ (j : ℕ). slice_index b.numbers.now j ≡ r.0) first n in
     (omega (arith, k, w), ap (slice_index b.starts.now) k ∙ first)
@@ -333,7 +386,8 @@ rises starts rising (suc k) lt =
     let r = rising k (suc k) (omega arith) lt in
     omega (arith, h, r)
 
-pub few_starts : (is : List PlainInst) (f n : ℕ) (starts numbers : List ℕ) → AreStarts is f n starts numbers → length starts ≤ n
+pub few_starts : (is : List PlainInst) (f n : ℕ) (starts numbers : List ℕ) → AreStarts is f n starts numbers
+    → length starts ≤ n
 few_starts is f n starts numbers s =
     let some = s.some in
     let k : ℕ = length starts - 1 in
@@ -341,7 +395,8 @@ few_starts is f n starts numbers s =
     let b = s.below k (omega (arith, some)) in
     omega (arith, h, b, some)
 
-pub few_blocks : (is : List PlainInst) (f end : ℕ) (starts numbers : List ℕ) → IsLaid is f end starts numbers → length starts ≤ end + 1
+pub few_blocks : (is : List PlainInst) (f end : ℕ) (starts numbers : List ℕ) → IsLaid is f end starts numbers
+    → length starts ≤ end + 1
 few_blocks is f end starts numbers l =
     let some = l.divided.some in
     let k : ℕ = length starts - 1 in
@@ -350,18 +405,22 @@ few_blocks is f end starts numbers l =
     omega (arith, h, e, some)
 
 -- blocks stand within the instructions
-pub end_within : (c : Code) (b : Blocks) → AreBlocks (insts_of c) b → (k : ℕ) → k < length b.starts.now → slice_index b.starts.now k ≤ length c.insts.now
+pub end_within : (c : Code) (b : Blocks) → AreBlocks (insts_of c) b → (k : ℕ) → k < length b.starts.now
+    → slice_index b.starts.now k ≤ length c.insts.now
 end_within c b are k lt =
     let some = are.laid.divided.some in
     let last = are.laid.last in
     let within = are.laid.extent.within in
     let l = length-map c.insts.now plain_inst in
     elim (cases_lt k (length b.starts.now - 1)) [
-      | inl less ↦ (let h = are.laid.divided.order k (length b.starts.now - 1) less (omega (arith, some)) in omega (arith, h, last, within, l))
-      | inr more ↦ (let e : k ≡ length b.starts.now - 1 = omega (arith, lt, more, some) in let f = ap (slice_index b.starts.now) e in omega (arith, f, last, within, l))
+      | inl less ↦ (let h = are.laid.divided.order k (length b.starts.now - 1) less (omega (arith, some)) in
+          omega (arith, h, last, within, l))
+      | inr more ↦ (let e : k ≡ length b.starts.now - 1 = omega (arith, lt, more, some) in
+          let f = ap (slice_index b.starts.now) e in omega (arith, f, last, within, l))
     ]
 
-pub start_within : (c : Code) (b : Blocks) → AreBlocks (insts_of c) b → (k : ℕ) → k + 1 < length b.starts.now → slice_index b.starts.now k < length c.insts.now
+pub start_within : (c : Code) (b : Blocks) → AreBlocks (insts_of c) b → (k : ℕ) → k + 1 < length b.starts.now
+    → slice_index b.starts.now k < length c.insts.now
 start_within c b are k lt =
     let h = end_within c b are (k + 1) lt in
     let r = are.laid.divided.order k (k + 1) (omega arith) lt in
@@ -369,7 +428,9 @@ start_within c b are k lt =
 
 -- the last instruction of a block
 pub block_last : (c : Code) (b : Blocks) → AreBlocks (insts_of c) b → (k : ℕ) → k + 1 < length b.starts.now
-    → (1 ≤ slice_index b.starts.now (k + 1)) × (slice_index b.starts.now (k + 1) - 1 + 1 ≡ slice_index b.starts.now (k + 1)) × (slice_index b.starts.now (k + 1) - 1 < length c.insts.now)
+    → (1 ≤ slice_index b.starts.now (k + 1))
+    × (slice_index b.starts.now (k + 1) - 1 + 1 ≡ slice_index b.starts.now (k + 1))
+    × (slice_index b.starts.now (k + 1) - 1 < length c.insts.now)
 block_last c b are k lt =
     let h = end_within c b are (k + 1) lt in
     let r = are.laid.divided.order k (k + 1) (omega arith) lt in

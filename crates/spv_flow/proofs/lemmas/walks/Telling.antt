@@ -1,5 +1,6 @@
 -- From function to function, and from what is unavailable to the rule that is told.
-use Rattle.std.proofs.Common.{◌≡◌, ◌<◌, ◌≤◌, ◌+◌, ◌∙◌, ℕ, List, refl, sym, ap, subst, inl, inr, length, Some, None, arith}
+use Rattle.std.proofs.Common.{◌≡◌, ◌<◌, ◌≤◌, ◌+◌, ◌∙◌, ℕ, List, refl, sym, ap, subst, inl, inr, length, Some, None}
+use Rattle.std.proofs.Common.{arith}
 use Rattle.std.specs.Prelude.{slice_get}
 use Rattle.std.proofs.lemmas.Bool.{cases_lt, cases_order, eqb-true}
 use Rattle.std.proofs.lemmas.Option.{slice_get_within}
@@ -32,7 +33,8 @@ use Rattle.spv_flow.proofs.lemmas.walks.Deciding.{walk_within}
 pub record AreSound (c : Code) (n : ℕ) : Type 0 where
   pub none : (G : Table) → IsCode G c → (f m : ℕ) → f < n → ¬ (IsUnavailableIn G (insts_of c) f m)
 
-walk_function : (G : Table) (is : List PlainInst) (f : ℕ) (past : List ℕ) (n : ℕ) → IsWalk G is f past n → IsOp is f is_function
+walk_function : (G : Table) (is : List PlainInst) (f : ℕ) (past : List ℕ) (n : ℕ) → IsWalk G is f past n
+    → IsOp is f is_function
 walk_function G is f _ _ (IsWalk.begins op) = op
 walk_function G is f _ _ (IsWalk.goes past n m walk next of) = walk_function G is f past n walk
 
@@ -42,32 +44,49 @@ record IsWalked (G : Table) (is : List PlainInst) (f n : ℕ) : Type 0 where
   pub of : IsOfFunction is n f
 
 walked : (G : Table) (is : List PlainInst) (f n : ℕ) → IsUnavailableIn G is f n → IsWalked G is f n
-walked G is f n (inl (m, e)) = subst (λ (g : ℕ). IsWalked G is g n) e (record { function = walk_function G is m.function m.past n m.walk; of = walk_within G is m.function m.past n m.walk })
-walked G is f n (inr (m, e)) = subst (λ (g : ℕ). IsWalked G is g n) e (record { function = walk_function G is m.comes.function m.comes.past n m.comes.walk; of = walk_within G is m.comes.function m.comes.past n m.comes.walk })
+walked G is f n (inl (m, e)) =
+    subst (λ (g : ℕ). IsWalked G is g n) e
+    (record {
+      function = walk_function G is m.function m.past n m.walk;
+      of = walk_within G is m.function m.past n m.walk;
+    })
+walked G is f n (inr (m, e)) =
+    subst (λ (g : ℕ). IsWalked G is g n) e
+    (record {
+      function = walk_function G is m.comes.function m.comes.past n m.comes.walk;
+      of = walk_within G is m.comes.function m.comes.past n m.comes.walk;
+    })
 
 -- no function begins before the first OpFunction
 pub sound_start : (c : Code) → AreSound c c.globals
-sound_start c = record { none = λ G is f m lt unavailable. is.global f lt (walked G (insts_of c) f m unavailable).function }
+sound_start c = record {
+  none = λ G is f m lt unavailable. is.global f lt
+      (walked G (insts_of c) f m unavailable).function;
+}
 
-pub sound_other : (c : Code) (n : ℕ) (i : PlainInst) → slice_get (insts_of c) n ≡ Some i → (i.opcode ≡ opcode.FUNCTION → ⊥) → AreSound c n → AreSound c (n + 1)
+pub sound_other : (c : Code) (n : ℕ) (i : PlainInst) → slice_get (insts_of c) n ≡ Some i
+    → (i.opcode ≡ opcode.FUNCTION → ⊥) → AreSound c n → AreSound c (n + 1)
 sound_other c n i there isnt before = record {
   none = λ G is f m lt unavailable. elim (cases_lt f n) [
     | inl less ↦ before.none G is f m less unavailable
     | inr more ↦ (
         let e : f ≡ n = omega (arith, lt, more) in
-        let op : IsOp (insts_of c) n is_function = subst (λ (k : ℕ). IsOp (insts_of c) k is_function) e (walked G (insts_of c) f m unavailable).function in
+        let op : IsOp (insts_of c) n is_function = subst (λ (k : ℕ). IsOp (insts_of c) k is_function) e
+        (walked G (insts_of c) f m unavailable).function in
         isnt (eqb-true i.opcode opcode.FUNCTION (op_tells (insts_of c) n i is_function there op)))
   ];
 }
 
 -- after a function comes the next one
-pub sound_more : (c : Code) (n end : ℕ) → IsExtent (insts_of c) n end → ((G : Table) → IsCode G c → (m : ℕ) → ¬ (IsUnavailableIn G (insts_of c) n m)) → AreSound c n → AreSound c end
+pub sound_more : (c : Code) (n end : ℕ) → IsExtent (insts_of c) n end
+    → ((G : Table) → IsCode G c → (m : ℕ) → ¬ (IsUnavailableIn G (insts_of c) n m)) → AreSound c n → AreSound c end
 sound_more c n end x here before = record {
   none = λ G is f m lt unavailable. elim (cases_order f n) [
     | inl same ↦ here G is m (subst (λ (k : ℕ). IsUnavailableIn G (insts_of c) k m) same unavailable)
     | inr apart ↦ elim apart [
       | inl less ↦ before.none G is f m less unavailable
-      | inr more ↦ (x.of f (omega (arith, more)) lt).begun.last f more (omega arith) (function_at (insts_of c) f (walked G (insts_of c) f m unavailable).function)
+      | inr more ↦ (x.of f (omega (arith, more)) lt).begun.last f more (omega arith)
+          (function_at (insts_of c) f (walked G (insts_of c) f m unavailable).function)
     ]
   ];
 }
@@ -81,7 +100,8 @@ unavailable_here : (G : Table) (is : List PlainInst) (f n : ℕ) → IsUnavailab
 unavailable_here G is f n (inl (m, e)) = inl m
 unavailable_here G is f n (inr (m, e)) = inr m
 
-pub sound_all : (c : Code) (n : ℕ) → length (insts_of c) ≤ n → AreSound c n → (G : Table) → IsCode G c → IsFirstOf G (insts_of c) None
+pub sound_all : (c : Code) (n : ℕ) → length (insts_of c) ≤ n → AreSound c n → (G : Table) → IsCode G c
+    → IsFirstOf G (insts_of c) None
 sound_all c n all before G is = λ m unavailable.
     let r = unavailable_in G (insts_of c) m unavailable in
     let w = walked G (insts_of c) r.0 m r.1 in
@@ -90,7 +110,8 @@ sound_all c n all before G is = λ m unavailable.
     before.none G is r.0 m (omega (arith, lt, all)) r.1
 
 -- what is unavailable in a function comes before all that later functions miss
-pub first_here : (c : Code) (f n : ℕ) → AreSound c f → ((G : Table) → IsCode G c → IsFirstIn G (insts_of c) f (Some n)) → (G : Table) → IsCode G c → IsFirstOf G (insts_of c) (Some n)
+pub first_here : (c : Code) (f n : ℕ) → AreSound c f → ((G : Table) → IsCode G c → IsFirstIn G (insts_of c) f (Some n))
+    → (G : Table) → IsCode G c → IsFirstOf G (insts_of c) (Some n)
 first_here c f n before first G is = (
   unavailable_here G (insts_of c) f n (first G is).0,
   λ m lt unavailable. (
@@ -110,44 +131,59 @@ first_here c f n before first G is = (
 
 -- rules
 
-staged_unavailable : (G : Table) (is : List PlainInst) (q : Rule) (n : ℕ) → stage_of q ≡ of_values → IsStaged G is q n → IsUnavailableAt G is n
+staged_unavailable : (G : Table) (is : List PlainInst) (q : Rule) (n : ℕ) → stage_of q ≡ of_values → IsStaged G is q n
+    → IsUnavailableAt G is n
 staged_unavailable G is _ _ s (IsStaged.branches q n e) = absurd (omega (arith, s, e))
 staged_unavailable G is _ _ s (IsStaged.missing n m) = inl m
 staged_unavailable G is _ _ s (IsStaged.pair_missing n m) = inr m
 
-broken_unavailable : (G : Table) (is : List PlainInst) (q : Rule) (n : ℕ) → stage_of q ≡ of_values → Broken G is q n → IsUnavailableAt G is n
+broken_unavailable : (G : Table) (is : List PlainInst) (q : Rule) (n : ℕ) → stage_of q ≡ of_values → Broken G is q n
+    → IsUnavailableAt G is n
 broken_unavailable G is q n s b = staged_unavailable G is q n s (staged G is q n b)
 
-unavailable_broken : (G : Table) (is : List PlainInst) (r : Rule) (n : ℕ) → IsRuleAt is n r → IsUnavailableAt G is n → (stage_of r ≡ of_values) × Broken G is r n
+unavailable_broken : (G : Table) (is : List PlainInst) (r : Rule) (n : ℕ) → IsRuleAt is n r → IsUnavailableAt G is n
+    → (stage_of r ≡ of_values) × Broken G is r n
 unavailable_broken G is r n at (inl m) = (let e = at.other m.other in rw e (refl, Broken.missing n m))
 unavailable_broken G is r n at (inr m) = (let e = at.phi m.phi in rw e (refl, Broken.pair_missing n m))
 
-staged_rank : (G : Table) (is : List PlainInst) (r q : Rule) (n : ℕ) → IsRuleAt is n r → stage_of q ≡ of_values → IsStaged G is q n → rank_of r ≤ rank_of q
+staged_rank : (G : Table) (is : List PlainInst) (r q : Rule) (n : ℕ) → IsRuleAt is n r → stage_of q ≡ of_values
+    → IsStaged G is q n → rank_of r ≤ rank_of q
 staged_rank G is r _ _ at s (IsStaged.branches q n e) = absurd (omega (arith, s, e))
 staged_rank G is r _ _ at s (IsStaged.missing n m) = (let e = at.other m.other in rw e (omega arith))
 staged_rank G is r _ _ at s (IsStaged.pair_missing n m) = (let e = at.phi m.phi in rw e (omega arith))
 
-rank_first : (G : Table) (is : List PlainInst) (r q : Rule) (n : ℕ) → IsRuleAt is n r → stage_of q ≡ of_values → Broken G is q n → rank_of r ≤ rank_of q
+rank_first : (G : Table) (is : List PlainInst) (r q : Rule) (n : ℕ) → IsRuleAt is n r → stage_of q ≡ of_values
+    → Broken G is q n → rank_of r ≤ rank_of q
 rank_first G is r q n at s b = staged_rank G is r q n at s (staged G is q n b)
 
 pub unbroken_by : (G : Table) (is : List PlainInst) → IsFirstOf G is None → IsUnbroken (Broken G is) of_values
 unbroken_by G is none = λ r n s b. none n (broken_unavailable G is r n s b)
 
-first_broken : (G : Table) (is : List PlainInst) (r : Rule) (n : ℕ) → IsRuleAt is n r → IsFirstOf G is (Some n) → IsFirst (Broken G is) of_values r n
+first_broken : (G : Table) (is : List PlainInst) (r : Rule) (n : ℕ) → IsRuleAt is n r → IsFirstOf G is (Some n)
+    → IsFirst (Broken G is) of_values r n
 first_broken G is r n at first = record {
   of_stage = (unavailable_broken G is r n at first.0).0;
   broken = (unavailable_broken G is r n at first.0).1;
   least = λ q m s b. elim (cases_order n m) [
     | inl here ↦ inr (here, rank_first G is r q n at s (subst (λ (k : ℕ). Broken G is q k) (sym here) b))
-    | inr apart ↦ elim apart [ inl less ↦ inl less | inr more ↦ absurd (first.1 m more (broken_unavailable G is q m s b)) ]
+    | inr apart ↦ elim apart [
+      | inl less ↦ inl less
+      | inr more ↦
+          absurd (first.1 m more (broken_unavailable G is q m s b))
+    ]
   ];
 }
 
-pub told : (G : Table) (is : List PlainInst) (r : Rule) (n : ℕ) (stop : Stop) → IsRuleAt is n r → IsFirstOf G is (Some n) → IsStopAt is r n stop → IsRefusal G is stop
+pub told : (G : Table) (is : List PlainInst) (r : Rule) (n : ℕ) (stop : Stop) → IsRuleAt is n r
+    → IsFirstOf G is (Some n) → IsStopAt is r n stop → IsRefusal G is stop
 told G is r n Memory at first h = absurd h
 told G is r n (Fault f) at first (e, where_at, word) =
-    let one : IsFirst (Broken G is) of_values f.rule n = subst (λ (q : Rule). IsFirst (Broken G is) of_values q n) (sym e) (first_broken G is r n at first) in
-    (subst (λ (m : ℕ). IsFirst (Broken G is) of_values f.rule m) (sym where_at) one, word ∙ ap (first_word_of is) (sym where_at))
+    let one : IsFirst (Broken G is) of_values f.rule n = subst (λ (q : Rule). IsFirst (Broken G is) of_values q n)
+    (sym e) (first_broken G is r n at first) in (
+      subst (λ (m : ℕ). IsFirst (Broken G is) of_values f.rule m) (sym where_at) one,
+      word
+          ∙ ap (first_word_of is) (sym where_at),
+    )
 
 -- an instruction at which a value is unavailable is there
 pub unavailable_there : (G : Table) (is : List PlainInst) (n : ℕ) → IsUnavailableAt G is n → n < length is

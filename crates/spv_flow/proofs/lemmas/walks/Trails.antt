@@ -1,5 +1,6 @@
 -- The instructions of a block, and of the blocks of a path, the last of them first.
-use Rattle.std.proofs.Common.{◌≡◌, ◌<◌, ◌≤◌, ◌++◌, ◌+◌, ◌-◌, ◌∙◌, ℕ, zero, suc, List, [], ◌∷◌, ap, subst, inl, inr, arith}
+use Rattle.std.proofs.Common.{◌≡◌, ◌<◌, ◌≤◌, ◌++◌, ◌+◌, ◌-◌, ◌∙◌, ℕ, zero, suc, List, [], ◌∷◌, ap, subst, inl, inr}
+use Rattle.std.proofs.Common.{arith}
 use Rattle.std.specs.Prelude.{Any, All, slice_index}
 use Rattle.std.proofs.lemmas.Bool.{cases_lt}
 use Rattle.spv_table.specs.Table.{Table}
@@ -9,7 +10,8 @@ use Rattle.spv_graphs.specs.declared.graph.Graph.{Graph}
 use Rattle.spv_graphs.specs.Path.{IsPath, IsDefinedOn}
 use Rattle.spv_flow.specs.branches.Walk.{IsResultAmong}
 use Rattle.spv_flow.specs.walks.inner.Divided.{IsGraphOf}
-use Rattle.spv_flow.proofs.lemmas.walks.Lists.{any_cons, any_head, any_tail, any_none, any_cases, any_left, any_right, all_cons}
+use Rattle.spv_flow.proofs.lemmas.walks.Lists.{any_cons, any_head, any_tail, any_none, any_cases, any_left, any_right}
+use Rattle.spv_flow.proofs.lemmas.walks.Lists.{all_cons}
 
 -- the instructions from s on, so many
 abbrev pub run : ℕ → ℕ → List ℕ
@@ -39,7 +41,9 @@ run_any P s (suc k) a = elim (any_cons P (s + k) (run s k) a) [
 
 pub all_run : (P : ℕ → Type 0) (s k : ℕ) → ((n : ℕ) → s ≤ n → n < s + k → P n) → All P (run s k)
 all_run P s zero f = λ k d lt. absurd (omega (arith, lt))
-all_run P s (suc k) f = all_cons P (s + k) (run s k) (f (s + k) (omega arith) (omega arith)) (all_run P s k (λ n from to. f n from (omega (arith, to))))
+all_run P s (suc k) f =
+    all_cons P (s + k) (run s k) (f (s + k) (omega arith) (omega arith))
+    (all_run P s k (λ n from to. f n from (omega (arith, to))))
 
 -- the first comes last
 pub run_split : (s k : ℕ) (ys : List ℕ) → run s (suc k) ++ ys ≡ run (s + 1) k ++ (s ∷ ys)
@@ -50,24 +54,34 @@ run_split s (suc k) ys =
     ap (λ (n : ℕ). n ∷ (run s (suc k) ++ ys)) e ∙ ap (λ (xs : List ℕ). ((s + 1) + k) ∷ xs) h
 
 -- what is defined on a path is a result on its trail
-pub trail_defined : (G : Table) (is : List PlainInst) (f : ℕ) (starts : List ℕ) (graph : Graph) → IsGraphOf G is f starts graph
-    → (x d : ℕ) → IsDefinedAt is x d → (past : List ℕ) → IsDefinedOn graph past d → IsResultAmong is (trail starts past) x
+pub trail_defined : (G : Table) (is : List PlainInst) (f : ℕ) (starts : List ℕ) (graph : Graph)
+    → IsGraphOf G is f starts graph
+    → (x d : ℕ) → IsDefinedAt is x d → (past : List ℕ) → IsDefinedOn graph past d
+    → IsResultAmong is (trail starts past) x
 trail_defined G is f starts graph g x d at [] on = absurd on
 trail_defined G is f starts graph g x d at (h ∷ past) (inl here) =
     let i = (g.values h d).0 here in
     any_left (λ n. IsDefinedAt is x n) (run (slice_index starts h) (size starts h)) (trail starts past)
     (any_run (λ n. IsDefinedAt is x n) (slice_index starts h) (size starts h) d i.from (omega (arith, i.from, i.to)) at)
 trail_defined G is f starts graph g x d at (h ∷ past) (inr later) =
-    any_right (λ n. IsDefinedAt is x n) (run (slice_index starts h) (size starts h)) (trail starts past) (trail_defined G is f starts graph g x d at past later)
+    any_right (λ n. IsDefinedAt is x n) (run (slice_index starts h) (size starts h)) (trail starts past)
+    (trail_defined G is f starts graph g x d at past later)
 
 -- and the other way, where an id has one definition
-pub trail_only : (G : Table) (is : List PlainInst) (f : ℕ) (starts : List ℕ) (graph : Graph) → IsGraphOf G is f starts graph
-    → (x d : ℕ) → ((k : ℕ) → IsDefinedAt is x k → k ≡ d) → (past : List ℕ) (b : ℕ) → IsPath graph past b → IsResultAmong is (trail starts past) x → IsDefinedOn graph past d
+pub trail_only : (G : Table) (is : List PlainInst) (f : ℕ) (starts : List ℕ) (graph : Graph)
+    → IsGraphOf G is f starts graph
+    → (x d : ℕ) → ((k : ℕ) → IsDefinedAt is x k → k ≡ d) → (past : List ℕ) (b : ℕ) → IsPath graph past b
+    → IsResultAmong is (trail starts past) x → IsDefinedOn graph past d
 trail_only G is f starts graph g x d one [] b path among = absurd (any_none (λ n. IsDefinedAt is x n) among)
-trail_only G is f starts graph g x d one (h ∷ past) b path among = elim (any_cases (λ n. IsDefinedAt is x n) (run (slice_index starts h) (size starts h)) (trail starts past) among) [
-  | inl here ↦ (
-      let r = run_any (λ n. IsDefinedAt is x n) (slice_index starts h) (size starts h) here in
-      let e : r.0 ≡ d = one r.0 r.3 in
-      inl ((g.values h d).1 (record { block = omega (arith, g.count, path.0); from = omega (arith, r.1, e); to = omega (arith, r.1, r.2, e) })))
-  | inr later ↦ inr (trail_only G is f starts graph g x d one past h path.2 later)
-]
+trail_only G is f starts graph g x d one (h ∷ past) b path among =
+    elim (any_cases (λ n. IsDefinedAt is x n) (run (slice_index starts h) (size starts h)) (trail starts past) among) [
+      | inl here ↦ (
+          let r = run_any (λ n. IsDefinedAt is x n) (slice_index starts h) (size starts h) here in
+          let e : r.0 ≡ d = one r.0 r.3 in
+          inl ((g.values h d).1 (record {
+            block = omega (arith, g.count, path.0);
+            from = omega (arith, r.1, e);
+            to = omega (arith, r.1, r.2, e);
+          })))
+      | inr later ↦ inr (trail_only G is f starts graph g x d one past h path.2 later)
+    ]

@@ -18,7 +18,8 @@ label_evidence-requires-clause-defined c =
     let v = c.as_slice.ensures.value in
     let k = c.requires.known in
     let m = c.args.module.now in
-    let has = subst (λ (xs : List Inst). KeepsDefinitions k.0 (map plain_inst xs) c.args.inst) (sym v) (definitions k.0 m.header.bound (plain_insts m) c.args.inst k.2.unbroken) in
+    let has = subst (λ (xs : List Inst). KeepsDefinitions k.0 (map plain_inst xs) c.args.inst) (sym v)
+    (definitions k.0 m.header.bound (plain_insts m) c.args.inst k.2.unbroken) in
     (k.0, known_code k.0 code m.insts.items v c.requires.words k.1 k.2.each, has)
 
 pub label_evidence-requires-clause-broken : goal.label_evidence-requires-clause-broken
@@ -27,8 +28,11 @@ label_evidence-requires-clause-broken c =
     let v = c.as_slice.ensures.value in
     let items = c.args.module.now.insts.items in
     let f = c.requires.first in
-    let b = known_broken f.0 code items c.args.rule c.args.inst v f.2 in
-    (f.0, known_code f.0 code items v c.requires.words f.1 c.requires.known.2.each, (lacking f.0 (insts_of code) c.args.rule c.args.inst b.broken c.in-F1.is).1)
+    let b = known_broken f.0 code items c.args.rule c.args.inst v f.2 in (
+      f.0,
+      known_code f.0 code items v c.requires.words f.1 c.requires.known.2.each,
+      (lacking f.0 (insts_of code) c.args.rule c.args.inst b.broken c.in-F1.is).1,
+    )
 
 pub entry_evidence-requires-clause-at : goal.entry_evidence-requires-clause-at
 entry_evidence-requires-clause-at c =
@@ -49,8 +53,11 @@ entry_evidence-requires-clause-broken c =
     let v = c.as_slice.ensures.value in
     let items = c.args.module.now.insts.items in
     let f = c.requires.first in
-    let b = known_broken f.0 code items c.args.rule c.args.inst v f.2 in
-    (f.0, known_code f.0 code items v c.requires.words f.1 c.requires.known.2.each, (entering f.0 (insts_of code) c.args.rule c.args.inst b.broken c.in-F2.is).1)
+    let b = known_broken f.0 code items c.args.rule c.args.inst v f.2 in (
+      f.0,
+      known_code f.0 code items v c.requires.words f.1 c.requires.known.2.each,
+      (entering f.0 (insts_of code) c.args.rule c.args.inst b.broken c.in-F2.is).1,
+    )
 
 pub parents_evidence-requires-clause-at : goal.parents_evidence-requires-clause-at
 parents_evidence-requires-clause-at c =
@@ -64,8 +71,11 @@ parents_evidence-requires-clause-broken c =
     let v = c.as_slice.ensures.value in
     let items = c.args.module.now.insts.items in
     let f = c.requires.first in
-    let b = known_broken f.0 code items c.args.rule c.args.inst v f.2 in
-    (f.0, known_code f.0 code items v c.requires.words f.1 c.requires.known.2.each, (parentless f.0 (insts_of code) c.args.rule c.args.inst b.broken c.in-F3.is).1)
+    let b = known_broken f.0 code items c.args.rule c.args.inst v f.2 in (
+      f.0,
+      known_code f.0 code items v c.requires.words f.1 c.requires.known.2.each,
+      (parentless f.0 (insts_of code) c.args.rule c.args.inst b.broken c.in-F3.is).1,
+    )
 
 pub returns-in-F1 : goal.returns-in-F1
 returns-in-F1 c = λ G plan first.
@@ -89,5 +99,7 @@ returns-in-F3 c = λ G plan first.
     let v = c.as_slice.ensures.value in
     let items = c.args.module.now.insts.items in
     let is = known_code G code items v c.requires.words plan c.requires.known.2.each in
-    IfOk-weaker c.parents_evidence.result (λ e. (H : Table) → IsCode H code → IsEvidence H (insts_of code) F3 c.args.inst e) (λ e. IsEvidence G (plain_insts c.args.module.now) c.args.rule c.args.inst e)
+    IfOk-weaker c.parents_evidence.result (λ e. (H : Table) → IsCode H code
+    → IsEvidence H (insts_of code) F3 c.args.inst e)
+    (λ e. IsEvidence G (plain_insts c.args.module.now) c.args.rule c.args.inst e)
     (λ e h. found G code items c.args.rule F3 c.args.inst e v c.in-F3.is (h G is)) c.parents_evidence.ensures

@@ -11,7 +11,8 @@ use Rattle.spv_flow_evidence.proofs.lemmas.calls.Walked.{is_listed, ready, evide
 use Rattle.spv_flow_evidence.proofs.calls.call_evidence.Goals as goal
 
 pub calls_of-requires-clause-few : goal.calls_of-requires-clause-few
-calls_of-requires-clause-few c = few_insts c.as_slice-insts.result.now (rw c.as_slice-insts.ensures.value c.requires.words)
+calls_of-requires-clause-few c =
+    few_insts c.as_slice-insts.result.now (rw c.as_slice-insts.ensures.value c.requires.words)
 
 pub calls_of-requires-clause-places : goal.calls_of-requires-clause-places
 calls_of-requires-clause-places c =
@@ -49,7 +50,8 @@ way_to-requires c =
     let l : IsListed calls c.args.inst c.in-Some.call = rw c.deref-2.ensures.value at c.in-Some.ensures in
     let few = few_insts insts (rw c.as_slice-insts.ensures.value c.requires.words) in
     let k : Broken (map plain_inst insts) G1 c.args.inst = rw c.as_slice-insts.ensures.value c.requires.broken in
-    let r = ready insts calls entries closed c.args.inst c.in-Some.call open' c.in_ok-calls.ensures l c.in_ok-edges.edges.items edges few c.in_ok-entries.ensures k in
+    let r = ready insts calls entries closed c.args.inst c.in-Some.call open' c.in_ok-calls.ensures l
+    c.in_ok-edges.edges.items edges few c.in_ok-entries.ensures k in
     rw (c.deref-3.ensures.value, c.deref-4.ensures.value, c.deref-5.ensures.value)
     (record { within = r.within; starts = r.starts; goal = r.caller; few = r.few; reached = r.reached.caller })
 
@@ -64,7 +66,8 @@ way_to-requires-2 c =
     let l : IsListed calls c.args.inst c.in-Some.call = rw c.deref-2.ensures.value at c.in-Some.ensures in
     let few = few_insts insts (rw c.as_slice-insts.ensures.value c.requires.words) in
     let k : Broken (map plain_inst insts) G1 c.args.inst = rw c.as_slice-insts.ensures.value c.requires.broken in
-    let r = ready insts calls entries closed c.args.inst c.in-Some.call open' c.in_ok-calls.ensures l c.in_ok-edges.edges.items edges few c.in_ok-entries.ensures k in
+    let r = ready insts calls entries closed c.args.inst c.in-Some.call open' c.in_ok-calls.ensures l
+    c.in_ok-edges.edges.items edges few c.in_ok-entries.ensures k in
     rw (c.deref-6.ensures.value, c.deref-7.ensures.value)
     (record { within = r.within; starts = r.callee; goal = r.caller; few = r.few; reached = r.reached.back })
 
@@ -77,8 +80,10 @@ returns c =
     let open' : closed ≡ replicate (length insts) false = c.in_ok-closed.ensures.items_if_clones_equal (λ y k. k) in
     let edges : c.in_ok-edges.edges.items ≡ map edge_of calls = rw c.deref.ensures.value at c.in_ok-edges.ensures in
     let l : IsListed calls c.args.inst c.in-Some.call = rw c.deref-2.ensures.value at c.in-Some.ensures in
-    let s = rw (c.deref-3.ensures.value, c.deref-4.ensures.value, c.deref-5.ensures.value) at c.in_ok-to_caller.ensures in
+    let s = rw (c.deref-3.ensures.value, c.deref-4.ensures.value, c.deref-5.ensures.value) at c.in_ok-to_caller.ensures
+    in
     let t = rw (c.deref-6.ensures.value, c.deref-7.ensures.value) at c.in_ok-back.ensures in
     rw (← c.as_slice-insts.ensures.value)
-    (evidence insts calls entries closed c.args.inst c.in-Some.call open' c.in_ok-calls.ensures l c.in_ok-edges.edges.items c.in_ok-to_caller.to_caller c.in_ok-back.back edges
+    (evidence insts calls entries closed c.args.inst c.in-Some.call open' c.in_ok-calls.ensures l
+    c.in_ok-edges.edges.items c.in_ok-to_caller.to_caller c.in_ok-back.back edges
     c.in_ok-entries.ensures s t)

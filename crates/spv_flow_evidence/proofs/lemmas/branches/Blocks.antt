@@ -1,5 +1,6 @@
 -- An OpPhi of a module that is laid out is of a block.
-use Rattle.std.proofs.Common.{◌≡◌, ◌∙◌, ◌≤◌, ◌<◌, ◌+◌, ◌⊎◌, inl, inr, ℕ, zero, suc, List, [], ◌∷◌, Bool, true, false, not, ◌&&◌, ◌||◌, Option, Some, None, refl, ap, subst, arith, length, drop}
+use Rattle.std.proofs.Common.{◌≡◌, ◌∙◌, ◌≤◌, ◌<◌, ◌+◌, ◌⊎◌, inl, inr, ℕ, zero, suc, List, [], ◌∷◌, Bool, true, false}
+use Rattle.std.proofs.Common.{not, ◌&&◌, ◌||◌, Option, Some, None, refl, ap, subst, arith, length, drop}
 use Rattle.std.specs.Prelude.{slice_get, option_map}
 use Rattle.std.proofs.lemmas.Bool.{eqb-true}
 use Rattle.std.proofs.lemmas.Option.{slice_get-map, slice_get_within, none-some}
@@ -46,7 +47,8 @@ implies false b = true
 -- what a transition keeps
 abbrev is_fine : State → Class → Option State → Bool
 is_fine s c None = true
-is_fine s c (Some t) = implies (in_a_block t) (not (a_terminator c) && (a_label c || in_a_block s)) && implies (a_phi c) (in_a_block s)
+is_fine s c (Some t) =
+    implies (in_a_block t) (not (a_terminator c) && (a_label c || in_a_block s)) && implies (a_phi c) (in_a_block s)
 
 fine : (s : State) (c : Class) → is_fine s c (next_of s c) ≡ true
 fine at.Capabilities Capability = refl
@@ -71,7 +73,8 @@ fine at.SelectionMerge Capability = refl
 fine at.Block Capability = refl
 fine _ _ = refl
 
-split : (a b t l c p : Bool) → implies a (not t && (l || b)) && implies p c ≡ true → (a ≡ true → (t ≡ false) × ((l ≡ true) ⊎ (b ≡ true))) × (p ≡ true → c ≡ true)
+split : (a b t l c p : Bool) → implies a (not t && (l || b)) && implies p c ≡ true
+    → (a ≡ true → (t ≡ false) × ((l ≡ true) ⊎ (b ≡ true))) × (p ≡ true → c ≡ true)
 split true true false true c true h = (λ e. (refl, inl refl), λ e. h)
 split true true false false c true h = (λ e. (refl, inr refl), λ e. h)
 split true false false true c true h = (λ e. (refl, inl refl), λ e. h)
@@ -83,8 +86,11 @@ split true false false false c p h = absurd (cc)
 split false b t l c true h = (λ e. cc, λ e. h)
 split false b t l c false h = (λ e. cc, λ e. cc)
 
-fine_move : (s t : State) (c : Class) → next_of s c ≡ Some t → (in_a_block t ≡ true → (a_terminator c ≡ false) × ((a_label c ≡ true) ⊎ (in_a_block s ≡ true))) × (a_phi c ≡ true → in_a_block s ≡ true)
-fine_move s t c e = split (in_a_block t) (in_a_block s) (a_terminator c) (a_label c) (in_a_block s) (a_phi c) (rw e at (fine s c))
+fine_move : (s t : State) (c : Class) → next_of s c ≡ Some t
+    → (in_a_block t ≡ true → (a_terminator c ≡ false) × ((a_label c ≡ true) ⊎ (in_a_block s ≡ true)))
+    × (a_phi c ≡ true → in_a_block s ≡ true)
+fine_move s t c e = split (in_a_block t) (in_a_block s) (a_terminator c) (a_label c) (in_a_block s) (a_phi c)
+    (rw e at (fine s c))
 
 -- a block that has begun
 abbrev is_open : Span → Type 0
@@ -113,7 +119,8 @@ from_here [] n i h = absurd (none-some i h)
 from_here (j ∷ is) zero i h = ap (λ k. k ∷ is) (let e : j ≡ i = cc in e)
 from_here (j ∷ is) (suc n) i h = from_here is n i h
 
-class_at : (is : List PlainInst) (n : ℕ) (i : PlainInst) → slice_get is n ≡ Some i → slice_get (classes is) n ≡ Some (class_of i.opcode)
+class_at : (is : List PlainInst) (n : ℕ) (i : PlainInst) → slice_get is n ≡ Some i
+    → slice_get (classes is) n ≡ Some (class_of i.opcode)
 class_at is n i h = slice_get-map (λ j. class_of j.opcode) is n ∙ ap (option_map (λ j. class_of j.opcode)) h
 
 -- The state after an instruction.
@@ -122,14 +129,17 @@ record Moved (s : State) (c : Class) (rest : List Class) : Type 0 where
   pub moved : next_of s c ≡ Some state
   pub remains : Remains state rest
 
-moves : (s : State) (c : Class) (rest : List Class) (o : Option State) → next_of s c ≡ o → Remains s (c ∷ rest) → Moved s c rest
+moves : (s : State) (c : Class) (rest : List Class) (o : Option State) → next_of s c ≡ o → Remains s (c ∷ rest)
+    → Moved s c rest
 moves s c rest None e r = absurd (goes_no_further s c e rest r)
 moves s c rest (Some t) e r = record { state = t; moved = e; remains = (goes_on s t c e rest).forth r }
 
-moves_at : (is : List PlainInst) (n : ℕ) (i : PlainInst) → slice_get is n ≡ Some i → (p : Passed is n) → Moved p.state (class_of i.opcode) (classes (drop (suc n) is))
+moves_at : (is : List PlainInst) (n : ℕ) (i : PlainInst) → slice_get is n ≡ Some i → (p : Passed is n)
+    → Moved p.state (class_of i.opcode) (classes (drop (suc n) is))
 moves_at is n i h p =
     let c = class_of i.opcode in
-    moves p.state c (classes (drop (suc n) is)) (next_of p.state c) refl (subst (λ js. Remains p.state (classes js)) (from_here is n i h) p.remains)
+    moves p.state c (classes (drop (suc n) is)) (next_of p.state c) refl
+    (subst (λ js. Remains p.state (classes js)) (from_here is n i h) p.remains)
 
 step : (is : List PlainInst) (n : ℕ) (i : PlainInst) → slice_get is n ≡ Some i → Passed is n → Passed is (suc n)
 step is n i h p =
@@ -143,7 +153,8 @@ step is n i h p =
       state = m.state;
       remains = m.remains;
       span = left (entered p.span (a_label c) n) (a_terminator c);
-      before = subst (λ k. Before is Label terminators k (left (entered p.span (a_label c) n) (a_terminator c))) e after;
+      before = subst (λ k. Before is Label terminators k (left (entered p.span (a_label c) n) (a_terminator c))) e
+          after;
       within = λ o.
           let f = (fine_move p.state m.state c m.moved).0 o in
           opened p.span (a_label c) (a_terminator c) n f.0 (elim f.1 [ inl l ↦ inl l | inr b ↦ inr (p.within b) ]);
@@ -155,14 +166,23 @@ some_inst (j ∷ is) zero h = (j, refl)
 some_inst (j ∷ is) (suc n) h = some_inst is n (omega (arith, h))
 
 passed : (is : List PlainInst) → IsLayout (classes is) → (n : ℕ) → n ≤ length is → Passed is n
-passed is laid zero h = record { state = at.Capabilities; remains = layout_remains (classes is) laid; span = Outside; before = before_first is Label terminators; within = λ e. cc }
-passed is laid (suc n) h = let i = some_inst is n (omega (arith, h)) in step is n i.0 i.1 (passed is laid n (omega (arith, h)))
+passed is laid zero h =
+    record {
+      state = at.Capabilities;
+      remains = layout_remains (classes is) laid;
+      span = Outside;
+      before = before_first is Label terminators;
+      within = λ e. cc;
+    }
+passed is laid (suc n) h = let i = some_inst is n (omega (arith, h)) in
+    step is n i.0 i.1 (passed is laid n (omega (arith, h)))
 
 phi_class : class_of opcode.PHI ≡ Phi
 unfolding rows
 phi_class = refl
 
-up_to : (is : List PlainInst) (n : ℕ) (s : Span) → is_open s → UpTo is Label terminators n s → (b : ℕ) × IsOfBlock is n b
+up_to : (is : List PlainInst) (n : ℕ) (s : Span) → is_open s → UpTo is Label terminators n s
+    → (b : ℕ) × IsOfBlock is n b
 up_to is n _ o (UpTo.outside g h) = absurd o
 up_to is n _ o (UpTo.within b w) = (b, w)
 up_to is n _ o (UpTo.after b k l m f e) = absurd o
@@ -177,4 +197,5 @@ phi_block is n laid op =
     let m = moves_at is n i h.there p in
     let in_block = (fine_move p.state m.state (class_of i.opcode) m.moved).1 (ap a_phi c) in
     let at_n = enters is Label terminators n (class_of i.opcode) p.span lt (class_at is n i h.there) p.before in
-    up_to is n p.span (p.within in_block) (subst (λ d. UpTo is Label terminators n (entered p.span (a_label d) n)) c at_n)
+    up_to is n p.span (p.within in_block) (subst
+    (λ d. UpTo is Label terminators n (entered p.span (a_label d) n)) c at_n)

@@ -24,12 +24,15 @@ use Rattle.spv_flow_evidence.specs.branches.inner.Known.{KeepsDefinitions}
 use Rattle.spv_flow.proofs.lemmas.branches.Firsts.{few_insts}
 
 -- The instructions that are looked at are those of a module whose plan and ids are known.
-pub known_code : (G : Table) (c : Code) (insts : List Inst) → c.insts.now ≡ insts → IsShort (map plain_inst insts) → IsPlan G (map plain_inst insts) c.plan.now → ((x : ℕ) → IsDefinitionOf (map plain_inst insts) x (definition_in c.ids.now x))
+pub known_code : (G : Table) (c : Code) (insts : List Inst) → c.insts.now ≡ insts → IsShort (map plain_inst insts)
+    → IsPlan G (map plain_inst insts) c.plan.now
+    → ((x : ℕ) → IsDefinitionOf (map plain_inst insts) x (definition_in c.ids.now x))
     → IsCode G c
 known_code G c insts e words plan each =
     record {
       plan = subst (λ (xs : List Inst). IsPlan G (map plain_inst xs) c.plan.now) (sym e) plan;
-      each = subst (λ (xs : List Inst). (x : ℕ) → IsDefinitionOf (map plain_inst xs) x (definition_in c.ids.now x)) (sym e) each;
+      each = subst (λ (xs : List Inst). (x : ℕ) → IsDefinitionOf (map plain_inst xs) x (definition_in c.ids.now x))
+          (sym e) each;
       most = subst (λ (xs : List Inst). AreFew xs) (sym e) (few_insts insts words);
     }
 
@@ -38,18 +41,24 @@ pub record IsBroken (G : Table) (c : Code) (q : Rule) (n : ℕ) : Type 0 where
   pub within : n < length c.insts.now
   pub broken : Broken G (insts_of c) q n
 
-pub known_broken : (G : Table) (c : Code) (insts : List Inst) (q : Rule) (n : ℕ) → c.insts.now ≡ insts → IsFirst (Broken G (map plain_inst insts)) of_branches q n → IsBroken G c q n
+pub known_broken : (G : Table) (c : Code) (insts : List Inst) (q : Rule) (n : ℕ) → c.insts.now ≡ insts
+    → IsFirst (Broken G (map plain_inst insts)) of_branches q n → IsBroken G c q n
 known_broken G c insts q n e first =
     let broken = subst (λ (xs : List Inst). Broken G (map plain_inst xs) q n) (sym e) first.broken in
     record {
-      within = (let lt = broken_within G (insts_of c) q n first.of_stage broken in let count = length-map c.insts.now plain_inst in omega (arith, lt, count));
+      within = (let lt = broken_within G (insts_of c) q n first.of_stage broken in
+          let count = length-map c.insts.now plain_inst in omega (arith, lt, count));
       broken = broken;
     }
 
 -- What was found of them.
-pub found : (G : Table) (c : Code) (insts : List Inst) (q r : Rule) (n : ℕ) (e : Evidence) → c.insts.now ≡ insts → q ≡ r → IsEvidence G (insts_of c) r n e → IsEvidence G (map plain_inst insts) q n e
+pub found : (G : Table) (c : Code) (insts : List Inst) (q r : Rule) (n : ℕ) (e : Evidence) → c.insts.now ≡ insts → q ≡ r
+    → IsEvidence G (insts_of c) r n e → IsEvidence G (map plain_inst insts) q n e
 found G c insts q r n e same rule h =
-    subst (λ (p : Rule). IsEvidence G (map plain_inst insts) p n e) (sym rule) (subst (λ (xs : List Inst). IsEvidence G (map plain_inst xs) r n e) same h)
+    subst (λ (p : Rule). IsEvidence G (map plain_inst insts) p n e) (sym rule)
+    (subst (λ (xs : List Inst). IsEvidence G (map plain_inst xs) r n e) same h)
 
-pub definitions : (G : Table) (bound : ℕ) (is : List PlainInst) (n : ℕ) → IsUnbroken (ids.Broken G bound is) of_ids → KeepsDefinitions G is n
-definitions G bound is n unbroken = record { each = λ k x u none. unbroken D3 n refl (ids.Broken.undefined n k x Label u none) }
+pub definitions : (G : Table) (bound : ℕ) (is : List PlainInst) (n : ℕ) → IsUnbroken (ids.Broken G bound is) of_ids
+    → KeepsDefinitions G is n
+definitions G bound is n unbroken =
+    record { each = λ k x u none. unbroken D3 n refl (ids.Broken.undefined n k x Label u none) }

@@ -20,7 +20,8 @@ use Rattle.spv_layout.proofs.Places.{block_same}
 use Rattle.spv_ids.specs.Definition.{IsUsedAt}
 use Rattle.spv_flow.specs.branches.Broken.{Broken}
 use Rattle.spv_flow.specs.branches.inner.Graph.{LacksLabel, LeadsToEntry}
-use Rattle.spv_flow.specs.branches.Target.{is_phi, is_merge, is_branch, IsOp, IsLabelOf, IsPredecessor, IsParentAt, HasParents}
+use Rattle.spv_flow.specs.branches.Target.{is_phi, is_merge, is_branch, IsOp, IsLabelOf, IsPredecessor, IsParentAt}
+use Rattle.spv_flow.specs.branches.Target.{HasParents}
 use Rattle.spv_flow.specs.branches.Example.{branch, conditional, function, label, negation, paired, unpaired}
 use Rattle.spv_flow.proofs.lemmas.branches.Firsts.{at_phi}
 use Rattle.spv_flow.proofs.lemmas.branches.Worked.{branch_used, has_parents, bare_label, u_block, phi_block, u_leads}
@@ -31,19 +32,33 @@ use Rattle.spv_flow_evidence.proofs.lemmas.Small.{no_result}
 
 -- What a broken rule tells.
 
-pub lacking : (G : Table) (is : List PlainInst) (q : Rule) (n : ℕ) → Broken G is q n → q ≡ F1 → (IsOp is n is_branch ⊎ IsOp is n is_merge) × LacksLabel G is n
+pub lacking : (G : Table) (is : List PlainInst) (q : Rule) (n : ℕ) → Broken G is q n → q ≡ F1
+    → (IsOp is n is_branch ⊎ IsOp is n is_merge) × LacksLabel G is n
 lacking G is _ _ (Broken.no_label n k x op used none) e = (op, record { operand = k; id = x; used = used; none = none })
 lacking G is _ _ _ e = cc
 
-pub entering : (G : Table) (is : List PlainInst) (q : Rule) (n : ℕ) → Broken G is q n → q ≡ F2 → IsOp is n is_branch × LeadsToEntry G is n
-entering G is _ _ (Broken.to_entry n x m target d entry) e = (target.branch, record { operand = target.operand; id = x; used = target.used; place = m; defined = d; entry = entry })
+pub entering : (G : Table) (is : List PlainInst) (q : Rule) (n : ℕ) → Broken G is q n → q ≡ F2
+    → IsOp is n is_branch × LeadsToEntry G is n
+entering G is _ _ (Broken.to_entry n x m target d entry) e = (
+  target.branch,
+  record {
+    operand = target.operand;
+    id = x;
+    used = target.used;
+    place = m;
+    defined = d;
+    entry = entry;
+  },
+)
 entering G is _ _ _ e = cc
 
-pub parentless : (G : Table) (is : List PlainInst) (q : Rule) (n : ℕ) → Broken G is q n → q ≡ F3 → IsOp is n is_phi × (¬ (HasParents G is n))
+pub parentless : (G : Table) (is : List PlainInst) (q : Rule) (n : ℕ) → Broken G is q n → q ≡ F3
+    → IsOp is n is_phi × (¬ (HasParents G is n))
 parentless G is _ _ (Broken.parents n phi not) e = (phi, not)
 parentless G is _ _ _ e = cc
 
-pub doubled : (G : Table) (is : List PlainInst) (q : Rule) (n : ℕ) → q ≡ F4 → IsFirst (Broken G is) of_branches q n → IsEvidence G is q n (Operand 2)
+pub doubled : (G : Table) (is : List PlainInst) (q : Rule) (n : ℕ) → q ≡ F4 → IsFirst (Broken G is) of_branches q n
+    → IsEvidence G is q n (Operand 2)
 doubled G is q n e first = shown q n first.broken e
   where
     shown : (r : Rule) (m : ℕ) → Broken G is r m → r ≡ F4 → IsEvidence G is r m (Operand 2)
@@ -54,27 +69,35 @@ doubled G is q n e first = shown q n first.broken e
 pub ruleset told = (doubled)
 
 -- What refutes that the parents are the predecessors.
-none_missing : (G : Table) (is : List PlainInst) (n b p : ℕ) → IsOfBlock is n b → IsPredecessor G is b p → ((k : ℕ) → ¬ (IsParentAt G is n k p)) → ¬ (HasParents G is n)
+none_missing : (G : Table) (is : List PlainInst) (n b p : ℕ) → IsOfBlock is n b → IsPredecessor G is b p
+    → ((k : ℕ) → ¬ (IsParentAt G is n k p)) → ¬ (HasParents G is n)
 none_missing G is n b p of leads none h =
     let e : b ≡ h.block = block_same is n b h.block of h.of in
     let named = h.all p (subst (λ (c : ℕ). IsPredecessor G is c p) e leads) in
     none named.0 named.1
 
-all_lead : (G : Table) (is : List PlainInst) (n b k x : ℕ) → IsOfBlock is n b → IsUsedAt G is n k x role.Label → ((p : ℕ) → IsLabelOf is x p → ¬ (IsPredecessor G is b p)) → ¬ (HasParents G is n)
+all_lead : (G : Table) (is : List PlainInst) (n b k x : ℕ) → IsOfBlock is n b → IsUsedAt G is n k x role.Label
+    → ((p : ℕ) → IsLabelOf is x p → ¬ (IsPredecessor G is b p)) → ¬ (HasParents G is n)
 all_lead G is n b k x of used none h =
     let e : h.block ≡ b = block_same is n h.block b h.of of in
     let named = h.each k x used in
     none named.0 named.1 (subst (λ (c : ℕ). IsPredecessor G is c named.0) e named.2)
 
-named_once : (G : Table) (is : List PlainInst) (n j k p : ℕ) → j < k → IsParentAt G is n j p → IsParentAt G is n k p → ¬ (HasParents G is n)
+named_once : (G : Table) (is : List PlainInst) (n j k p : ℕ) → j < k → IsParentAt G is n j p → IsParentAt G is n k p
+    → ¬ (HasParents G is n)
 named_once G is n j k p lt one two h = let e = h.once j k p one two in absurd (omega (arith, e, lt))
 
-pub suffices : (G : Table) (is : List PlainInst) (r : Rule) (n : ℕ) (e : Evidence) → IsEvidence G is r n e → Broken G is r n
+pub suffices : (G : Table) (is : List PlainInst) (r : Rule) (n : ℕ) (e : Evidence) → IsEvidence G is r n e
+    → Broken G is r n
 suffices G is _ _ _ (IsEvidence.no_label n k x m op used defined none) = Broken.no_label n k x op used none
-suffices G is _ _ _ (IsEvidence.to_entry n k x m op used defined entry) = Broken.to_entry n x m (record { branch = op; operand = k; used = used }) defined entry
-suffices G is _ _ _ (IsEvidence.missing_parent n b p ps phi of leads none all) = Broken.parents n phi (none_missing G is n b p of leads none)
-suffices G is _ _ _ (IsEvidence.no_predecessor n b k x ps phi of used none all) = Broken.parents n phi (all_lead G is n b k x of used none)
-suffices G is _ _ _ (IsEvidence.twice n b j k p ps phi of lt one two all) = Broken.parents n phi (named_once G is n j k p lt one two)
+suffices G is _ _ _ (IsEvidence.to_entry n k x m op used defined entry) =
+    Broken.to_entry n x m (record { branch = op; operand = k; used = used }) defined entry
+suffices G is _ _ _ (IsEvidence.missing_parent n b p ps phi of leads none all) =
+    Broken.parents n phi (none_missing G is n b p of leads none)
+suffices G is _ _ _ (IsEvidence.no_predecessor n b k x ps phi of used none all) =
+    Broken.parents n phi (all_lead G is n b k x of used none)
+suffices G is _ _ _ (IsEvidence.twice n b j k p ps phi of lt one two all) =
+    Broken.parents n phi (named_once G is n j k p lt one two)
 suffices G is _ _ _ (IsEvidence.same_labels n x op one two) = Broken.same_labels n x op one two
 
 -- The worked examples.
@@ -89,20 +112,30 @@ no_label_of (suc zero) h = let e = h.label in cc
 no_label_of (suc (suc m)) h = h.label
 
 pub no_label : IsEvidence small strayed F1 1 (Defined 0 0)
-no_label = IsEvidence.no_label 1 0 1 0 (inl refl) (record { inst = branch 1; there = refl; used = branch_used 1 }) (record { inst = negation 1 5; there = refl; result = refl }) no_label_of
+no_label = IsEvidence.no_label 1 0 1 0 (inl refl) (record { inst = branch 1; there = refl; used = branch_used 1 })
+    (record { inst = negation 1 5; there = refl; result = refl }) no_label_of
 
 pub not_itself : ¬ (IsEvidence small strayed F1 1 (Defined 0 1))
 not_itself h = itself F1 1 (Defined 0 1) h refl
   where
     itself : (r : Rule) (n : ℕ) (e : Evidence) → IsEvidence small strayed r n e → e ≡ Defined 0 1 → ⊥
-    itself _ _ _ (IsEvidence.no_label n k x m op used defined none) g = let f : m ≡ 1 = cc in no_result strayed 1 m x (branch 1) f refl (λ r. cc) defined
+    itself _ _ _ (IsEvidence.no_label n k x m op used defined none) g = let f : m ≡ 1 = cc in
+        no_result strayed 1 m x (branch 1) f refl (λ r. cc) defined
     itself _ _ _ _ g = cc
 
 -- the branch to the entry block
 pub to_entry : IsEvidence small (function ∷ label 1 ∷ branch 1 ∷ []) F2 2 (Operand 0)
 to_entry =
-    IsEvidence.to_entry 2 0 1 1 refl (record { inst = branch 1; there = refl; used = branch_used 1 }) (record { inst = label 1; there = refl; result = refl })
-    (record { label = refl; function = 0; there = refl; after = omega arith; first = λ k a b. absurd (omega (arith, a, b)); same = λ k a b. absurd (omega (arith, a, b)) })
+    IsEvidence.to_entry 2 0 1 1 refl (record { inst = branch 1; there = refl; used = branch_used 1 })
+    (record { inst = label 1; there = refl; result = refl })
+    (record {
+      label = refl;
+      function = 0;
+      there = refl;
+      after = omega arith;
+      first = λ k a b. absurd (omega (arith, a, b));
+      same = λ k a b. absurd (omega (arith, a, b));
+    })
 
 -- the OpPhi that names no block, of which the predecessor is the first block
 branch_at : (t : ℕ) → IsOp unpaired t is_branch → t ≡ 2
@@ -135,18 +168,21 @@ pub missing : IsEvidence small unpaired F3 4 (MissingParent 1 (1 ∷ []))
 missing = IsEvidence.missing_parent 4 3 1 (1 ∷ []) refl phi_block (2, u_leads) (λ k a. bare_label k a.id a.used) alone
 
 own : (qs : List ℕ) (r : Rule) (n : ℕ) (e : Evidence) → IsEvidence small unpaired r n e → e ≡ MissingParent 3 qs → ⊥
-own qs _ _ _ (IsEvidence.missing_parent n b p ps phi of before none all) g = let f : p ≡ 3 = cc in let one = only_first b p before in omega (arith, f, one)
+own qs _ _ _ (IsEvidence.missing_parent n b p ps phi of before none all) g = let f : p ≡ 3 = cc in
+    let one = only_first b p before in omega (arith, f, one)
 own qs _ _ _ _ g = cc
 
 pub not_missing : (ps : List ℕ) → ¬ (IsEvidence small unpaired F3 4 (MissingParent 3 ps))
 not_missing ps h = own ps F3 4 (MissingParent 3 ps) h refl
 
 -- what is told of it are the predecessors of its block
-told_of : (qs : List ℕ) (r : Rule) (n : ℕ) (e : Evidence) → IsEvidence small unpaired r n e → n ≡ 4 → e ≡ MissingParent 1 qs → ArePredecessors small unpaired 3 qs
+told_of : (qs : List ℕ) (r : Rule) (n : ℕ) (e : Evidence) → IsEvidence small unpaired r n e → n ≡ 4
+    → e ≡ MissingParent 1 qs → ArePredecessors small unpaired 3 qs
 told_of qs _ _ _ (IsEvidence.missing_parent n b p ps phi of before none all) f g =
     let s : ps ≡ qs = cc in
     let same : b ≡ 3 = block_same unpaired 4 b 3 (subst (λ (k : ℕ). IsOfBlock unpaired k b) f of) phi_block in
-    subst (λ (xs : List ℕ). ArePredecessors small unpaired 3 xs) s (subst (λ (c : ℕ). ArePredecessors small unpaired c ps) same all)
+    subst (λ (xs : List ℕ). ArePredecessors small unpaired 3 xs) s
+    (subst (λ (c : ℕ). ArePredecessors small unpaired c ps) same all)
 told_of qs _ _ _ _ f g = cc
 
 pub untold : ¬ (IsEvidence small unpaired F3 4 (MissingParent 1 []))
@@ -173,14 +209,41 @@ double_forms = record {
   known = refl;
   forms = refl;
   ending = Ends.done (W ∷ []);
-  each = AreOf.more v (Id 9) (l ∷ l ∷ []) (Id 2 ∷ Id 2 ∷ []) refl (AreOf.more l (Id 2) (l ∷ []) (Id 2 ∷ []) refl (AreOf.more l (Id 2) [] [] refl AreOf.none));
+  each = AreOf.more v (Id 9) (l ∷ l ∷ []) (Id 2 ∷ Id 2 ∷ []) refl
+      (AreOf.more l (Id 2) (l ∷ []) (Id 2 ∷ []) refl (AreOf.more l (Id 2) [] [] refl AreOf.none));
 }
 
 one_used : IsUsedAt small twin 0 1 2 role.Label
-one_used = record { inst = conditional 9 2 2; there = refl; used = record { forms = v ∷ l ∷ l ∷ []; has = double_forms; form = l; operand = Id 2; form_at = refl; operand_at = refl; role = refl; id = refl } }
+one_used = record {
+  inst = conditional 9 2 2;
+  there = refl;
+  used = record {
+    forms = v ∷ l ∷ l ∷ [];
+    has = double_forms;
+    form = l;
+    operand = Id 2;
+    form_at = refl;
+    operand_at = refl;
+    role = refl;
+    id = refl;
+  };
+}
 
 two_used : IsUsedAt small twin 0 2 2 role.Label
-two_used = record { inst = conditional 9 2 2; there = refl; used = record { forms = v ∷ l ∷ l ∷ []; has = double_forms; form = l; operand = Id 2; form_at = refl; operand_at = refl; role = refl; id = refl } }
+two_used = record {
+  inst = conditional 9 2 2;
+  there = refl;
+  used = record {
+    forms = v ∷ l ∷ l ∷ [];
+    has = double_forms;
+    form = l;
+    operand = Id 2;
+    form_at = refl;
+    operand_at = refl;
+    role = refl;
+    id = refl;
+  };
+}
 
 pub same_labels : IsEvidence small twin F4 0 (Operand 2)
 same_labels = IsEvidence.same_labels 0 2 refl one_used two_used
@@ -197,4 +260,5 @@ pub sound_parents : (e : Evidence) → ¬ (IsEvidence small (paired 1) F3 4 e)
 sound_parents e h = (at_phi small (paired 1) F3 4 refl refl (suffices small (paired 1) F3 4 e h)).1 has_parents
 
 -- all of them
-pub ruleset examples = (no_label, not_itself, to_entry, missing, not_missing, untold, stranger, same_labels, not_first, sound_parents)
+pub ruleset examples =
+    (no_label, not_itself, to_entry, missing, not_missing, untold, stranger, same_labels, not_first, sound_parents)

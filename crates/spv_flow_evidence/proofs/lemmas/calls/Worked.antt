@@ -19,14 +19,22 @@ use Rattle.spv_flow_evidence.proofs.lemmas.calls.Walked.{sufficient}
 entry_place : (k : ℕ) (i : PlainInst) → slice_get looped k ≡ Some i → i.opcode ≡ opcode.ENTRY_POINT → i ≡ entry 1
 entry_place (suc zero) i h o = let e : function 1 ≡ i = cc in let b = rw (← e) at o in absurd (omega (arith, b))
 entry_place (suc (suc zero)) i h o = let e : label 2 ≡ i = cc in let b = rw (← e) at o in absurd (omega (arith, b))
-entry_place (suc (suc (suc zero))) i h o = let e : call 3 4 ≡ i = cc in let b = rw (← e) at o in absurd (omega (arith, b))
-entry_place (suc (suc (suc (suc zero)))) i h o = let e : return_op ≡ i = cc in let b = rw (← e) at o in absurd (omega (arith, b))
-entry_place (suc (suc (suc (suc (suc zero))))) i h o = let e : end ≡ i = cc in let b = rw (← e) at o in absurd (omega (arith, b))
-entry_place (suc (suc (suc (suc (suc (suc zero)))))) i h o = let e : function 4 ≡ i = cc in let b = rw (← e) at o in absurd (omega (arith, b))
-entry_place (suc (suc (suc (suc (suc (suc (suc zero))))))) i h o = let e : label 5 ≡ i = cc in let b = rw (← e) at o in absurd (omega (arith, b))
-entry_place (suc (suc (suc (suc (suc (suc (suc (suc zero)))))))) i h o = let e : call 6 4 ≡ i = cc in let b = rw (← e) at o in absurd (omega (arith, b))
-entry_place (suc (suc (suc (suc (suc (suc (suc (suc (suc zero))))))))) i h o = let e : return_op ≡ i = cc in let b = rw (← e) at o in absurd (omega (arith, b))
-entry_place (suc (suc (suc (suc (suc (suc (suc (suc (suc (suc zero)))))))))) i h o = let e : end ≡ i = cc in let b = rw (← e) at o in absurd (omega (arith, b))
+entry_place (suc (suc (suc zero))) i h o = let e : call 3 4 ≡ i = cc in let b = rw (← e) at o in
+    absurd (omega (arith, b))
+entry_place (suc (suc (suc (suc zero)))) i h o = let e : return_op ≡ i = cc in let b = rw (← e) at o in
+    absurd (omega (arith, b))
+entry_place (suc (suc (suc (suc (suc zero))))) i h o = let e : end ≡ i = cc in let b = rw (← e) at o in
+    absurd (omega (arith, b))
+entry_place (suc (suc (suc (suc (suc (suc zero)))))) i h o = let e : function 4 ≡ i = cc in let b = rw (← e) at o in
+    absurd (omega (arith, b))
+entry_place (suc (suc (suc (suc (suc (suc (suc zero))))))) i h o = let e : label 5 ≡ i = cc in let b = rw (← e) at o in
+    absurd (omega (arith, b))
+entry_place (suc (suc (suc (suc (suc (suc (suc (suc zero)))))))) i h o = let e : call 6 4 ≡ i = cc in
+    let b = rw (← e) at o in absurd (omega (arith, b))
+entry_place (suc (suc (suc (suc (suc (suc (suc (suc (suc zero))))))))) i h o = let e : return_op ≡ i = cc in
+    let b = rw (← e) at o in absurd (omega (arith, b))
+entry_place (suc (suc (suc (suc (suc (suc (suc (suc (suc (suc zero)))))))))) i h o = let e : end ≡ i = cc in
+    let b = rw (← e) at o in absurd (omega (arith, b))
 entry_place _ i h o = cc
 
 -- the second function is not its
@@ -40,7 +48,8 @@ not_entry h =
     let y : ◌≡◌ {A = ℕ} 4 h.id = cc in
     omega (arith, x, y)
 
-first_of_chain : (g f : ℕ) (functions : List ℕ) → IsCallChain looped g f functions → (rest : List ℕ) × (functions ≡ f ∷ rest)
+first_of_chain : (g f : ℕ) (functions : List ℕ) → IsCallChain looped g f functions
+    → (rest : List ℕ) × (functions ≡ f ∷ rest)
 first_of_chain g _ _ IsCallChain.alone = ([], refl)
 first_of_chain g _ _ (IsCallChain.next f h rest k c) = (rest, refl)
 
@@ -59,7 +68,14 @@ from_entry functions c = two_functions 6 c.entry functions c.chain (λ e. not_en
 
 pub inner : IsEvidence looped G1 8 (Cycle (1 ∷ 6 ∷ []) (6 ∷ []))
 inner = IsEvidence.on_cycle 8 6 6 (1 ∷ 6 ∷ []) (6 ∷ []) called_8
-    (record { holds = record { entry = 1; function = entry_0; chain = IsCallChain.next 1 6 (6 ∷ []) (record { place = 3; call = called_3 }) IsCallChain.alone }; least = from_entry })
+    (record {
+      holds = record {
+        entry = 1;
+        function = entry_0;
+        chain = IsCallChain.next 1 6 (6 ∷ []) (record { place = 3; call = called_3 }) IsCallChain.alone;
+      };
+      least = from_entry;
+    })
     (record { holds = IsCallChain.alone; least = λ other c. some_function 6 6 other c })
 
 -- what evidence of the call tells of its lists
@@ -74,7 +90,8 @@ record IsTold (n : ℕ) (e : Evidence) : Type 0 where
   pub told : e ≡ Cycle calls cycle
 
 told : (r : Rule) (n : ℕ) (e : Evidence) → IsEvidence looped r n e → IsTold n e
-told _ _ _ (IsEvidence.on_cycle n f g calls cycle k a b) = record { caller = f; callee = g; calls = calls; cycle = cycle; call = k; to = a; back = b; told = refl }
+told _ _ _ (IsEvidence.on_cycle n f g calls cycle k a b) =
+    record { caller = f; callee = g; calls = calls; cycle = cycle; call = k; to = a; back = b; told = refl }
 
 same_lists : (a b c d : List ℕ) → Cycle a b ≡ Cycle c d → (a ≡ c) × (b ≡ d)
 same_lists a b c d e = (cc, cc)

@@ -1,9 +1,11 @@
 -- What is asked for the operands of one instruction.
-use Rattle.std.proofs.Common.{◌≡◌, ◌<◌, ◌≤◌, ◌+◌, ◌++◌, ◌∙◌, ℕ, List, [], ◌∷◌, Option, Some, None, refl, sym, ap, subst, inl, inr, length, arith}
+use Rattle.std.proofs.Common.{◌≡◌, ◌<◌, ◌≤◌, ◌+◌, ◌++◌, ◌∙◌, ℕ, List, [], ◌∷◌, Option, Some, None, refl, sym, ap, subst}
+use Rattle.std.proofs.Common.{inl, inr, length, arith}
 use Rattle.std.specs.Prelude.{All, Contains, MatchOption, slice_get, slice_index_or}
 use Rattle.std.proofs.lemmas.Bool.{cases_lt}
 use Rattle.std.proofs.lemmas.Option.{slice_get_within, slice_get_read, get_or_from_slice_get}
-use Rattle.std.proofs.lemmas.List.Elements.{All-contains, All-contains_itself, Contains-append_left, Contains-push, Contains-push_cases}
+use Rattle.std.proofs.lemmas.List.Elements.{All-contains, All-contains_itself, Contains-append_left, Contains-push}
+use Rattle.std.proofs.lemmas.List.Elements.{Contains-push_cases}
 use Rattle.spv_table.specs.Table.{Table}
 use Rattle.spv_module.specs.Operand.{PlainInst}
 use Rattle.spv_layout.specs.declared.form.Role.TheVariants.{Value}
@@ -27,7 +29,8 @@ use Rattle.spv_flow.proofs.lemmas.walks.Walking.{one_block}
 use Rattle.spv_flow.proofs.lemmas.walks.Deciding.{walk_within, not_unavailable}
 use Rattle.spv_flow_evidence.specs.declared.walks.queries.Taking.{Taking}
 use Rattle.spv_flow_evidence.specs.declared.walks.queries.Taking.TheVariants.{Uses, Pairs}
-use Rattle.spv_flow_evidence.specs.walks.inner.Asked.{IsQueryOf, IsQueryFound, MissesValue, numbered, AreAsked, IsUnavailableQuery}
+use Rattle.spv_flow_evidence.specs.walks.inner.Asked.{IsQueryOf, IsQueryFound, MissesValue, numbered, AreAsked}
+use Rattle.spv_flow_evidence.specs.walks.inner.Asked.{IsUnavailableQuery}
 
 -- what there is of an operand, by how the instruction takes values
 
@@ -36,7 +39,8 @@ pub by_uses : (G : Table) (is : List PlainInst) (starts : List ℕ) (t : Taking)
     → IsQueryFound G is starts t b n k o
 by_uses G is starts t b n k o e h = subst (λ (s : Taking). IsQueryFound G is starts s b n k o) (sym e) h
 
-pub by_pairs : (G : Table) (is : List PlainInst) (starts : List ℕ) (t : Taking) (b n k : ℕ) (o : Option Query) → t ≡ Pairs
+pub by_pairs : (G : Table) (is : List PlainInst) (starts : List ℕ) (t : Taking) (b n k : ℕ) (o : Option Query)
+    → t ≡ Pairs
     → MatchOption o ((a : Query) → ¬ (IsPairQuery G is starts n k a)) (λ a. IsPairQuery G is starts n k a)
     → IsQueryFound G is starts t b n k o
 by_pairs G is starts t b n k o e h = subst (λ (s : Taking). IsQueryFound G is starts s b n k o) (sym e) h
@@ -98,7 +102,8 @@ asked_more G c b t block n end queries s is are h before =
             (subst (λ (j : ℕ). IsQueryOf G (insts_of c) b.starts.now t block n j a) e g) in
             let there : numbered s end ≡ numbered a k =
             ap (λ (x : Query). numbered x end) same ∙ ap (numbered a) (sym e) in
-            subst (λ (x : Query). Contains (queries ++ numbered s end ∷ []) x) there (Contains-push queries (numbered s end)))
+            subst (λ (x : Query). Contains (queries ++ numbered s end ∷ []) x) there
+            (Contains-push queries (numbered s end)))
       ];
     }
 
@@ -127,7 +132,8 @@ asked_all G is starts t b n end queries i there last all more = record {
 }
 
 -- the queries of a slice are those of its vector
-pub asked_in : (G : Table) (is : List PlainInst) (starts : List ℕ) (t : Taking) (b n end : ℕ) (queries given : List Query)
+pub asked_in : (G : Table) (is : List PlainInst) (starts : List ℕ) (t : Taking) (b n end : ℕ)
+    (queries given : List Query)
     → given ≡ queries → AreAsked G is starts t b n end queries → AreAsked G is starts t b n end given
 asked_in G is starts t b n end queries given e all =
     subst (λ (xs : List Query). AreAsked G is starts t b n end xs) (sym e) all
@@ -154,7 +160,8 @@ asked_blocks G is starts graph t b n end queries count inside all = λ k d lt. (
     (all.sound a (All-contains_itself queries k d lt)) in
     omega (arith, h, count))
 
-pub unavailable_block : (G : Table) (is : List PlainInst) (starts : List ℕ) (graph : Graph) (t : Taking) (b n : ℕ) (a : Query)
+pub unavailable_block : (G : Table) (is : List PlainInst) (starts : List ℕ) (graph : Graph) (t : Taking) (b n : ℕ)
+    (a : Query)
     → length starts ≡ block_count graph + 1
     → b + 1 < length starts → IsUnavailableQuery G is starts graph t b n a → a.block < block_count graph
 unavailable_block G is starts graph t b n a count inside m =
@@ -168,7 +175,8 @@ there_at queries a (k, lt, e) = (k, slice_get_read queries (length queries) k a 
 
 available : (G : Table) (is : List PlainInst) (starts : List ℕ) (graph : Graph) (t : Taking) (b n k : ℕ)
     (queries : List Query) (a : Query)
-    → AreAsked G is starts t b n (k + 1) queries → IsFirstUnavailable graph queries None → IsQueryOf G is starts t b n k a
+    → AreAsked G is starts t b n (k + 1) queries → IsFirstUnavailable graph queries None
+    → IsQueryOf G is starts t b n k a
     → IsAvailable graph a.value a.block
 available G is starts graph t b n k queries a all none h =
     let r = there_at queries (numbered a k) (all.complete k a (omega arith) h) in
@@ -215,18 +223,21 @@ pub some_unavailable : (G : Table) (c : Code) (f : ℕ) (starts : List ℕ) (gra
 some_unavailable G c f starts graph Uses b n queries is g i all m none =
     let e : m.function ≡ f = function_same (insts_of c) n m.function f
     (walk_within G (insts_of c) m.function m.past n m.walk) (g.divided.of b n i) in
-    not_unavailable G c f starts graph is g n (use_available G c f starts graph b n queries g i m.other all none) (inl (m, e))
+    not_unavailable G c f starts graph is g n (use_available G c f starts graph b n queries g i m.other all none)
+    (inl (m, e))
 some_unavailable G c f starts graph Pairs b n queries is g i all m none =
     let e : m.comes.function ≡ f = function_same (insts_of c) n m.comes.function f
     (walk_within G (insts_of c) m.comes.function m.comes.past n m.comes.walk) (g.divided.of b n i) in
-    not_unavailable G c f starts graph is g n (pair_available G c f starts graph b n queries g i m.phi all none) (inr (m, e))
+    not_unavailable G c f starts graph is g n (pair_available G c f starts graph b n queries g i m.phi all none)
+    (inr (m, e))
 
 -- The query of the first operand that is unavailable.
 
 found_at : (queries : List Query) (k : ℕ) (a : Query) → slice_get queries k ≡ Some a → Contains queries a
 found_at queries k a h = (k, slice_get_within queries k a h, get_or_from_slice_get queries k a a h)
 
-pub unavailable_step : (graph : Graph) (queries : List Query) (i : ℕ) → ((a : Query) → Contains queries a → a.step < 4294967295)
+pub unavailable_step : (graph : Graph) (queries : List Query) (i : ℕ)
+    → ((a : Query) → Contains queries a → a.step < 4294967295)
     → IsFirstUnavailable graph queries (Some i) → i < 4294967295
 unavailable_step graph queries i below (here, before) =
     let l = below here.1 (found_at queries here.0 here.1 here.2) in
@@ -250,7 +261,8 @@ operand_asked G is starts graph t b n end i queries all first none =
     let m = unavailable_asked G is starts graph t b n end i queries all first in
     none (numbered m.0 n) m.1
 
-pub query_unavailable : (G : Table) (c : Code) (b : Blocks) (graph : Graph) (t : Taking) (block n end i : ℕ) (queries : List Query)
+pub query_unavailable : (G : Table) (c : Code) (b : Blocks) (graph : Graph) (t : Taking) (block n end i : ℕ)
+    (queries : List Query)
     (s : Query) → IsCode G c → AreBlocks (insts_of c) b
     → AreAsked G (insts_of c) b.starts.now t block n end queries → IsFirstUnavailable graph queries (Some i)
     → IsQueryOf G (insts_of c) b.starts.now t block n i s
@@ -258,7 +270,8 @@ pub query_unavailable : (G : Table) (c : Code) (b : Blocks) (graph : Graph) (t :
 query_unavailable G c b graph t block n end i queries s is are all first h =
     let m = unavailable_asked G (insts_of c) b.starts.now graph t block n end i queries all first in
     let e : numbered m.0 n ≡ s = one_query G c b t block n i (numbered m.0 n) s is are m.1 h in
-    let unavailable : IsUnavailable graph s.value s.block = subst (λ (a : Query). IsUnavailable graph a.value a.block) e m.2 in
+    let unavailable : IsUnavailable graph s.value s.block = subst
+    (λ (a : Query). IsUnavailable graph a.value a.block) e m.2 in
     record {
       asked = subst (λ (x : Query). IsQueryOf G (insts_of c) b.starts.now t block n i x)
           (as_asked s n (step_of G (insts_of c) b.starts.now t block n i s h)) h;

@@ -93,7 +93,8 @@ no_end _ b h = cc
 
 of_function : (n : ℕ) → n ≤ 4 → IsOfFunction selfish n 0
 unfolding rows
-of_function n lt = of_first selfish n (omega (arith, lt)) refl (λ k a b. no_function k a (omega (arith, b, lt))) (λ k b. no_end k (omega (arith, b, lt)))
+of_function n lt = of_first selfish n (omega (arith, lt)) refl (λ k a b. no_function k a (omega (arith, b, lt)))
+    (λ k b. no_end k (omega (arith, b, lt)))
 
 -- the walk to the OpPhi
 
@@ -159,7 +160,8 @@ local_9 = record {
 
 undefined : ¬ (IsResultAmong selfish (2 ∷ 1 ∷ 0 ∷ []) 9)
 undefined (zero, n, lt, e, d) = let f : n ≡ 2 = cc in no_result selfish 2 n 9 (branch 2) f refl (λ r. cc) d
-undefined (suc zero, n, lt, e, d) = let f : n ≡ 1 = cc in no_result selfish 1 n 9 (label 1) f refl (λ r. absurd (omega (arith, same_Some 1 9 r))) d
+undefined (suc zero, n, lt, e, d) = let f : n ≡ 1 = cc in
+    no_result selfish 1 n 9 (label 1) f refl (λ r. absurd (omega (arith, same_Some 1 9 r))) d
 undefined (suc (suc zero), n, lt, e, d) = let f : n ≡ 0 = cc in no_result selfish 0 n 9 function f refl (λ r. cc) d
 undefined (suc (suc (suc k)), n, lt, e, d) = absurd (omega (arith, lt))
 

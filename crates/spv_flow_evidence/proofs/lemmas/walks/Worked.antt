@@ -23,7 +23,8 @@ use Rattle.spv_flow_evidence.specs.walks.Evidence.{is_label_at, blocks_of, IsEvi
 use Rattle.spv_flow_evidence.proofs.lemmas.Small.{no_result, of_first}
 
 undefined : ¬ (IsResultAmong early (1 ∷ 0 ∷ []) 7)
-undefined (zero, n, lt, e, d) = let f : n ≡ 1 = cc in no_result early 1 n 7 (label 1) f refl (λ r. absurd (omega (arith, same_Some 1 7 r))) d
+undefined (zero, n, lt, e, d) = let f : n ≡ 1 = cc in
+    no_result early 1 n 7 (label 1) f refl (λ r. absurd (omega (arith, same_Some 1 7 r))) d
 undefined (suc zero, n, lt, e, d) = let f : n ≡ 0 = cc in no_result early 0 n 7 function f refl (λ r. cc) d
 undefined (suc (suc k), n, lt, e, d) = absurd (omega (arith, lt))
 
@@ -42,7 +43,8 @@ no_end _ b h = cc
 
 of_function : (n : ℕ) → n ≤ 3 → IsOfFunction early n 0
 unfolding rows
-of_function n lt = of_first early n (omega (arith, lt)) refl (λ k a b. no_function k a (omega (arith, b, lt))) (λ k b. no_end k (omega (arith, b, lt)))
+of_function n lt = of_first early n (omega (arith, lt)) refl (λ k a b. no_function k a (omega (arith, b, lt)))
+    (λ k b. no_end k (omega (arith, b, lt)))
 
 walked : IsWalk small early 0 (1 ∷ 0 ∷ []) 2
 walked =

@@ -19,7 +19,8 @@ way_past-requires-clause-block c =
     let b = c.args.blocks.now in
     let k = c.requires.code in
     let g = graph_of k.0 code b c.build.new.graph k.1 c.requires.blocks c.in_ok-build.ensures in
-    unavailable_block k.0 (insts_of code) b.starts.now c.build.new.graph c.args.taking c.block_of-block.result c.args.inst
+    unavailable_block k.0 (insts_of code) b.starts.now c.build.new.graph c.args.taking c.block_of-block.result
+    c.args.inst
     c.in_ok-query.query g.count
     c.block_of-block.ensures.block (c.in_ok-query.ensures k.0 k.1)
 

@@ -2,7 +2,8 @@ use Rattle.std.proofs.Common.{ℕ, Some, None}
 use Rattle.spv_graphs.specs.First.{IsFirstUnavailable}
 use Rattle.spv_flow.specs.walks.inner.Code.{insts_of}
 use Rattle.spv_flow.proofs.lemmas.walks.Deciding.{graph_of, is_graph}
-use Rattle.spv_flow_evidence.proofs.lemmas.walks.Asked.{asked_in, steps_in, asked_blocks, some_unavailable, unavailable_step, operand_asked, query_unavailable}
+use Rattle.spv_flow_evidence.proofs.lemmas.walks.Asked.{asked_in, steps_in, asked_blocks, some_unavailable}
+use Rattle.spv_flow_evidence.proofs.lemmas.walks.Asked.{unavailable_step, operand_asked, query_unavailable}
 use Rattle.spv_flow_evidence.proofs.walks.unavailable_query.Goals as goal
 
 pub least_unavailable-requires-clause-graph : goal.least_unavailable-requires-clause-graph
@@ -79,6 +80,8 @@ returns c = λ G is.
     let i = c.in-Some.operand in
     let first : IsFirstUnavailable c.args.graph.now xs (Some i) = rw c.in-Some.is at c.in_ok-operand.ensures in
     let asked = c.in_ok-queries.ensures.asked G 0 is in
-    let all = asked_in G (insts_of code) starts t b n 0 c.in_ok-queries.queries.items xs c.as_slice.ensures.value asked in
+    let all = asked_in G (insts_of code) starts t b n 0 c.in_ok-queries.queries.items xs c.as_slice.ensures.value asked
+    in
     let here = c.in-Some-query_at.ensures G is in
-    query_unavailable G code blocks c.args.graph.now t b n 0 i xs c.in-Some-query_at.query is c.requires.blocks all first here
+    query_unavailable G code blocks c.args.graph.now t b n 0 i xs c.in-Some-query_at.query is c.requires.blocks all
+    first here

@@ -8,7 +8,8 @@ use Rattle.spv_layout.specs.Layout.{BeginsLayout, classes}
 use Rattle.spv_layout.proofs.Misfits.{inst_there}
 use Rattle.spv_form_evidence.specs.layout.Evidence.{IsEvidence}
 use Rattle.spv_form_evidence.specs.layout.inner.Told.{IsMayCome}
-use Rattle.spv_form_evidence.proofs.lemmas.layout.Telling.{before_of, begun_at, dead_at, dead_within, misfit_within, placed, shaped}
+use Rattle.spv_form_evidence.proofs.lemmas.layout.Telling.{before_of, begun_at, dead_at, dead_within, misfit_within}
+use Rattle.spv_form_evidence.proofs.lemmas.layout.Telling.{placed, shaped}
 use Rattle.spv_form_evidence.proofs.layout.layout_evidence.Goals as goal
 
 pub bounds-insts-at : goal.bounds-insts-at

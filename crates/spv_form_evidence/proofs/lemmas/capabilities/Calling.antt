@@ -95,7 +95,8 @@ not_linked P Q h b = (
 pub decided : (P : Type 0) (a b : ℕ) → ¬ (a ≡ b → P) → a ≡ b
 decided P a b h = elim (cases_eq a b) [ inl e ↦ e | inr d ↦ absurd (h (λ e. absurd (d e))) ]
 
-pub not_mode : (G : Table) (is : List PlainInst) (n : ℕ) (i : PlainInst) → i.opcode ≡ opcode.EXECUTION_MODE → ¬ (KeepsEntries G is n i)
+pub not_mode : (G : Table) (is : List PlainInst) (n : ℕ) (i : PlainInst) → i.opcode ≡ opcode.EXECUTION_MODE
+    → ¬ (KeepsEntries G is n i)
     → ¬ (IsSoundMode is i.operands)
 not_mode G is n i o h s = h (record {
   entry = λ e. absurd (omega (arith, o, e));
@@ -103,7 +104,8 @@ not_mode G is n i o h s = h (record {
   linkage = λ e. absurd (omega (arith, o, e));
 })
 
-pub not_linkage : (G : Table) (is : List PlainInst) (n : ℕ) (i : PlainInst) → i.opcode ≢ opcode.ENTRY_POINT → i.opcode ≢ opcode.EXECUTION_MODE
+pub not_linkage : (G : Table) (is : List PlainInst) (n : ℕ) (i : PlainInst) → i.opcode ≢ opcode.ENTRY_POINT
+    → i.opcode ≢ opcode.EXECUTION_MODE
     → ¬ (KeepsEntries G is n i) → (i.opcode ≡ opcode.FUNCTION) × (¬ (IsSoundLinkage G is n))
 not_linkage G is n i a b h = (
   decided (IsSoundLinkage G is n) i.opcode opcode.FUNCTION

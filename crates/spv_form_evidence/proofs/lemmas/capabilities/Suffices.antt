@@ -1,5 +1,6 @@
 -- Where there is evidence, the rule is broken.
-use Rattle.std.proofs.Common.{◌≡◌, ◌≢◌, ◌∙◌, ℕ, zero, suc, List, [], ◌∷◌, Contains, Option, Some, None, Bool, true, false, refl, sym, subst, inl, inr, nat_eq, arith}
+use Rattle.std.proofs.Common.{◌≡◌, ◌≢◌, ◌∙◌, ℕ, zero, suc, List, [], ◌∷◌, Contains, Option, Some, None, Bool, true}
+use Rattle.std.proofs.Common.{false, refl, sym, subst, inl, inr, nat_eq, arith}
 use Rattle.std.specs.Prelude.{slice_get, if◌then◌else◌}
 use Rattle.std.specs.List.{AllByRecursion}
 use Rattle.std.proofs.lemmas.Bool.{eqb-true}
@@ -104,7 +105,8 @@ opened true o x e = (refl, e)
 opened false o x e = absurd (let no : None ≡ Some x = e in cc)
 
 pub entered_opcode : (i : PlainInst) (x : ℕ) → entered_by i ≡ Some x → i.opcode ≡ opcode.ENTRY_POINT
-entered_opcode i x e = eqb-true i.opcode opcode.ENTRY_POINT (opened (nat_eq i.opcode opcode.ENTRY_POINT) (second_id i.operands) x e).0
+entered_opcode i x e =
+    eqb-true i.opcode opcode.ENTRY_POINT (opened (nat_eq i.opcode opcode.ENTRY_POINT) (second_id i.operands) x e).0
 
 pub entered_second : (i : PlainInst) (x : ℕ) → entered_by i ≡ Some x → second_id i.operands ≡ Some x
 entered_second i x e = (opened (nat_eq i.opcode opcode.ENTRY_POINT) (second_id i.operands) x e).1
@@ -128,7 +130,14 @@ call_breaks is i call x c e t n s =
     let q : Some x ≡ Some k.id = sym (entered_second i x e) ∙ k.named in
     let y : x ≡ k.id = cc in
     let named = subst (λ (z : ℕ). called_by call ≡ Some z) y n in
-    k.function.uncalled (record { place = c; inst = call; there = t; id = k.id; named = named; defined = k.function.defined })
+    k.function.uncalled (record {
+      place = c;
+      inst = call;
+      there = t;
+      id = k.id;
+      named = named;
+      defined = k.function.defined;
+    })
 
 unsound_breaks : (G : Table) (is : List PlainInst) (n : ℕ) (i : PlainInst) (p : EntryPart) → IsUnsound G is n i p
     → ¬ (KeepsEntries G is n i)

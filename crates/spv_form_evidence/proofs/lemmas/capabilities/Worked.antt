@@ -1,5 +1,6 @@
 -- What is evidence, and what is not, in the small modules of the worked examples.
-use Rattle.std.proofs.Common.{◌≡◌, ◌≢◌, ◌∙◌, ℕ, List, Option, Some, None, true, false, refl, sym, ap, subst, inl, inr, option_and_then, arith}
+use Rattle.std.proofs.Common.{◌≡◌, ◌≢◌, ◌∙◌, ℕ, List, Option, Some, None, true, false, refl, sym, ap, subst, inl, inr}
+use Rattle.std.proofs.Common.{option_and_then, arith}
 use Rattle.std.specs.Prelude.{slice_get}
 use Rattle.spv_table.specs.Table.{Table}
 use Rattle.spv_module.specs.Operand.{Plain, Value, Mask, PlainInst}

@@ -27,7 +27,8 @@ of_inst sets i h = by (nat_eq i.opcode EXT_INST) h
     by false e = absurd cc
 
 pub called : (is : List PlainInst) (n : ℕ) → IsMiscalled is n → Misses (call_at is n)
-called is n m = subst (λ o. Misses (option_and_then (call_of (set_in is)) o)) (sym m.there) (of_inst (set_in is) m.inst m.missed)
+called is n m = subst (λ o. Misses (option_and_then (call_of (set_in is)) o)) (sym m.there)
+    (of_inst (set_in is) m.inst m.missed)
 
 from_operands : (sets : ℕ → Set) (os : List Plain) → Misses (call_in sets os) → is_miscall sets os ≡ true
 from_operands sets (OfType t ∷ Result x ∷ Id set ∷ Word number ∷ os) h = h
@@ -43,7 +44,8 @@ from_inst sets i h = by (nat_eq i.opcode EXT_INST) h
 pub miscalled : (is : List PlainInst) (n : ℕ) → Misses (call_at is n) → IsMiscalled is n
 miscalled is n h = by (slice_get is n) refl h
   where
-    by : (o : Option PlainInst) → slice_get is n ≡ o → Misses (option_and_then (call_of (set_in is)) o) → IsMiscalled is n
+    by : (o : Option PlainInst) → slice_get is n ≡ o → Misses (option_and_then (call_of (set_in is)) o)
+        → IsMiscalled is n
     by None e m = absurd m
     by (Some i) e m = record { inst = i; there = e; missed = from_inst (set_in is) i m }
 

@@ -28,7 +28,8 @@ outside Any l c h = elim (cases_lt c l) [
 outside Unknown l c h = IsOutside.no_inst
 
 fewer_misfit : (m : More) (l c : ℕ) → c < l → misfits m l c ≡ true
-fewer_misfit m l c h = (let e : nat_le l c ≡ false = grind (arith, nat_tests) in ap (λ b. not (b && takes_more m (c - l))) e)
+fewer_misfit m l c h =
+    (let e : nat_le l c ≡ false = grind (arith, nat_tests) in ap (λ b. not (b && takes_more m (c - l))) e)
 
 pub misfit : (m : More) (l c : ℕ) → IsOutside c (least_with m l) (most_with m l) → misfits m l c ≡ true
 misfit Nothing l c (IsOutside.fewer _ _ h) = fewer_misfit Nothing l c h

@@ -22,9 +22,12 @@ miscall is _ _ _ (IsEvidence.miscalled n number count at out) =
     miscalled is n (subst Misses (sym at) (misfit s.more s.least count out))
 
 pub suffices : (is : List PlainInst) (r : Rule) (n : ℕ) (e : Evidence) → IsEvidence is r n e → Broken Extended is r n
-suffices is _ _ _ (IsEvidence.miscalled n number count at out) = Broken.miscalled n refl (miscall is _ _ _ (IsEvidence.miscalled n number count at out))
+suffices is _ _ _ (IsEvidence.miscalled n number count at out) =
+    Broken.miscalled n refl (miscall is _ _ _ (IsEvidence.miscalled n number count at out))
 
-same_call : (a b c d : ℕ) → (let one : Call = record { set = OpenClStd; number = a; operands = b } in Some one) ≡ Some (record { set = OpenClStd; number = c; operands = d }) → (a ≡ c) × (b ≡ d)
+same_call : (a b c d : ℕ)
+    → (let one : Call = record { set = OpenClStd; number = a; operands = b } in Some one) ≡ Some
+    (record { set = OpenClStd; number = c; operands = d }) → (a ≡ c) × (b ≡ d)
 same_call a b c d h =
     let one : Call = record { set = OpenClStd; number = a; operands = b } in
     let other : Call = record { set = OpenClStd; number = c; operands = d } in
@@ -44,4 +47,5 @@ found is n c m e =
     let at : call_at is n ≡ Some (record { set = OpenClStd; number = c.number; operands = c.operands })
     = sym e ∙ ap (λ set. let d : Call = record { set = set; number = c.number; operands = c.operands } in Some d) s in
     let signature = signature_of OpenClStd c.number in
-    IsEvidence.miscalled n c.number c.operands at (outside signature.more signature.least c.operands (subst (λ set. misses set c.number c.operands ≡ true) s h))
+    IsEvidence.miscalled n c.number c.operands at
+    (outside signature.more signature.least c.operands (subst (λ set. misses set c.number c.operands ≡ true) s h))

@@ -49,7 +49,8 @@ end_by : (b c : Bool) → not b || c ≡ true → b ≡ true → c ≡ true
 end_by true c h g = h
 end_by false c h g = cc
 
-end_operands : (G : Table) (i : PlainInst) (fs : List Form) (h : HasForms G i fs) → is_among h.row.class (FunctionEnd ∷ []) ≡ true → i.operands ≡ []
+end_operands : (G : Table) (i : PlainInst) (fs : List Form) (h : HasForms G i fs)
+    → is_among h.row.class (FunctionEnd ∷ []) ≡ true → i.operands ≡ []
 unfolding ends_at
 end_operands G i fs h c =
     let t = one_passes ends_at rows i.opcode h.row rows_end h.known in
@@ -60,10 +61,12 @@ end_operands G i fs h c =
     let n : h.row.fixed ++ h.rest ≡ [] = rw (a, b) refl in
     none_of G fs i.operands h.each (h.forms ∙ n)
 
-class_at : (is : List PlainInst) (n : ℕ) (i : PlainInst) → slice_get is n ≡ Some i → slice_get (classes is) n ≡ Some (class_of i.opcode)
+class_at : (is : List PlainInst) (n : ℕ) (i : PlainInst) → slice_get is n ≡ Some i
+    → slice_get (classes is) n ≡ Some (class_of i.opcode)
 class_at is n i h = slice_get-map (λ j. class_of j.opcode) is n ∙ ap (option_map (λ j. class_of j.opcode)) h
 
-pub no_result_at_end : (G : Table) (is : List PlainInst) (n x : ℕ) (d : IsDefinedAt is x n) → FitsShape G d.inst → ¬ (IsAt is n (FunctionEnd ∷ []))
+pub no_result_at_end : (G : Table) (is : List PlainInst) (n x : ℕ) (d : IsDefinedAt is x n) → FitsShape G d.inst
+    → ¬ (IsAt is n (FunctionEnd ∷ []))
 no_result_at_end G is n x d f a =
     let i = d.inst in
     let c = rw (class_at is n i d.there) at a in

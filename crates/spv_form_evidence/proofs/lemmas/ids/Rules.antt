@@ -25,17 +25,20 @@ within G bound is _ _ (Broken.not_in_order n k x r u o h) = slice_get_within is 
 within G bound is _ _ (Broken.not_in_scope n k x r u s l h) = slice_get_within is n u.inst u.there
 
 -- the instruction at which it is broken
-pub broken_there : (G : Table) (bound : ℕ) (insts : List Inst) (r : Rule) (n : ℕ) (i : Inst) → Broken G bound (map plain_inst insts) r n → i ≡ get_or insts n i
+pub broken_there : (G : Table) (bound : ℕ) (insts : List Inst) (r : Rule) (n : ℕ) (i : Inst)
+    → Broken G bound (map plain_inst insts) r n → i ≡ get_or insts n i
     → slice_get (map plain_inst insts) n ≡ Some (plain_inst i)
 broken_there G bound insts r n i b e =
     let w = within G bound (map plain_inst insts) r n b in
     let l = length-map insts plain_inst in
     inst_there insts n i (omega arith) e
 
-pub defined_here : (is : List PlainInst) (n x : ℕ) (i : PlainInst) → slice_get is n ≡ Some i → result_in i.operands ≡ Some x → IsDefinedAt is x n
+pub defined_here : (is : List PlainInst) (n x : ℕ) (i : PlainInst) → slice_get is n ≡ Some i
+    → result_in i.operands ≡ Some x → IsDefinedAt is x n
 defined_here is n x i h g = record { inst = i; there = h; result = g }
 
-pub result_here : (is : List PlainInst) (n x : ℕ) (i : PlainInst) → slice_get is n ≡ Some i → IsDefinedAt is x n → result_in i.operands ≡ Some x
+pub result_here : (is : List PlainInst) (n x : ℕ) (i : PlainInst) → slice_get is n ≡ Some i → IsDefinedAt is x n
+    → result_in i.operands ≡ Some x
 result_here is n x i h d =
     let e : d.inst ≡ i = same_inst is n d.inst i d.there h in
     rw e at d.result
@@ -46,7 +49,8 @@ pub record HasEarlier (is : List PlainInst) (n x : ℕ) : Type 0 where
   pub below : inst < n
   pub there : IsDefinedAt is x inst
 
-pub again : (G : Table) (bound : ℕ) (is : List PlainInst) (r : Rule) (n x : ℕ) (i : PlainInst) → r ≡ D2 → slice_get is n ≡ Some i → result_in i.operands ≡ Some x → Broken G bound is r n → HasEarlier is n x
+pub again : (G : Table) (bound : ℕ) (is : List PlainInst) (r : Rule) (n x : ℕ) (i : PlainInst) → r ≡ D2
+    → slice_get is n ≡ Some i → result_in i.operands ≡ Some x → Broken G bound is r n → HasEarlier is n x
 again G bound is _ _ x i q t g (Broken.defined_again n m y d l e) =
     let h = result_here is n y i t d in
     let s : y ≡ x = (let p : Some y ≡ Some x = sym h ∙ g in cc) in

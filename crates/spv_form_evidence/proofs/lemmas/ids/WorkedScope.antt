@@ -98,7 +98,13 @@ outside_at (suc (suc (suc (suc (suc (suc (suc m))))))) d = let e = d.there in cc
 
 is_local : IsLocalTo used_outside 5 0
 unfolding rows
-is_local = record { place = 2; defined = value_outside; of = within used_outside Function (FunctionEnd ∷ []) 2 (In 0) outside_2; after = omega arith; before = λ a. cc }
+is_local = record {
+  place = 2;
+  defined = value_outside;
+  of = within used_outside Function (FunctionEnd ∷ []) 2 (In 0) outside_2;
+  after = omega arith;
+  before = λ a. cc;
+}
 
 -- The use.
 
@@ -119,7 +125,8 @@ definition = record { label = 5; there = refl; of = within used_outside Function
 
 section : IsOfSection used_outside 6 13
 unfolding rows
-section = let l : IsLast used_outside Function 6 4 = of_outside.begun in IsOfSection.definition Body 4 refl refl l definition
+section = let l : IsLast used_outside Function 6 4 = of_outside.begun in
+    IsOfSection.definition Body 4 refl refl l definition
 
 copy_forms : HasForms small (copy 6) (T ∷ R ∷ v ∷ [])
 unfolding rows
@@ -129,16 +136,27 @@ copy_forms = record {
   known = refl;
   forms = refl;
   ending = Ends.nothing;
-  each = AreOf.more T (OfType 1) (R ∷ v ∷ []) (Result 6 ∷ Id 5 ∷ []) refl (AreOf.more R (Result 6) (v ∷ []) (Id 5 ∷ []) refl (AreOf.more v (Id 5) [] [] refl AreOf.none));
+  each = AreOf.more T (OfType 1) (R ∷ v ∷ []) (Result 6 ∷ Id 5 ∷ []) refl
+      (AreOf.more R (Result 6) (v ∷ []) (Id 5 ∷ []) refl (AreOf.more v (Id 5) [] [] refl AreOf.none));
 }
 
 value_used : IsUse small (copy 6) 2 5 role.Value
-value_used = record { forms = T ∷ R ∷ v ∷ []; has = copy_forms; form = v; operand = Id 5; form_at = refl; operand_at = refl; role = refl; id = refl }
+value_used = record {
+  forms = T ∷ R ∷ v ∷ [];
+  has = copy_forms;
+  form = v;
+  operand = Id 5;
+  form_at = refl;
+  operand_at = refl;
+  role = refl;
+  id = refl;
+}
 
 pub outside : IsEvidence small 9 used_outside D5 6 (Local 2 2 0)
 unfolding is_local
 outside =
-    IsEvidence.not_in_scope 6 2 5 2 0 role.Value (record { inst = copy 6; there = refl; used = value_used }) (inr (inr section)) (record { local = is_local; by = refl })
+    IsEvidence.not_in_scope 6 2 5 2 0 role.Value (record { inst = copy 6; there = refl; used = value_used })
+    (inr (inr section)) (record { local = is_local; by = refl })
     not_in_scope
 
 other_function_by : (r : Rule) (n : ℕ) (e : Evidence) → IsEvidence small 9 used_outside r n e → e ≡ Local 2 2 4 → ⊥

@@ -108,7 +108,8 @@ to_come before s l = record {
   each = λ opcode. (
     λ h. follows before s opcode l (All-contains (λ n. may_follow s n ≡ true) (followers s OPCODES) opcode
         (filter_passes (may_follow s) (range_with_len 0 OPCODES)) h),
-    λ m. let r = range_has OPCODES opcode (row_below opcode m.row) in kept_at (may_follow s) (range_with_len 0 OPCODES) r.0
+    λ m. let r = range_has OPCODES opcode (row_below opcode m.row) in
+        kept_at (may_follow s) (range_with_len 0 OPCODES) r.0
         opcode r.1 r.2 (followed before s opcode l m),
   );
   whole = ends_there (classes before) s l;

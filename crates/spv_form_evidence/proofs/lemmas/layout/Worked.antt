@@ -40,7 +40,8 @@ shape_of G is _ _ o _ known (IsEvidence.unfinished os a) e = absurd cc
 
 pub misfit_of : (G : Table) (is : List PlainInst) (r : Rule) (n : ℕ) (e : Evidence) (i : PlainInst)
     → IsEvidence G is r n e → r ≡ P1 → slice_get is n ≡ Some i → ¬ (FitsShape G i)
-misfit_of G is _ _ _ i (IsEvidence.misfit j n k h g f) e there = let a : j ≡ i = cc in subst (λ x. ¬ (FitsShape G x)) a f
+misfit_of G is _ _ _ i (IsEvidence.misfit j n k h g f) e there = let a : j ≡ i = cc in
+    subst (λ x. ¬ (FitsShape G x)) a f
 misfit_of G is _ _ _ i (IsEvidence.misplaced j n os end h a none) e there = absurd cc
 misfit_of G is _ _ _ i (IsEvidence.unfinished os a) e there = absurd cc
 
@@ -105,11 +106,14 @@ line_follows = follows unended at.Block opcode.NO_LINE unended_leads refl
 
 pub no_return_follows : ¬ (MayFollow unended opcode.RETURN)
 unfolding rows
-no_return_follows m = let e : may_follow at.Block opcode.RETURN ≡ true = followed unended at.Block opcode.RETURN unended_leads m in absurd
+no_return_follows m =
+    let e : may_follow at.Block opcode.RETURN ≡ true = followed unended at.Block opcode.RETURN unended_leads m in absurd
     cc
 
 pub unended_not_three : ¬ (AreToCome unended (opcode.LINE ∷ opcode.FUNCTION_END ∷ opcode.LABEL ∷ []) false)
-unended_not_three a = let e : has (opcode.LINE ∷ opcode.FUNCTION_END ∷ opcode.LABEL ∷ []) opcode.NO_LINE ≡ true = is_there (opcode.LINE ∷ opcode.FUNCTION_END ∷ opcode.LABEL ∷ []) opcode.NO_LINE
+unended_not_three a =
+    let e : has (opcode.LINE ∷ opcode.FUNCTION_END ∷ opcode.LABEL ∷ []) opcode.NO_LINE ≡ true = is_there
+    (opcode.LINE ∷ opcode.FUNCTION_END ∷ opcode.LABEL ∷ []) opcode.NO_LINE
     ((a.each opcode.NO_LINE).1 line_follows) in absurd cc
 
 pub unended_no_end : ¬ (AreToCome unended after_block true)
@@ -139,7 +143,8 @@ branch_follows = follows (take 4 merged) at.LoopMerge opcode.BRANCH_CONDITIONAL 
 pub merged_not_one : ¬ (IsEvidence small merged L1 4 (MayCome (opcode.BRANCH ∷ []) false))
 merged_not_one e =
     let a = to_come_of small merged L1 4 (MayCome (opcode.BRANCH ∷ []) false) (opcode.BRANCH ∷ []) false e refl in
-    let h : has (opcode.BRANCH ∷ []) opcode.BRANCH_CONDITIONAL ≡ true = is_there (opcode.BRANCH ∷ []) opcode.BRANCH_CONDITIONAL ((a.each opcode.BRANCH_CONDITIONAL).1 branch_follows) in
+    let h : has (opcode.BRANCH ∷ []) opcode.BRANCH_CONDITIONAL ≡ true = is_there
+    (opcode.BRANCH ∷ []) opcode.BRANCH_CONDITIONAL ((a.each opcode.BRANCH_CONDITIONAL).1 branch_follows) in
     absurd cc
 
 pub unended_shows : IsEvidence small unended L2 4 (MayCome after_block false)
@@ -162,7 +167,8 @@ pub word_shows : IsEvidence small (load_of_word ∷ []) P1 0 (Shape opcode.LOAD 
 word_shows = IsEvidence.misfit load_of_word 0 true refl (λ h. load_row, λ r. refl) word_fits_not
 
 pub word_known : ¬ (IsEvidence small (load_of_word ∷ []) P1 0 (Shape opcode.LOAD false))
-word_known e = let k : IsTrue false = (shape_of small (load_of_word ∷ []) P1 0 opcode.LOAD (Shape opcode.LOAD false) false e refl).1
+word_known e = let k : IsTrue false = (shape_of small (load_of_word ∷ []) P1 0 opcode.LOAD
+    (Shape opcode.LOAD false) false e refl).1
     load_row in absurd cc
 
 pub matrix_shows : IsEvidence small (matrix ∷ []) P1 0 (Shape 24 false)

@@ -17,10 +17,12 @@ shows_dead G before _ _ _ _ (Shows.no_count opcode us h) = IsMalformed.no_count 
 shows_dead G before _ _ _ _ (Shows.past_end count opcode us h l) = IsMalformed.past_end count opcode us h l
 shows_dead G before _ _ _ _ (Shows.no_entry opcode us vs h e) = IsMalformed.no_entry opcode us vs h e
 shows_dead G before _ _ _ _ (Shows.left_over opcode us vs entry os front x left h e r) =
-    IsMalformed.misfit opcode us vs entry _ (length front) h e (left_misfit G (start before opcode) (pattern_of entry) us
+    IsMalformed.misfit opcode us vs entry _ (length front) h e
+    (left_misfit G (start before opcode) (pattern_of entry) us
     os front x left r)
 shows_dead G before _ _ _ _ (Shows.refused opcode us vs entry os front s ds left code n h e r f) =
-    IsMalformed.misfit opcode us vs entry code (length front + n) h e (refused_misfit G (start before opcode) (pattern_of
+    IsMalformed.misfit opcode us vs entry code (length front + n) h e
+    (refused_misfit G (start before opcode) (pattern_of
     entry) us os front s ds left code n r f)
 
 -- a list of instructions, and what is dead after it

@@ -36,7 +36,8 @@ first words r n e s = record {
 }
 
 -- the three operands of an OpLoad, and then the mask 4
-load_reached : Reaches small (start [] opcode.LOAD) (pattern_of load_entry) (2 ∷ 9 ∷ 8 ∷ 4 ∷ []) (OfType 2 ∷ Result 9 ∷ Id 8 ∷
+load_reached : Reaches small (start [] opcode.LOAD) (pattern_of load_entry) (2 ∷ 9 ∷ 8 ∷ 4 ∷ [])
+    (OfType 2 ∷ Result 9 ∷ Id 8 ∷
     []) (2 ∷ 9 ∷ 8 ∷ []) (OneOf (alone 3) ∷ []) (4 ∷ [])
 unfolding shape_of
 load_reached =
@@ -53,7 +54,8 @@ pub mask_shown : IsEvidence small masked I7 0 4 (Due opcode.LOAD 3 (Some 3))
 unfolding shape_of mask_parameters
 mask_shown =
     first masked I7 4 (Due opcode.LOAD 3 (Some 3))
-    (Shows.refused opcode.LOAD (2 ∷ 9 ∷ 8 ∷ 4 ∷ []) [] load_entry (OfType 2 ∷ Result 9 ∷ Id 8 ∷ []) (2 ∷ 9 ∷ 8 ∷ []) (alone 3)
+    (Shows.refused opcode.LOAD (2 ∷ 9 ∷ 8 ∷ 4 ∷ []) [] load_entry (OfType 2 ∷ Result 9 ∷ Id 8 ∷ []) (2 ∷ 9 ∷ 8 ∷ [])
+    (alone 3)
     [] (4 ∷ []) I7 0 (omega arith) refl load_reached
     (ShapeRefuses.unknown_bit access 4 [] refl))
 

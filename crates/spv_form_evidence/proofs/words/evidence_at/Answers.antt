@@ -1,6 +1,7 @@
 use Rattle.std.proofs.Common.{◌<◌, ◌/◌, ◌%◌, arith}
 use Rattle.spv_inst.proofs.Instructions.{front_of}
-use Rattle.spv_form_evidence.proofs.lemmas.words.Dying.{shown_uncounted, shown_past, shown_unknown, shown_failed, not_matched}
+use Rattle.spv_form_evidence.proofs.lemmas.words.Dying.{shown_uncounted, shown_past, shown_unknown, shown_failed}
+use Rattle.spv_form_evidence.proofs.lemmas.words.Dying.{not_matched}
 use Rattle.spv_form_evidence.proofs.words.evidence_at.Goals as goal
 
 pub returns-then-count-eq0 : goal.returns-then-count-eq0

@@ -10,5 +10,7 @@ returns-then-last-eq-DECLARATIONS c = λ is bound firsts p n a.
     let k = c.if-before-eq0.false in
     let h : c.count_before_functions-before.result - 1 < length is = omega (arith, n) in
     let o = p.place (c.count_before_functions-before.result - 1) c.in-Some.last (sym c.at.ensures ∙ c.in-Some.is) in
-    global_before bound is c.args.end c.count_before_functions-before.result firsts a (omega (arith, n)) (omega (arith, n))
-    (λ j f l. none_up_to is (c.count_before_functions-before.result - 1) c.in-Some.last.section j f h o.section c.if-last-eq-DECLARATIONS.true (omega (arith, l)))
+    global_before bound is c.args.end c.count_before_functions-before.result firsts a (omega (arith, n))
+    (omega (arith, n))
+    (λ j f l. none_up_to is (c.count_before_functions-before.result - 1) c.in-Some.last.section j f h o.section
+    c.if-last-eq-DECLARATIONS.true (omega (arith, l)))

@@ -83,7 +83,8 @@ pub returns-in-Some-clause-refused : goal.returns-in-Some-clause-refused
 returns-in-Some-clause-refused c = λ G p.
     let f = rw c.in-Some.is at c.in_ok-found.ensures in
     let is = plain_insts c.args.module.now in
-    refusal_told G c.args.module.now.header.bound is c.args.plan.now c.in-Some.found.rule c.in-Some.found.inst c.stop_at.result p (rw c.as_slice-insts.ensures.value at f)
+    refusal_told G c.args.module.now.header.bound is c.args.plan.now c.in-Some.found.rule c.in-Some.found.inst
+    c.stop_at.result p (rw c.as_slice-insts.ensures.value at f)
     (c.stop_at.ensures is p.place)
 
 pub returns-clause-ids : goal.returns-clause-ids
@@ -93,5 +94,8 @@ returns-clause-ids c = λ G p.
     let k = rw c.in_default.is at c.in_ok-found.ensures in
     let p' : IsPlan G is c.args.plan.now = rw c.as_slice-insts.ensures.value p in
     let f = c.in_ok-firsts.firsts in
-    let r : AreIds G b is (record { definitions = f.definitions }) = record { unbroken = clean_told G b is p'.fits k; each = definitions_told b is f.end f.definitions c.in_ok-firsts.ensures.end c.in_ok-firsts.ensures.firsts k } in
+    let r : AreIds G b is (record { definitions = f.definitions }) = record {
+      unbroken = clean_told G b is p'.fits k;
+      each = definitions_told b is f.end f.definitions c.in_ok-firsts.ensures.end c.in_ok-firsts.ensures.firsts k;
+    } in
     rw c.as_slice-insts.ensures.value at r

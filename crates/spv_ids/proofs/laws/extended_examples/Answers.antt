@@ -22,16 +22,20 @@ use Rattle.spv_ids.proofs.laws.extended_examples.Goals as goal
 
 -- An argument, and a mention, that nothing defines.
 
-forms : HasForms small (extended (Argument 4)) (form.OfType ∷ form.Result ∷ form.Id role.Set ∷ form.Word ∷ form.Unseen ∷ [])
+forms : HasForms small (extended (Argument 4))
+    (form.OfType ∷ form.Result ∷ form.Id role.Set ∷ form.Word ∷ form.Unseen ∷ [])
 unfolding rows
 forms = record {
-  row = row opcode.EXT_INST opcode.EXT_INST Body (form.OfType ∷ form.Result ∷ form.Id role.Set ∷ form.Word ∷ []) (repeated (form.Unseen ∷ []));
+  row = row opcode.EXT_INST opcode.EXT_INST Body (form.OfType ∷ form.Result ∷ form.Id role.Set ∷ form.Word ∷ [])
+      (repeated (form.Unseen ∷ []));
   rest = form.Unseen ∷ [];
   known = refl;
   forms = refl;
   ending = Ends.again (form.Unseen ∷ []) [] (Ends.done (form.Unseen ∷ []));
-  each = AreOf.more form.OfType (OfType 1) (form.Result ∷ form.Id role.Set ∷ form.Word ∷ form.Unseen ∷ []) (Result 2 ∷ Id 1 ∷ Word 0 ∷ Argument 4 ∷ []) refl
-      (AreOf.more form.Result (Result 2) (form.Id role.Set ∷ form.Word ∷ form.Unseen ∷ []) (Id 1 ∷ Word 0 ∷ Argument 4 ∷ []) refl
+  each = AreOf.more form.OfType (OfType 1) (form.Result ∷ form.Id role.Set ∷ form.Word ∷ form.Unseen ∷ [])
+      (Result 2 ∷ Id 1 ∷ Word 0 ∷ Argument 4 ∷ []) refl
+      (AreOf.more form.Result (Result 2) (form.Id role.Set ∷ form.Word ∷ form.Unseen ∷ [])
+      (Id 1 ∷ Word 0 ∷ Argument 4 ∷ []) refl
       (AreOf.more (form.Id role.Set) (Id 1) (form.Word ∷ form.Unseen ∷ []) (Word 0 ∷ Argument 4 ∷ []) refl
       (AreOf.more form.Word (Word 0) (form.Unseen ∷ []) (Argument 4 ∷ []) refl
       (AreOf.more form.Unseen (Argument 4) [] [] refl AreOf.none))));
@@ -61,9 +65,12 @@ data IsPlace (n x : ℕ) : Type 0 where
   third : n ≡ 2 → x ≡ 4 → IsPlace n x
 
 place : (n x : ℕ) → IsDefinedAt mentioned x n → IsPlace n x
-place zero x d = let e = d.there in let f : void 1 ≡ d.inst = cc in let g = rw (← f) at d.result in IsPlace.first refl cc
-place (suc zero) x d = let e = d.there in let f : extended (Mention 4) ≡ d.inst = cc in let g = rw (← f) at d.result in IsPlace.second refl cc
-place (suc (suc zero)) x d = let e = d.there in let f : void 4 ≡ d.inst = cc in let g = rw (← f) at d.result in IsPlace.third refl cc
+place zero x d = let e = d.there in let f : void 1 ≡ d.inst = cc in let g = rw (← f) at d.result in
+    IsPlace.first refl cc
+place (suc zero) x d = let e = d.there in let f : extended (Mention 4) ≡ d.inst = cc in let g = rw (← f) at d.result in
+    IsPlace.second refl cc
+place (suc (suc zero)) x d = let e = d.there in let f : void 4 ≡ d.inst = cc in let g = rw (← f) at d.result in
+    IsPlace.third refl cc
 place (suc (suc (suc n))) x d = let e = d.there in cc
 
 few : (x : ℕ) → x ≡ 1 ⊎ (x ≡ 2 ⊎ x ≡ 4) → ¬ (IsOutOfRange 5 x)
@@ -107,13 +114,15 @@ record IsOne (n x : ℕ) : Type 0 where
   pub id : x ≡ 1
 
 early_use : (n to x : ℕ) → IsUsedBefore mentioned n to x → IsOne n x
-early_use zero to x u = let t = u.there in let e : void 1 ≡ u.inst = cc in let o = rw (← e) at u.operand_at in absurd (no_use 1 u.place x u.operand o u.used)
+early_use zero to x u = let t = u.there in let e : void 1 ≡ u.inst = cc in let o = rw (← e) at u.operand_at in
+    absurd (no_use 1 u.place x u.operand o u.used)
 early_use (suc zero) to x u =
     let t = u.there in
     let e : extended (Mention 4) ≡ u.inst = cc in
     let o = rw (← e) at u.operand_at in
     record { inst = refl; id = type_use u.place x u.operand o u.used }
-early_use (suc (suc zero)) to x u = let t = u.there in let e : void 4 ≡ u.inst = cc in let o = rw (← e) at u.operand_at in absurd (no_use 4 u.place x u.operand o u.used)
+early_use (suc (suc zero)) to x u = let t = u.there in let e : void 4 ≡ u.inst = cc in
+    let o = rw (← e) at u.operand_at in absurd (no_use 4 u.place x u.operand o u.used)
 early_use (suc (suc (suc n))) to x u = let t = u.there in cc
 
 no_value : (k x : ℕ) (o : Plain) → slice_get (behind (extended (Mention 4))) k ≡ Some o → argument_id o ≡ Some x → ⊥
@@ -122,8 +131,10 @@ no_value (suc k) x o h u = cc
 
 no_argument : (n k x : ℕ) → ¬ (IsArgument mentioned n k x)
 no_argument zero k x u = let t = u.there in let e : void 1 ≡ u.inst = cc in let o = rw (← e) at u.operand_at in cc
-no_argument (suc zero) k x u = let t = u.there in let e : extended (Mention 4) ≡ u.inst = cc in let o = rw (← e) at u.operand_at in no_value k x u.operand o u.used
-no_argument (suc (suc zero)) k x u = let t = u.there in let e : void 4 ≡ u.inst = cc in let o = rw (← e) at u.operand_at in cc
+no_argument (suc zero) k x u = let t = u.there in let e : extended (Mention 4) ≡ u.inst = cc in
+    let o = rw (← e) at u.operand_at in no_value k x u.operand o u.used
+no_argument (suc (suc zero)) k x u = let t = u.there in let e : void 4 ≡ u.inst = cc in
+    let o = rw (← e) at u.operand_at in cc
 no_argument (suc (suc (suc n))) k x u = let t = u.there in cc
 
 one_use : (n x : ℕ) → IsTold mentioned n x → IsOne n x
@@ -143,9 +154,12 @@ in_extended (suc (suc (suc (suc zero)))) x h = cc
 in_extended (suc (suc (suc (suc (suc k))))) x h = cc
 
 one_mention : (n k x : ℕ) → IsMentionedAt mentioned n k x → x ≡ 4
-one_mention zero k x m = let t = m.there in let e : void 1 ≡ m.inst = cc in let o = rw (← e) at m.named in in_void 1 k x o
-one_mention (suc zero) k x m = let t = m.there in let e : extended (Mention 4) ≡ m.inst = cc in let o = rw (← e) at m.named in in_extended k x o
-one_mention (suc (suc zero)) k x m = let t = m.there in let e : void 4 ≡ m.inst = cc in let o = rw (← e) at m.named in in_void 4 k x o
+one_mention zero k x m = let t = m.there in let e : void 1 ≡ m.inst = cc in let o = rw (← e) at m.named in
+    in_void 1 k x o
+one_mention (suc zero) k x m = let t = m.there in let e : extended (Mention 4) ≡ m.inst = cc in
+    let o = rw (← e) at m.named in in_extended k x o
+one_mention (suc (suc zero)) k x m = let t = m.there in let e : void 4 ≡ m.inst = cc in let o = rw (← e) at m.named in
+    in_void 4 k x o
 one_mention (suc (suc (suc n))) k x m = let t = m.there in cc
 
 -- No rule is broken.
@@ -174,9 +188,11 @@ nowhere x y m e d h = h m (rw e d)
 
 unbroken : (r : Rule) (n : ℕ) → ¬ (Broken small 5 mentioned r n)
 unbroken _ _ (Broken.result_out_of_range n x d o) = in_range n x (place n x d) o
-unbroken _ _ (Broken.use_out_of_range n k x r u o) = let w = one_use n x (use_told small mentioned n k x r u) in few x (inl w.id) o
+unbroken _ _ (Broken.use_out_of_range n k x r u o) = let w = one_use n x (use_told small mentioned n k x r u) in
+    few x (inl w.id) o
 unbroken _ _ (Broken.defined_again n m x d l e) = once n m x (place n x d) (place m x e) l
-unbroken _ _ (Broken.undefined n k x r u h) = let w = one_use n x (use_told small mentioned n k x r u) in nowhere x 1 0 w.id type_defined h
+unbroken _ _ (Broken.undefined n k x r u h) = let w = one_use n x (use_told small mentioned n k x r u) in
+    nowhere x 1 0 w.id type_defined h
 unbroken _ _ (Broken.not_in_order n k x r u s h) = h (ordered n x (one_use n x (use_told small mentioned n k x r u)))
 unbroken _ _ (Broken.not_in_scope n k x r u s (f, l) h) = no_function f l.of.begun.there
 unbroken _ _ (Broken.mention_out_of_range n k x m o) = few x (inr (inr (one_mention n k x m))) o
@@ -184,7 +200,9 @@ unbroken _ _ (Broken.mention_undefined n k x m h) = nowhere x 4 2 (one_mention n
 
 pub returns : goal.returns
 returns c = record {
-  argument = Broken.undefined 0 4 4 role.Value (record { inst = extended (Argument 4); there = refl; used = used }) (undefined (Argument 4));
-  mention = Broken.mention_undefined 0 4 4 (record { inst = extended (Mention 4); there = refl; named = refl }) (undefined (Mention 4));
+  argument = Broken.undefined 0 4 4 role.Value (record { inst = extended (Argument 4); there = refl; used = used })
+      (undefined (Argument 4));
+  mention = Broken.mention_undefined 0 4 4 (record { inst = extended (Mention 4); there = refl; named = refl })
+      (undefined (Mention 4));
   later = λ r n b. unbroken r n b;
 }

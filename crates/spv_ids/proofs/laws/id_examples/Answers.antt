@@ -23,10 +23,27 @@ use Rattle.spv_ids.proofs.laws.id_examples.Goals as goal
 
 type_forms : HasForms small of_void (R ∷ t ∷ [])
 unfolding rows
-type_forms = record { row = row opcode.TYPE_FUNCTION opcode.TYPE_FUNCTION Declaration (R ∷ t ∷ []) (repeated (t ∷ [])); rest = []; known = refl; forms = refl; ending = Ends.done (t ∷ []); each = AreOf.more R (Result 2) (t ∷ []) (Id 1 ∷ []) refl (AreOf.more t (Id 1) [] [] refl AreOf.none) }
+type_forms = record {
+  row = row opcode.TYPE_FUNCTION opcode.TYPE_FUNCTION Declaration (R ∷ t ∷ []) (repeated (t ∷ []));
+  rest = [];
+  known = refl;
+  forms = refl;
+  ending = Ends.done (t ∷ []);
+  each =
+      AreOf.more R (Result 2) (t ∷ []) (Id 1 ∷ []) refl (AreOf.more t (Id 1) [] [] refl AreOf.none);
+}
 
 type_used : IsUse small of_void 1 1 role.OfType
-type_used = record { forms = R ∷ t ∷ []; has = type_forms; form = t; operand = Id 1; form_at = refl; operand_at = refl; role = refl; id = refl }
+type_used = record {
+  forms = R ∷ t ∷ [];
+  has = type_forms;
+  form = t;
+  operand = Id 1;
+  form_at = refl;
+  operand_at = refl;
+  role = refl;
+  id = refl;
+}
 
 defined_first : (x : ℕ) → IsDefinedAt (void x ∷ []) x 0
 defined_first x = record { inst = void x; there = refl; result = refl }
@@ -34,7 +51,8 @@ defined_first x = record { inst = void x; there = refl; result = refl }
 once : (r : Rule) (n : ℕ) → Broken small 5 (void 1 ∷ []) r n → r ≡ D2 → ⊥
 once _ _ (Broken.result_out_of_range n x d o) e = cc
 once _ _ (Broken.use_out_of_range n k x r u o) e = cc
-once _ _ (Broken.defined_again n m x a l b) e = let h = slice_get_within (void 1 ∷ []) n a.inst a.there in absurd (omega arith)
+once _ _ (Broken.defined_again n m x a l b) e = let h = slice_get_within (void 1 ∷ []) n a.inst a.there in
+    absurd (omega arith)
 once _ _ (Broken.undefined n k x r u h) e = cc
 once _ _ (Broken.not_in_order n k x r u o h) e = cc
 once _ _ (Broken.not_in_scope n k x r u s l h) e = cc
@@ -47,7 +65,8 @@ none_defined (suc m) d = let e = d.there in cc
 
 not_in_order : ¬ (IsInOrder (of_void ∷ void 1 ∷ []) 0 1)
 not_in_order (IsInOrder.lower m h d) = absurd (omega arith)
-not_in_order (IsInOrder.announced s o) = let e = o.there in let f : of_void ≡ o.inst = cc in let g = rw (← f) at o.same in absurd (omega (arith, g))
+not_in_order (IsInOrder.announced s o) = let e = o.there in let f : of_void ≡ o.inst = cc in
+    let g = rw (← f) at o.same in absurd (omega (arith, g))
 not_in_order (IsInOrder.member m s o h a) = absurd (omega arith)
 
 in_range : ¬ (IsOutOfRange 5 4)
@@ -94,7 +113,8 @@ one_use (suc (suc k)) x o h u = cc
 in_order : IsInOrder (void 1 ∷ of_void ∷ []) 1 1
 in_order = IsInOrder.lower 0 (omega arith) (record { inst = void 1; there = refl; result = refl })
 
-all_in_order : (n to x : ℕ) → IsUsedBefore (void 1 ∷ of_void ∷ []) n to x → (IsInOrder (void 1 ∷ of_void ∷ []) n x → ⊥) → ⊥
+all_in_order : (n to x : ℕ) → IsUsedBefore (void 1 ∷ of_void ∷ []) n to x → (IsInOrder (void 1 ∷ of_void ∷ []) n x → ⊥)
+    → ⊥
 all_in_order zero to x u h =
     let t = u.there in
     let e : void 1 ≡ u.inst = cc in
@@ -110,7 +130,8 @@ all_in_order (suc (suc n)) to x u h = let t = u.there in cc
 
 no_argument : (n k x : ℕ) → ¬ (IsArgument (void 1 ∷ of_void ∷ []) n k x)
 no_argument zero k x u = let t = u.there in let e : void 1 ≡ u.inst = cc in let o = rw (← e) at u.operand_at in cc
-no_argument (suc zero) k x u = let t = u.there in let e : of_void ≡ u.inst = cc in let o = rw (← e) at u.operand_at in cc
+no_argument (suc zero) k x u = let t = u.there in let e : of_void ≡ u.inst = cc in let o = rw (← e) at u.operand_at in
+    cc
 no_argument (suc (suc n)) k x u = let t = u.there in cc
 
 told_in_order : (n x : ℕ) → IsTold (void 1 ∷ of_void ∷ []) n x → (IsInOrder (void 1 ∷ of_void ∷ []) n x → ⊥) → ⊥
@@ -122,7 +143,8 @@ not_early _ _ (Broken.result_out_of_range n x d o) e = cc
 not_early _ _ (Broken.use_out_of_range n k x r u o) e = cc
 not_early _ _ (Broken.defined_again n m x a l b) e = cc
 not_early _ _ (Broken.undefined n k x r u h) e = cc
-not_early _ _ (Broken.not_in_order n k x r u o h) e = told_in_order n x (use_told small (void 1 ∷ of_void ∷ []) n k x r u) h
+not_early _ _ (Broken.not_in_order n k x r u o h) e =
+    told_in_order n x (use_told small (void 1 ∷ of_void ∷ []) n k x r u) h
 not_early _ _ (Broken.not_in_scope n k x r u s l h) e = cc
 not_early _ _ (Broken.mention_out_of_range n k x m o) e = cc
 not_early _ _ (Broken.mention_undefined n k x m h) e = cc
@@ -132,14 +154,17 @@ not_local (f, l) = no_function f l.of.begun.there
 
 pub returns : goal.returns
 returns c = record {
-  again = Broken.defined_again 1 0 1 (record { inst = void 1; there = refl; result = refl }) (omega arith) (record { inst = void 1; there = refl; result = refl });
+  again = Broken.defined_again 1 0 1 (record { inst = void 1; there = refl; result = refl }) (omega arith)
+      (record { inst = void 1; there = refl; result = refl });
   once = λ n b. once D2 n b refl;
   out_of_range = Broken.result_out_of_range 0 5 (defined_first 5) (inr (omega arith));
   in_range = in_range;
-  undefined = Broken.undefined 0 1 1 role.OfType (record { inst = of_void; there = refl; used = type_used }) none_defined;
+  undefined = Broken.undefined 0 1 1 role.OfType
+      (record { inst = of_void; there = refl; used = type_used }) none_defined;
   in_order = in_order;
   not_in_order = not_in_order;
-  early = Broken.not_in_order 0 1 1 role.OfType (record { inst = of_void; there = refl; used = type_used }) (inr declared) not_in_order;
+  early = Broken.not_in_order 0 1 1 role.OfType (record { inst = of_void; there = refl; used = type_used })
+      (inr declared) not_in_order;
   not_early = λ n b. not_early D4 n b refl;
   not_local = not_local;
   not_in_scope = not_scoped;

@@ -122,12 +122,17 @@ value_outside = record { inst = value; there = refl; result = refl }
 
 outside_at : (m : ℕ) → IsDefinedAt used_outside 5 m → m ≡ 2
 outside_at zero d = let e = d.there in let f : bare opcode.FUNCTION ≡ d.inst = cc in let g = rw (← f) at d.result in cc
-outside_at (suc zero) d = let e = d.there in let f : bare opcode.LABEL ≡ d.inst = cc in let g = rw (← f) at d.result in cc
+outside_at (suc zero) d = let e = d.there in let f : bare opcode.LABEL ≡ d.inst = cc in let g = rw (← f) at d.result in
+    cc
 outside_at (suc (suc zero)) d = refl
-outside_at (suc (suc (suc zero))) d = let e = d.there in let f : bare opcode.FUNCTION_END ≡ d.inst = cc in let g = rw (← f) at d.result in cc
-outside_at (suc (suc (suc (suc zero)))) d = let e = d.there in let f : bare opcode.FUNCTION ≡ d.inst = cc in let g = rw (← f) at d.result in cc
-outside_at (suc (suc (suc (suc (suc zero))))) d = let e = d.there in let f : bare opcode.LABEL ≡ d.inst = cc in let g = rw (← f) at d.result in cc
-outside_at (suc (suc (suc (suc (suc (suc zero)))))) d = let e = d.there in let f : copy 6 ≡ d.inst = cc in let g = rw (← f) at d.result in cc
+outside_at (suc (suc (suc zero))) d = let e = d.there in let f : bare opcode.FUNCTION_END ≡ d.inst = cc in
+    let g = rw (← f) at d.result in cc
+outside_at (suc (suc (suc (suc zero)))) d = let e = d.there in let f : bare opcode.FUNCTION ≡ d.inst = cc in
+    let g = rw (← f) at d.result in cc
+outside_at (suc (suc (suc (suc (suc zero))))) d = let e = d.there in let f : bare opcode.LABEL ≡ d.inst = cc in
+    let g = rw (← f) at d.result in cc
+outside_at (suc (suc (suc (suc (suc (suc zero)))))) d = let e = d.there in let f : copy 6 ≡ d.inst = cc in
+    let g = rw (← f) at d.result in cc
 outside_at (suc (suc (suc (suc (suc (suc (suc m))))))) d = let e = d.there in cc
 
 -- nothing defines the type
@@ -136,7 +141,8 @@ no_type zero d = let e = d.there in let f : bare opcode.FUNCTION ≡ d.inst = cc
 no_type (suc zero) d = let e = d.there in let f : bare opcode.LABEL ≡ d.inst = cc in let g = rw (← f) at d.result in cc
 no_type (suc (suc zero)) d = let e = d.there in let f : value ≡ d.inst = cc in let g = rw (← f) at d.result in cc
 no_type (suc (suc (suc zero))) d = let e = d.there in let f : copy 6 ≡ d.inst = cc in let g = rw (← f) at d.result in cc
-no_type (suc (suc (suc (suc zero)))) d = let e = d.there in let f : bare opcode.FUNCTION_END ≡ d.inst = cc in let g = rw (← f) at d.result in cc
+no_type (suc (suc (suc (suc zero)))) d = let e = d.there in let f : bare opcode.FUNCTION_END ≡ d.inst = cc in
+    let g = rw (← f) at d.result in cc
 no_type (suc (suc (suc (suc (suc m))))) d = let e = d.there in cc
 
 -- In its function.
@@ -149,7 +155,13 @@ unfolding rows
 no_end a = cc
 
 in_place : IsLocalTo used_inside 5 0
-in_place = record { place = 2; defined = value_inside; of = within used_inside Function (FunctionEnd ∷ []) 2 (In 0) inside_2; after = omega arith; before = no_end }
+in_place = record {
+  place = 2;
+  defined = value_inside;
+  of = within used_inside Function (FunctionEnd ∷ []) 2 (In 0) inside_2;
+  after = omega arith;
+  before = no_end;
+}
 
 in_scope : IsInScope used_inside 3 5
 in_scope = record { function = 0; of = of_inside; local = in_place }
@@ -169,9 +181,12 @@ both_used (suc (suc (suc k))) x o h u n = cc
 not_type : (x : ℕ) → IsLocal used_inside x → x ≡ 1 → ⊥
 not_type x (f, l) e = no_type l.place (rw e at l.defined)
 
-all_in_scope : (n to x : ℕ) → IsUsedBefore used_inside n to x → IsLocal used_inside x → (IsInScope used_inside n x → ⊥) → ⊥
-all_in_scope zero to x u l h = let t = u.there in let e : bare opcode.FUNCTION ≡ u.inst = cc in let o = rw (← e) at u.operand_at in cc
-all_in_scope (suc zero) to x u l h = let t = u.there in let e : bare opcode.LABEL ≡ u.inst = cc in let o = rw (← e) at u.operand_at in cc
+all_in_scope : (n to x : ℕ) → IsUsedBefore used_inside n to x → IsLocal used_inside x → (IsInScope used_inside n x → ⊥)
+    → ⊥
+all_in_scope zero to x u l h = let t = u.there in let e : bare opcode.FUNCTION ≡ u.inst = cc in
+    let o = rw (← e) at u.operand_at in cc
+all_in_scope (suc zero) to x u l h = let t = u.there in let e : bare opcode.LABEL ≡ u.inst = cc in
+    let o = rw (← e) at u.operand_at in cc
 all_in_scope (suc (suc zero)) to x u l h =
     let t = u.there in
     let e : value ≡ u.inst = cc in
@@ -183,15 +198,21 @@ all_in_scope (suc (suc (suc zero))) to x u l h =
     let o = rw (← e) at u.operand_at in
     let q = both_used u.place x u.operand o u.used (not_type x l) in
     h (rw q in_scope)
-all_in_scope (suc (suc (suc (suc zero)))) to x u l h = let t = u.there in let e : bare opcode.FUNCTION_END ≡ u.inst = cc in let o = rw (← e) at u.operand_at in cc
+all_in_scope (suc (suc (suc (suc zero)))) to x u l h = let t = u.there in
+    let e : bare opcode.FUNCTION_END ≡ u.inst = cc in let o = rw (← e) at u.operand_at in cc
 all_in_scope (suc (suc (suc (suc (suc n))))) to x u l h = let t = u.there in cc
 
 no_argument : (n k x : ℕ) → ¬ (IsArgument used_inside n k x)
-no_argument zero k x u = let t = u.there in let e : bare opcode.FUNCTION ≡ u.inst = cc in let o = rw (← e) at u.operand_at in cc
-no_argument (suc zero) k x u = let t = u.there in let e : bare opcode.LABEL ≡ u.inst = cc in let o = rw (← e) at u.operand_at in cc
-no_argument (suc (suc zero)) k x u = let t = u.there in let e : value ≡ u.inst = cc in let o = rw (← e) at u.operand_at in cc
-no_argument (suc (suc (suc zero))) k x u = let t = u.there in let e : copy 6 ≡ u.inst = cc in let o = rw (← e) at u.operand_at in cc
-no_argument (suc (suc (suc (suc zero)))) k x u = let t = u.there in let e : bare opcode.FUNCTION_END ≡ u.inst = cc in let o = rw (← e) at u.operand_at in cc
+no_argument zero k x u = let t = u.there in let e : bare opcode.FUNCTION ≡ u.inst = cc in
+    let o = rw (← e) at u.operand_at in cc
+no_argument (suc zero) k x u = let t = u.there in let e : bare opcode.LABEL ≡ u.inst = cc in
+    let o = rw (← e) at u.operand_at in cc
+no_argument (suc (suc zero)) k x u = let t = u.there in let e : value ≡ u.inst = cc in
+    let o = rw (← e) at u.operand_at in cc
+no_argument (suc (suc (suc zero))) k x u = let t = u.there in let e : copy 6 ≡ u.inst = cc in
+    let o = rw (← e) at u.operand_at in cc
+no_argument (suc (suc (suc (suc zero)))) k x u = let t = u.there in let e : bare opcode.FUNCTION_END ≡ u.inst = cc in
+    let o = rw (← e) at u.operand_at in cc
 no_argument (suc (suc (suc (suc (suc n))))) k x u = let t = u.there in cc
 
 told_in_scope : (n x : ℕ) → IsTold used_inside n x → IsLocal used_inside x → (IsInScope used_inside n x → ⊥) → ⊥
@@ -223,7 +244,16 @@ not_in_scope i =
 
 is_local : IsLocal used_outside 5
 unfolding rows
-is_local = (0, record { place = 2; defined = value_outside; of = within used_outside Function (FunctionEnd ∷ []) 2 (In 0) outside_2; after = omega arith; before = λ a. cc })
+is_local = (
+  0,
+  record {
+    place = 2;
+    defined = value_outside;
+    of = within used_outside Function (FunctionEnd ∷ []) 2 (In 0) outside_2;
+    after = omega arith;
+    before = λ a. cc;
+  },
+)
 
 last_of : (n f : ℕ) → IsOfFunction used_outside n f → IsLast used_outside Function n f
 last_of n f o = o.begun
@@ -244,11 +274,21 @@ copy_forms = record {
   known = refl;
   forms = refl;
   ending = Ends.nothing;
-  each = AreOf.more T (OfType 1) (R ∷ v ∷ []) (Result 6 ∷ Id 5 ∷ []) refl (AreOf.more R (Result 6) (v ∷ []) (Id 5 ∷ []) refl (AreOf.more v (Id 5) [] [] refl AreOf.none));
+  each = AreOf.more T (OfType 1) (R ∷ v ∷ []) (Result 6 ∷ Id 5 ∷ []) refl
+      (AreOf.more R (Result 6) (v ∷ []) (Id 5 ∷ []) refl (AreOf.more v (Id 5) [] [] refl AreOf.none));
 }
 
 value_used : IsUse small (copy 6) 2 5 role.Value
-value_used = record { forms = T ∷ R ∷ v ∷ []; has = copy_forms; form = v; operand = Id 5; form_at = refl; operand_at = refl; role = refl; id = refl }
+value_used = record {
+  forms = T ∷ R ∷ v ∷ [];
+  has = copy_forms;
+  form = v;
+  operand = Id 5;
+  form_at = refl;
+  operand_at = refl;
+  role = refl;
+  id = refl;
+}
 
 pub returns : goal.returns
 returns c = record {
@@ -257,5 +297,6 @@ returns c = record {
   not_broken = λ n b. not_broken D5 n b refl;
   not_in_place = not_in_place;
   not_in_scope = not_in_scope;
-  broken = Broken.not_in_scope 6 2 5 role.Value (record { inst = copy 6; there = refl; used = value_used }) (inr (inr section)) is_local not_in_scope;
+  broken = Broken.not_in_scope 6 2 5 role.Value (record { inst = copy 6; there = refl; used = value_used })
+      (inr (inr section)) is_local not_in_scope;
 }

@@ -7,4 +7,5 @@ pub returns-then-inst-eq-FUNCTION_END : goal.returns-then-inst-eq-FUNCTION_END
 returns-then-inst-eq-FUNCTION_END c = λ is n h o l. absurd (omega (arith, l))
 
 pub returns-else-inst-eq-FUNCTION_END : goal.returns-else-inst-eq-FUNCTION_END
-returns-else-inst-eq-FUNCTION_END c = λ is n h o l. stays_open is n c.args.floor (plain_inst c.args.inst.now) h c.if-inst-eq-FUNCTION_END.false (o l)
+returns-else-inst-eq-FUNCTION_END c =
+    λ is n h o l. stays_open is n c.args.floor (plain_inst c.args.inst.now) h c.if-inst-eq-FUNCTION_END.false (o l)

@@ -13,7 +13,8 @@ returns-in_err-opcode-clause-dead c =
     let r = err_from_is_err_and c.from_residual.result c.from_residual.ensures.1 in
     let so = map plain_inst c.loop-at.insts.items ++ batch_insts c.loop-at.batch in
     rw (r.1, r.2)
-    (dead_here c.args.table.now c.args.image.now so c.loop-at.at c.loop-at.number _ c.loop-at.invariant.listed c.loop-at.invariant.number (c.in_err-opcode.ensures.dead so c.loop-at.invariant.knows))
+    (dead_here c.args.table.now c.args.image.now so c.loop-at.at c.loop-at.number _ c.loop-at.invariant.listed
+    c.loop-at.invariant.number (c.in_err-opcode.ensures.dead so c.loop-at.invariant.knows))
 
 pub returns-in_err-opcode-clause-none : goal.returns-in_err-opcode-clause-none
 returns-in_err-opcode-clause-none c =
@@ -21,7 +22,8 @@ returns-in_err-opcode-clause-none c =
     let so = map plain_inst c.loop-at.insts.items ++ batch_insts c.loop-at.batch in
     rw (r.1, r.2)
     (none_there c.args.table.now c.args.image.now _
-    (dead_here c.args.table.now c.args.image.now so c.loop-at.at c.loop-at.number _ c.loop-at.invariant.listed c.loop-at.invariant.number (c.in_err-opcode.ensures.dead so c.loop-at.invariant.knows)))
+    (dead_here c.args.table.now c.args.image.now so c.loop-at.at c.loop-at.number _ c.loop-at.invariant.listed
+    c.loop-at.invariant.number (c.in_err-opcode.ensures.dead so c.loop-at.invariant.knows)))
 
 pub loop-at-preserved : goal.loop-at-preserved
 loop-at-preserved c =
@@ -38,24 +40,29 @@ loop-at-preserved c =
     let was = c.loop-at.invariant.few in
     let number = c.loop-at.invariant.number in
     let d = length-drop first new in
-    let v : take (length new - first) (drop first new) ≡ drop first new = take_all (length new - first) (drop first new) (omega arith) in
+    let v : take (length new - first) (drop first new) ≡ drop first new = take_all (length new - first) (drop first new)
+    (omega arith) in
     let a = rw (c.deref.ensures.value, v) at (c.in_ok-add.ensures.knows so c.loop-at.invariant.knows) in
-    let e = batch_next os new c.loop-at.batch.heads.items (map plain_inst c.loop-at.insts.items) _ _ first (inst_with x.opcode (drop first new)) kept.1 c.in_ok-close.ensures.added c.in_ok-settle.ensures.same in
+    let e = batch_next os new c.loop-at.batch.heads.items (map plain_inst c.loop-at.insts.items) _ _ first
+    (inst_with x.opcode (drop first new)) kept.1 c.in_ok-close.ensures.added c.in_ok-settle.ensures.same in
     let l = length-append so (inst_with x.opcode (drop first new) ∷ []) in
     record {
       tidy = c.in_ok-settle.ensures.tidy;
       few = omega arith;
       number = ap (λ n. n + 1) number ∙ sym (ap length e ∙ l);
       knows = rw e a;
-      listed = listed_next c.args.table.now c.args.image.now so _ (inst_with x.opcode (drop first new)) c.loop-at.at x.end c.loop-at.invariant.listed
-          c.in_ok-opcode.ensures.within.0 c.in_ok-opcode.ensures.within.1 (c.in_ok-opcode.ensures.read so c.loop-at.invariant.knows) e;
+      listed = listed_next c.args.table.now c.args.image.now so _
+          (inst_with x.opcode (drop first new)) c.loop-at.at x.end c.loop-at.invariant.listed
+          c.in_ok-opcode.ensures.within.0 c.in_ok-opcode.ensures.within.1
+          (c.in_ok-opcode.ensures.read so c.loop-at.invariant.knows) e;
     }
 
 pub returns-clause-found : goal.returns-clause-found
 returns-clause-found c =
     let h = rw c.len-len.ensures.words at c.loop-at-test.false in
     rw c.in_ok-move_into.ensures.moved
-    (listed_all c.args.table.now c.args.image.now (map plain_inst c.loop-at.insts.items ++ batch_insts c.loop-at.batch) c.loop-at.at c.loop-at.invariant.listed h)
+    (listed_all c.args.table.now c.args.image.now
+    (map plain_inst c.loop-at.insts.items ++ batch_insts c.loop-at.batch) c.loop-at.at c.loop-at.invariant.listed h)
 
 pub returns-clause-only : goal.returns-clause-only
 returns-clause-only c = λ is m.

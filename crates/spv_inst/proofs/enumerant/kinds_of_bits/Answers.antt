@@ -13,7 +13,10 @@ pub loop-position-init : goal.loop-position-init
 loop-position-init c = kinds_begin (enumerants_at (kind_of c.args.table.now c.args.kind)) c.args.mask
 
 pub returns-then-left-eq0 : goal.returns-then-left-eq0
-returns-then-left-eq0 c = c.loop-position.invariant ∙ kinds_rest_at (enumerants_at (kind_of c.args.table.now c.args.kind)) c.args.mask c.loop-position.position c.loop-position.kinds.now c.if-left-eq0.true
+returns-then-left-eq0 c =
+    c.loop-position.invariant ∙ kinds_rest_at
+    (enumerants_at (kind_of c.args.table.now c.args.kind)) c.args.mask c.loop-position.position
+    c.loop-position.kinds.now c.if-left-eq0.true
 
 pub loop-position-preserved : goal.loop-position-preserved
 loop-position-preserved c =
@@ -23,14 +26,18 @@ loop-position-preserved c =
     elim c.if-left-eq1.branch [
       | then-left-eq1+in-Some+in-Some-joined w ↦
           c.loop-position.invariant
-          ∙ kinds_set_at es c.args.mask p c.loop-position.kinds.now w.in-Some.more.now c.if-left-eq1.kinds.now within w.if-left-eq1.true
-          (rw (shifted p within) at (sym w.in-Some.ensures)) (ap (λ (k : Bor (List ℕ)). k.now) w.kinds-is ∙ w.in-Some-joined.ensures)
+          ∙ kinds_set_at es c.args.mask p c.loop-position.kinds.now w.in-Some.more.now c.if-left-eq1.kinds.now within
+          w.if-left-eq1.true
+          (rw (shifted p within) at (sym w.in-Some.ensures))
+          (ap (λ (k : Bor (List ℕ)). k.now) w.kinds-is ∙ w.in-Some-joined.ensures)
       | else-left-eq1 w ↦
           c.loop-position.invariant
-          ∙ kinds_unset_at es c.args.mask p c.loop-position.kinds.now c.if-left-eq1.kinds.now within (even _ w.if-left-eq1.false) (ap (λ (k : Bor (List ℕ)). k.now) w.kinds-is)
+          ∙ kinds_unset_at es c.args.mask p c.loop-position.kinds.now c.if-left-eq1.kinds.now within
+          (even _ w.if-left-eq1.false) (ap (λ (k : Bor (List ℕ)). k.now) w.kinds-is)
     ]
 
 pub returns : goal.returns
 returns c =
     let e : c.loop-position.position ≡ 32 = omega arith in
-    c.loop-position.invariant ∙ rw e (kinds_end_at (enumerants_at (kind_of c.args.table.now c.args.kind)) c.args.mask 4294967296 c.loop-position.kinds.now)
+    c.loop-position.invariant ∙ rw e (kinds_end_at
+    (enumerants_at (kind_of c.args.table.now c.args.kind)) c.args.mask 4294967296 c.loop-position.kinds.now)

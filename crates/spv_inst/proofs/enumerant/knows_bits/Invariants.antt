@@ -7,4 +7,6 @@ use Rattle.spv_inst.proofs.Enumerants.{knows_from}
 use Rattle.spv_inst.proofs.enumerant.knows_bits.Given as goal
 
 abbrev pub invariant-loop-position : goal.invariant-loop-position
-invariant-loop-position l = is_some (mask_parameters (enumerants_at (kind_of l.table l.kind)) l.mask) ≡ knows_from (enumerants_at (kind_of l.table l.kind)) l.mask (32 - l.position) (2 ^ l.position)
+invariant-loop-position l =
+    is_some (mask_parameters (enumerants_at (kind_of l.table l.kind)) l.mask) ≡ knows_from
+    (enumerants_at (kind_of l.table l.kind)) l.mask (32 - l.position) (2 ^ l.position)

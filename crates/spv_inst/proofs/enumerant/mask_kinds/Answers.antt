@@ -14,4 +14,5 @@ returns-then-position-mask c =
     let fits = c.ranges.mask.fits in
     let some = c.if-mask-eq0.false in
     let low = bit_at-trailing_zeros w32 c.args.mask (omega arith) fits in
-    one_bit_kinds (enumerants_at (kind_of c.args.table.now c.args.kind)) c.args.mask _ c.value_kinds.result low.0 c.if-position-mask.true c.value_kinds.ensures
+    one_bit_kinds (enumerants_at (kind_of c.args.table.now c.args.kind)) c.args.mask _ c.value_kinds.result low.0
+    c.if-position-mask.true c.value_kinds.ensures

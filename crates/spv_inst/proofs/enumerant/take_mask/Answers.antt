@@ -6,7 +6,9 @@ use Rattle.spv_inst.proofs.enumerant.take_mask.Goals as goal
 
 pub returns-then-not-knows_bits-clause-refused : goal.returns-then-not-knows_bits-clause-refused
 returns-then-not-knows_bits-clause-refused c = λ us.
-    rw (c.new.ensures.rule, c.new.ensures.word) (mask_refused (enumerants_at (kind_of c.args.table.now c.args.kind)) c.args.mask us (sym c.if-not-knows_bits.ensures))
+    rw (c.new.ensures.rule, c.new.ensures.word)
+    (mask_refused (enumerants_at (kind_of c.args.table.now c.args.kind)) c.args.mask us
+    (sym c.if-not-knows_bits.ensures))
 
 pub returns-clause-taken : goal.returns-clause-taken
 returns-clause-taken c = mask_taken c.args.table.now c.args.kind c.args.mask (sym c.if-not-knows_bits.ensures)

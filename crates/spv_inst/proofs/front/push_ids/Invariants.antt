@@ -8,7 +8,8 @@ invariant-loop-at l = record {
   from : l.fn.first ≤ l.at;
   upto : l.at ≤ l.end;
   spare : vec_len l.operands + (l.end - l.at) ≤ vec_capacity l.operands;
-  items : l.operands.items ++ id_operands (between l.image l.at l.end) ≡ l.fn.operands.items ++ id_operands (between l.image l.fn.first l.end);
+  items : l.operands.items ++ id_operands (between l.image l.at l.end) ≡ l.fn.operands.items
+      ++ id_operands (between l.image l.fn.first l.end);
 }
 
 abbrev pub decreases-loop-at : goal.decreases-loop-at

@@ -10,7 +10,8 @@ returns-then-is_read-clause-read c = λ b know.
     let e : c.len-begin.result ≡ length c.args.operands.now.items = omega arith in
     let s1 = c.read_singles-rest.ensures.sofar b (pattern_of c.args.entry.now) know
     (rw (c.of-items.ensures, c.in_ok-reserve.ensures.items)
-    (at_begin G b c.args.place.opcode (pattern_of c.args.entry.now) c.args.scene.now.image.now c.args.place.first c.args.place.end c.len-begin.result c.args.operands.now.items e)) in
+    (at_begin G b c.args.place.opcode (pattern_of c.args.entry.now) c.args.scene.now.image.now c.args.place.first
+    c.args.place.end c.len-begin.result c.args.operands.now.items e)) in
     let d = c.if-is_read.ensures refl in
     words_end G (start b c.args.place.opcode) (pattern_of c.args.entry.now) _ _ _ _ _ _ _ (rw e at s1) d.0 d.1
 
@@ -20,7 +21,8 @@ returns-then-is_read-2-clause-read c = λ b know.
     let e : c.len-begin.result ≡ length c.args.operands.now.items = omega arith in
     let s1 = c.read_singles-rest.ensures.sofar b (pattern_of c.args.entry.now) know
     (rw (c.of-items.ensures, c.in_ok-reserve.ensures.items)
-    (at_begin G b c.args.place.opcode (pattern_of c.args.entry.now) c.args.scene.now.image.now c.args.place.first c.args.place.end c.len-begin.result c.args.operands.now.items e)) in
+    (at_begin G b c.args.place.opcode (pattern_of c.args.entry.now) c.args.scene.now.image.now c.args.place.first
+    c.args.place.end c.len-begin.result c.args.operands.now.items e)) in
     let s2 = c.read_parameters-rest.ensures.sofar b (pattern_of c.args.entry.now) know s1 in
     let d = c.if-is_read-2.ensures refl in
     words_end G (start b c.args.place.opcode) (pattern_of c.args.entry.now) _ _ _ _ _ _ _ (rw e at s2) d.0 d.1
@@ -31,7 +33,8 @@ returns-then-is_read-3-clause-read c = λ b know.
     let e : c.len-begin.result ≡ length c.args.operands.now.items = omega arith in
     let s1 = c.read_singles-rest.ensures.sofar b (pattern_of c.args.entry.now) know
     (rw (c.of-items.ensures, c.in_ok-reserve.ensures.items)
-    (at_begin G b c.args.place.opcode (pattern_of c.args.entry.now) c.args.scene.now.image.now c.args.place.first c.args.place.end c.len-begin.result c.args.operands.now.items e)) in
+    (at_begin G b c.args.place.opcode (pattern_of c.args.entry.now) c.args.scene.now.image.now c.args.place.first
+    c.args.place.end c.len-begin.result c.args.operands.now.items e)) in
     let s2 = c.read_parameters-rest.ensures.sofar b (pattern_of c.args.entry.now) know s1 in
     let s3 = c.read_run-rest.ensures.sofar b (pattern_of c.args.entry.now) know s2 in
     let d = c.if-is_read-3.ensures refl in
@@ -43,7 +46,8 @@ returns-clause-read c = λ b know.
     let e : c.len-begin.result ≡ length c.args.operands.now.items = omega arith in
     let s1 = c.read_singles-rest.ensures.sofar b (pattern_of c.args.entry.now) know
     (rw (c.of-items.ensures, c.in_ok-reserve.ensures.items)
-    (at_begin G b c.args.place.opcode (pattern_of c.args.entry.now) c.args.scene.now.image.now c.args.place.first c.args.place.end c.len-begin.result c.args.operands.now.items e)) in
+    (at_begin G b c.args.place.opcode (pattern_of c.args.entry.now) c.args.scene.now.image.now c.args.place.first
+    c.args.place.end c.len-begin.result c.args.operands.now.items e)) in
     let s2 = c.read_parameters-rest.ensures.sofar b (pattern_of c.args.entry.now) know s1 in
     let s3 = c.read_run-rest.ensures.sofar b (pattern_of c.args.entry.now) know s2 in
     rw e at (c.read_further.ensures.read b (pattern_of c.args.entry.now) know s3)
@@ -54,7 +58,8 @@ returns-clause-misfit c = λ b know.
     let e : c.len-begin.result ≡ length c.args.operands.now.items = omega arith in
     let s1 = c.read_singles-rest.ensures.sofar b (pattern_of c.args.entry.now) know
     (rw (c.of-items.ensures, c.in_ok-reserve.ensures.items)
-    (at_begin G b c.args.place.opcode (pattern_of c.args.entry.now) c.args.scene.now.image.now c.args.place.first c.args.place.end c.len-begin.result c.args.operands.now.items e)) in
+    (at_begin G b c.args.place.opcode (pattern_of c.args.entry.now) c.args.scene.now.image.now c.args.place.first
+    c.args.place.end c.len-begin.result c.args.operands.now.items e)) in
     let s2 = c.read_parameters-rest.ensures.sofar b (pattern_of c.args.entry.now) know s1 in
     let s3 = c.read_run-rest.ensures.sofar b (pattern_of c.args.entry.now) know s2 in
     c.read_further.ensures.misfit b (pattern_of c.args.entry.now) know s3

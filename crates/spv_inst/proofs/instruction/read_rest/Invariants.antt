@@ -18,8 +18,13 @@ invariant-loop-at l = record {
   kept : take l.begin l.operands.items ≡ take l.begin l.fn.operands.items;
   few : length l.operands.items + l.rest.at ≤ length l.fn.operands.items + l.at;
   turn : (before : List PlainInst) (pattern : List Item) → Knows l.scene.definitions.now before
-      → Sofar l.scene.table.now (start before l.place.opcode) (map due pattern) (between l.scene.image.now l.place.first l.place.end) (plain_operands (drop l.begin l.fn.operands.items)) (due_first l.rest.kinds.now l.rest.items.left.now) (between l.scene.image.now l.rest.at l.place.end) (l.rest.at - l.place.first)
-      → Turn l.scene.table.now l.scene.definitions.now l.known before l.place.opcode pattern l.scene.image.now l.place.first l.at l.place.end (plain_operands (drop l.begin l.operands.items)) (pending_due l.scene.table.now l.pending);
+      → Sofar l.scene.table.now (start before l.place.opcode) (map due pattern)
+      (between l.scene.image.now l.place.first l.place.end) (plain_operands (drop l.begin l.fn.operands.items))
+      (due_first l.rest.kinds.now l.rest.items.left.now) (between l.scene.image.now l.rest.at l.place.end)
+      (l.rest.at - l.place.first)
+      → Turn l.scene.table.now l.scene.definitions.now l.known before l.place.opcode pattern l.scene.image.now
+      l.place.first l.at l.place.end (plain_operands (drop l.begin l.operands.items))
+      (pending_due l.scene.table.now l.pending);
 }
 
 abbrev pub decreases-loop-at : goal.decreases-loop-at

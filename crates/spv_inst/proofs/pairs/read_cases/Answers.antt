@@ -31,7 +31,8 @@ loop-at-preserved c =
       room = p.room;
       kept = p.kept ∙ c.loop-at.invariant.kept;
       few = let l = p.length in omega arith;
-      width = λ b e. rw p.plain (width_kept b d _ _ c.args.bits (width_kept b d out _ c.args.bits (c.loop-at.invariant.width b e)));
+      width = λ b e. rw p.plain (width_kept b d _ _ c.args.bits
+          (width_kept b d out _ c.args.bits (c.loop-at.invariant.width b e)));
       spare =
           let s = c.loop-at.invariant.spare in
           let n1 = c.push_reserved.ensures.len in
@@ -41,6 +42,10 @@ loop-at-preserved c =
           omega arith;
       sofar = λ G b pattern x y ds q h e s.
           let m = c.loop-at.invariant.width b e in
-          let g : shape_of G (after (start b d) out) x ≡ AsNumber (Some c.args.bits) = rw (here_is b d out) (h (record { before = b; opcode = d; operands = out }) refl ∙ ap AsNumber m) in
-          rw p.plain (pair_next G (start b d) _ _ out ds x y c.args.image.now c.args.place.first c.loop-at.at c.args.place.end c.in-Ok.number.words (plain_operand o) _ q (c.loop-at.invariant.sofar G b pattern x y ds q h e s) (omega arith) (omega arith) c.requires.fits (rw g (c.in-Ok.ensures.taken x.kind)) c.word.ensures);
+          let g : shape_of G (after (start b d) out) x ≡ AsNumber (Some c.args.bits) = rw (here_is b d out)
+          (h (record { before = b; opcode = d; operands = out }) refl ∙ ap AsNumber m) in
+          rw p.plain (pair_next G (start b d) _ _ out ds x y c.args.image.now c.args.place.first c.loop-at.at
+          c.args.place.end c.in-Ok.number.words (plain_operand o) _ q
+          (c.loop-at.invariant.sofar G b pattern x y ds q h e s) (omega arith) (omega arith) c.requires.fits
+          (rw g (c.in-Ok.ensures.taken x.kind)) c.word.ensures);
     }

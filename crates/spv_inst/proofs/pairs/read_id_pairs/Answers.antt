@@ -30,5 +30,7 @@ loop-at-preserved c =
           let k2 = c.push_reserved-in-loop-at.ensures.capacity in
           omega arith;
       sofar = λ G b pattern x y ds q h s.
-          rw p.plain (id_pair_next G (start b c.args.place.opcode) _ _ _ ds x y c.args.image.now c.args.place.first c.loop-at.at c.args.place.end _ _ q h (c.loop-at.invariant.sofar G b pattern x y ds q h s) (omega arith) t c.requires.fits c.word.ensures c.word-in-loop-at.ensures);
+          rw p.plain (id_pair_next G (start b c.args.place.opcode) _ _ _ ds x y c.args.image.now c.args.place.first
+          c.loop-at.at c.args.place.end _ _ q h (c.loop-at.invariant.sofar G b pattern x y ds q h s)
+          (omega arith) t c.requires.fits c.word.ensures c.word-in-loop-at.ensures);
     }

@@ -15,9 +15,12 @@ invariant-loop-at l = record {
   kept : take l.begin l.operands.items ≡ take l.begin l.fn.operands.items;
   few : length l.operands.items + l.first ≤ length l.fn.operands.items + l.at;
   spare : vec_len l.operands + (l.place.end - l.at) ≤ vec_capacity l.operands;
-  sofar : (G : Table) (before : List PlainInst) (pattern : List Item) (a b : Slot) (ds : List Due) → IsPair G ds a b → ((c : Context) → shape_of G c a ≡ AsId)
-      → SofarAt G before l.place.opcode pattern l.image l.place.first l.place.end (drop l.begin l.fn.operands.items) ds l.first
-      → SofarAt G before l.place.opcode pattern l.image l.place.first l.place.end (drop l.begin l.operands.items) ds l.at;
+  sofar : (G : Table) (before : List PlainInst) (pattern : List Item) (a b : Slot) (ds : List Due) → IsPair G ds a b
+      → ((c : Context) → shape_of G c a ≡ AsId)
+      → SofarAt G before l.place.opcode pattern l.image l.place.first l.place.end
+      (drop l.begin l.fn.operands.items) ds l.first
+      → SofarAt G before l.place.opcode pattern l.image l.place.first l.place.end
+      (drop l.begin l.operands.items) ds l.at;
 }
 
 abbrev pub decreases-loop-at : goal.decreases-loop-at

@@ -9,7 +9,9 @@ returns c = λ G.
     rw e
     (behind _ _ _ (elim c.if-not-is_empty.branch [
       | then-not-is_empty+in_ok-push w ↦
-          kinds_pushed G c.args.frames.now.items c.if-not-is_empty.frames.items c.in-Some.left.now c.args.paired _ refl (ap (λ v. v.items) w.frames-is ∙ w.in_ok-push.ensures.items)
+          kinds_pushed G c.args.frames.now.items c.if-not-is_empty.frames.items c.in-Some.left.now c.args.paired _ refl
+          (ap (λ v. v.items) w.frames-is ∙ w.in_ok-push.ensures.items)
       | else-not-is_empty w ↦
-          no_kinds G c.args.frames.now.items c.if-not-is_empty.frames.items c.in-Some.left.now c.args.paired (by_empty _ w.if-not-is_empty.ensures) (ap (λ v. v.items) w.frames-is)
+          no_kinds G c.args.frames.now.items c.if-not-is_empty.frames.items c.in-Some.left.now c.args.paired
+          (by_empty _ w.if-not-is_empty.ensures) (ap (λ v. v.items) w.frames-is)
     ]))

@@ -8,4 +8,6 @@ pub returns-in_ok-push-in-Bits : goal.returns-in_ok-push-in-Bits
 returns-in_ok-push-in-Bits c =
     let G = c.args.table.now in
     rw c.in-Bits.is
-    (taken_of_bits G _ c.args.frames.now.items c.push.new.self.items _ c.in-Bits.kind c.in-Bits.mask c.in-Bits.position c.in-Some.found.position c.in-Some.found.kinds.now c.in-Some.ensures.0 c.in-Some.ensures.1 c.in_ok-push-in-Bits.ensures.items (c.take_first-in-Bits.ensures G))
+    (taken_of_bits G _ c.args.frames.now.items c.push.new.self.items _ c.in-Bits.kind c.in-Bits.mask c.in-Bits.position
+    c.in-Some.found.position c.in-Some.found.kinds.now c.in-Some.ensures.0 c.in-Some.ensures.1
+    c.in_ok-push-in-Bits.ensures.items (c.take_first-in-Bits.ensures G))

@@ -17,17 +17,22 @@ loop-left-preserved c =
     let t = c.loop-left-test.true in
     let q = c.requires.within.0 in
     let l = length-append os (o ∷ []) in
-    let pl : plain_operands (drop n (os ++ (o ∷ []))) ≡ plain_operands (drop n os ++ (o ∷ [])) = ap plain_operands (drop-append-le n os (o ∷ []) r) in
+    let pl : plain_operands (drop n (os ++ (o ∷ []))) ≡ plain_operands (drop n os ++ (o ∷ [])) = ap plain_operands
+    (drop-append-le n os (o ∷ []) r) in
     record {
       from = omega arith;
       upto = omega arith;
       room = rw i (omega arith);
       kept = rw (i, take-append-le n os (o ∷ []) r) c.loop-left.invariant.kept;
       few = rw i (omega arith);
-      spare = let s = c.loop-left.invariant.spare in let n = c.push_reserved.ensures.len in let k = c.push_reserved.ensures.capacity in omega arith;
+      spare = let s = c.loop-left.invariant.spare in let n = c.push_reserved.ensures.len in
+          let k = c.push_reserved.ensures.capacity in omega arith;
       sofar = λ b pattern know s.
           let G = c.args.scene.now.table.now in
-          word_next G (start b c.args.place.opcode) _ _ _ _ _ _ _ c.in-Some.kind.now [] c.args.scene.now.image.now c.args.place.first c.loop-left.left.at c.args.place.end _ _ (c.loop-left.invariant.sofar b pattern know s) (omega arith) t c.requires.fits (rw c.in-Some.ensures.cases.0 refl)
+          word_next G (start b c.args.place.opcode) _ _ _ _ _ _ _ c.in-Some.kind.now [] c.args.scene.now.image.now
+          c.args.place.first c.loop-left.left.at c.args.place.end _ _ (c.loop-left.invariant.sofar b pattern know s)
+          (omega arith) t c.requires.fits (rw c.in-Some.ensures.cases.0 refl)
           c.word.ensures
-          (c.in-Some-bare_in_form.ensures G _ _ (c.form_in-form.ensures G c.requires.forms)) (rw i (pl ∙ plain-push (drop n os) _ o refl)) refl;
+          (c.in-Some-bare_in_form.ensures G _ _ (c.form_in-form.ensures G c.requires.forms))
+          (rw i (pl ∙ plain-push (drop n os) _ o refl)) refl;
     }

@@ -15,8 +15,10 @@ invariant-loop-left l = record {
   few : length l.operands.items + l.rest.at ≤ length l.fn.operands.items + l.left.at;
   spare : vec_len l.operands + (l.place.end - l.left.at) ≤ vec_capacity l.operands;
   sofar : (before : List PlainInst) (pattern : List Item) → Knows l.scene.definitions.now before
-      → SofarAt l.scene.table.now before l.place.opcode pattern l.scene.image.now l.place.first l.place.end (drop l.begin l.fn.operands.items) (due_first l.rest.kinds.now l.rest.items.left.now) l.rest.at
-      → SofarAt l.scene.table.now before l.place.opcode pattern l.scene.image.now l.place.first l.place.end (drop l.begin l.operands.items) (due_first l.left.kinds.now l.left.items.left.now) l.left.at;
+      → SofarAt l.scene.table.now before l.place.opcode pattern l.scene.image.now l.place.first l.place.end
+      (drop l.begin l.fn.operands.items) (due_first l.rest.kinds.now l.rest.items.left.now) l.rest.at
+      → SofarAt l.scene.table.now before l.place.opcode pattern l.scene.image.now l.place.first l.place.end
+      (drop l.begin l.operands.items) (due_first l.left.kinds.now l.left.items.left.now) l.left.at;
 }
 
 abbrev pub decreases-loop-left : goal.decreases-loop-left

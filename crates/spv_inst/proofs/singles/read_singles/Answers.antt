@@ -19,20 +19,26 @@ loop-left-preserved c =
     let t = c.loop-left-test.true in
     let wa = c.in-Some-push_next.ensures.within.0 in
     let wb = c.in-Some-push_next.ensures.within.1 in
-    let none : c.loop-left.left.kinds.now ≡ [] = by_empty c.loop-left.left.kinds.now (sym c.if-is_empty.true ∙ c.is_empty.ensures) in
+    let none : c.loop-left.left.kinds.now ≡ [] = by_empty c.loop-left.left.kinds.now
+    (sym c.if-is_empty.true ∙ c.is_empty.ensures) in
     let l = length-append os (o ∷ []) in
-    let pl : plain_operands (drop n (os ++ (o ∷ []))) ≡ plain_operands (drop n os ++ (o ∷ [])) = ap plain_operands (drop-append-le n os (o ∷ []) r) in
+    let pl : plain_operands (drop n (os ++ (o ∷ []))) ≡ plain_operands (drop n os ++ (o ∷ [])) = ap plain_operands
+    (drop-append-le n os (o ∷ []) r) in
     record {
       from = omega arith;
       upto = omega arith;
       room = rw i (omega arith);
       kept = rw (i, take-append-le n os (o ∷ []) r) c.loop-left.invariant.kept;
       few = rw i (omega arith);
-      spare = let s = c.loop-left.invariant.spare in let n = c.in-Some-push_next.ensures.len in let k = c.push_next.ensures.capacity in omega arith;
+      spare = let s = c.loop-left.invariant.spare in let n = c.in-Some-push_next.ensures.len in
+          let k = c.push_next.ensures.capacity in omega arith;
       sofar = λ b pattern know s.
           let G = c.args.scene.now.table.now in
           let h = here_is b c.args.place.opcode (plain_operands (drop n os)) in
           let k = p.taken _ (rw h know) (rw h refl) in
-          words_next G (start b c.args.place.opcode) _ _ _ _ _ _ _ c.in-Some.kind c.in-Some-push_next.pushed.kinds.now c.args.scene.now.image.now c.args.place.first c.loop-left.left.at c.args.place.end _ _ (c.loop-left.invariant.sofar b pattern know s) (omega arith) t c.requires.fits wb (rw none c.in-Some.ensures)
+          words_next G (start b c.args.place.opcode) _ _ _ _ _ _ _ c.in-Some.kind c.in-Some-push_next.pushed.kinds.now
+          c.args.scene.now.image.now c.args.place.first c.loop-left.left.at c.args.place.end _ _
+          (c.loop-left.invariant.sofar b pattern know s) (omega arith) t c.requires.fits wb
+          (rw none c.in-Some.ensures)
           k (rw i (pl ∙ plain-push (drop n os) _ o refl)) refl;
     }

@@ -1,4 +1,5 @@
-use Rattle.spv_lines.proofs.Worked.{volatile, numbered_one, both_named, both_numbered, wrong_order, wrong_part, shown_none}
+use Rattle.spv_lines.proofs.Worked.{volatile, numbered_one, both_named, both_numbered, wrong_order, wrong_part}
+use Rattle.spv_lines.proofs.Worked.{shown_none}
 use Rattle.spv_lines.proofs.examples.name_examples.Goals as goal
 
 pub returns-clause-named : goal.returns-clause-named

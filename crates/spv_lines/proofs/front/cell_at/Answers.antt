@@ -1,7 +1,8 @@
 use Rattle.std.proofs.Common.{◌≢◌, ◌<◌, ◌^◌, arith, length, get_or}
 use Rattle.spv_lines.proofs.Fronts.{front_before, front_whole}
 use Rattle.spv_lines.proofs.front.cell_at.Goals as goal
-use Rattle.spv_lines.proofs.front.cell_at.Goals.{else-at-gt1-via-then-at-gt1+else-octets-eq48, else-at-gt1-via-else-at-gt1}
+use Rattle.spv_lines.proofs.front.cell_at.Goals.{else-at-gt1-via-then-at-gt1+else-octets-eq48}
+use Rattle.spv_lines.proofs.front.cell_at.Goals.{else-at-gt1-via-else-at-gt1}
 
 pub returns-then-at-octets : goal.returns-then-at-octets
 returns-then-at-octets c =
@@ -24,4 +25,5 @@ returns c =
       | else-at-gt1-via-then-at-gt1+else-octets-eq48 w ↦ λ _. rw v at w.if-octets-eq48.false
       | else-at-gt1-via-else-at-gt1 w ↦ λ m. absurd (omega (arith, w.if-at-gt1.false))
     ] in
-    rw c.split_before.ensures.back (front_before c.args.text.now c.args.at c.args.number (omega arith) l z c.requires.digits c.requires.value n (c.requires.ended l))
+    rw c.split_before.ensures.back (front_before c.args.text.now c.args.at c.args.number
+    (omega arith) l z c.requires.digits c.requires.value n (c.requires.ended l))

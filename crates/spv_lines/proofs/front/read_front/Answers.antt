@@ -12,6 +12,7 @@ loop-at-preserved c =
     let h : i + 1 ≤ length xs = let t = c.loop-at-test.true in omega (arith, t) in
     record {
       within = h;
-      digits = digits_more xs i c.loop-at-test.true c.if-octet-lt48.false c.if-octet-gt57.false c.loop-at.invariant.digits;
+      digits = digits_more xs i c.loop-at-test.true c.if-octet-lt48.false c.if-octet-gt57.false
+          c.loop-at.invariant.digits;
       value = rw (m, v, f) refl;
     }

@@ -21,11 +21,13 @@ overflow_add-word c =
     omega arith
 
 pub returns-in_default : goal.returns-in_default
-returns-in_default c = λ x h e. no_digit c.args.text.now c.loop-octet.octet-index x c.loop-octet-test.true c.in_default.ensures e
+returns-in_default c =
+    λ x h e. no_digit c.args.text.now c.loop-octet.octet-index x c.loop-octet-test.true c.in_default.ensures e
 
 pub loop-octet-preserved : goal.loop-octet-preserved
 loop-octet-preserved c =
-    rw c.from.ensures (hex_more c.args.text.now c.loop-octet.octet-index c.loop-octet.word c.in-Some.digit c.loop-octet-test.true c.loop-octet.invariant c.in-Some.ensures.0 c.in-Some.ensures.1)
+    rw c.from.ensures (hex_more c.args.text.now c.loop-octet.octet-index c.loop-octet.word c.in-Some.digit
+    c.loop-octet-test.true c.loop-octet.invariant c.in-Some.ensures.0 c.in-Some.ensures.1)
 
 pub returns : goal.returns
 returns c =

@@ -9,5 +9,7 @@ returns c =
     let m = rw v at c.in-Some-memchr3.ensures in
     let front = c.split_before.result.0.now in
     let back = c.split_before.result.1.now in
-    let w = within_cut u [] front u front back c.in-Some-memchr3.at (within_first u) c.split_before.ensures.front c.split_before.ensures.back (λ k l. m.0.before k (omega arith) l) refl in
+    let w = within_cut u [] front u front back c.in-Some-memchr3.at
+    (within_first u) c.split_before.ensures.front c.split_before.ensures.back
+    (λ k l. m.0.before k (omega arith) l) refl in
     within_end u front back c.in-Some-behind.rest.now c.args.text.now w c.in-Some-behind.ensures c.in-Some.ensures

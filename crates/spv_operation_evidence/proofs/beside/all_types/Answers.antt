@@ -15,7 +15,9 @@ pub loop-t-preserved : goal.loop-t-preserved
 loop-t-preserved c =
     let ts = c.args.types.now in
     let k = c.loop-t.t-index in
-    c.in_ok-push.ensures.items ∙ item_next ts k _ (option_to_list c.args.r) c.loop-t.read.items (slice_get-get_or ts k _ c.loop-t-test.true) c.loop-t.invariant
+    c.in_ok-push.ensures.items ∙ item_next ts k _ (option_to_list c.args.r) c.loop-t.read.items
+    (slice_get-get_or ts k _ c.loop-t-test.true) c.loop-t.invariant
 
 pub returns : goal.returns
-returns c = items_all c.args.types.now c.loop-t.t-index (option_to_list c.args.r) c.loop-t.read.items c.loop-t-test.false c.loop-t.invariant
+returns c = items_all c.args.types.now c.loop-t.t-index
+    (option_to_list c.args.r) c.loop-t.read.items c.loop-t-test.false c.loop-t.invariant

@@ -11,7 +11,8 @@ unreachable-requires c =
     let l = length-map c.args.inst.now.operands plain_operand in
     let e = ap (λ xs. length xs) c.as_slice-k-end.ensures.value in
     let within : c.loop-k.k < length i.operands = let t = c.loop-k-test.true in omega arith in
-    value_typed c.requires.0 c.args.definitions.now i c.loop-k.k c.in-Some.id c.requires.1 within c.in-Some.ensures (sym c.in_default-type_of.ensures)
+    value_typed c.requires.0 c.args.definitions.now i c.loop-k.k c.in-Some.id c.requires.1 within c.in-Some.ensures
+    (sym c.in_default-type_of.ensures)
 
 pub loop-k-preserved : goal.loop-k-preserved
 loop-k-preserved c =
@@ -20,8 +21,13 @@ loop-k-preserved c =
     let e = ap (λ xs. length xs) c.as_slice-k-end.ensures.value in
     let within : c.loop-k.k < length i.operands = let t = c.loop-k-test.true in omega arith in
     elim c.match-value_at.branch [
-      | in-Some+in-Some-type_of+in_ok-push w ↦ rw (w.values-is, w.in_ok-push.ensures.items) (one_more c.requires.0 c.args.definitions.now i c.loop-k.k w.in-Some.id w.in-Some-type_of.of c.loop-k.values.items c.requires.1 within w.in-Some.ensures (sym w.in-Some-type_of.ensures) c.loop-k.invariant)
-      | in_default w ↦ rw w.values-is (none_more c.args.definitions.now i c.loop-k.k c.loop-k.values.items within w.in_default.ensures c.loop-k.invariant)
+      | in-Some+in-Some-type_of+in_ok-push w ↦
+          rw (w.values-is, w.in_ok-push.ensures.items)
+          (one_more c.requires.0 c.args.definitions.now i c.loop-k.k w.in-Some.id
+          w.in-Some-type_of.of c.loop-k.values.items c.requires.1 within w.in-Some.ensures
+          (sym w.in-Some-type_of.ensures) c.loop-k.invariant)
+      | in_default w ↦ rw w.values-is (none_more c.args.definitions.now i c.loop-k.k c.loop-k.values.items within
+          w.in_default.ensures c.loop-k.invariant)
     ]
 
 pub returns-clause-typed : goal.returns-clause-typed

@@ -7,7 +7,9 @@ pub loop-value-preserved : goal.loop-value-preserved
 loop-value-preserved c =
     let vs = c.args.values.now in
     let k = c.loop-value.value-index in
-    c.in_ok-push.ensures.items ∙ types_next vs k _ c.loop-value.types.items (slice_get-get_or vs k _ c.loop-value-test.true) c.loop-value.invariant
+    c.in_ok-push.ensures.items ∙ types_next vs k _ c.loop-value.types.items
+    (slice_get-get_or vs k _ c.loop-value-test.true) c.loop-value.invariant
 
 pub returns : goal.returns
-returns c = types_all c.args.values.now c.loop-value.value-index c.loop-value.types.items c.loop-value-test.false c.loop-value.invariant
+returns c = types_all c.args.values.now c.loop-value.value-index c.loop-value.types.items c.loop-value-test.false
+    c.loop-value.invariant

@@ -10,7 +10,8 @@ pub returns-then-is_value : goal.returns-then-is_value
 returns-then-is_value c = λ G fits.
     let i = plain_inst c.args.inst.now in
     let on : is_value c.role.result ≡ true = sym c.is_value.ensures ∙ c.if-is_value.true in
-    let x : c.id_at.result ≡ option_and_then id_in (slice_get i.operands c.args.k) = c.id_at.ensures ∙ ap (λ os. option_and_then id_in (slice_get (plain_operands os) c.args.k)) c.as_slice.ensures.value in
+    let x : c.id_at.result ≡ option_and_then id_in (slice_get i.operands c.args.k) = c.id_at.ensures
+    ∙ ap (λ os. option_and_then id_in (slice_get (plain_operands os) c.args.k)) c.as_slice.ensures.value in
     value_told G i c.args.k c.role.result c.id_at.result (c.role.ensures G fits) on x
 
 pub returns-else-is_value : goal.returns-else-is_value

@@ -14,7 +14,9 @@ returns-then-is_typed-2 c =
     elim c.if-is_typed.branch [
       | then-is_typed w ↦
           let x : has_type is r a ≡ true = cc in
-          let y : has_type is r b ≡ true = cc in
-          (λ h. two_calculated is s r a b x y (c.has_sort.ensures.0 h), λ h. c.has_sort.ensures.1 (two_given is s r a b h).2)
+          let y : has_type is r b ≡ true = cc in (
+            λ h. two_calculated is s r a b x y (c.has_sort.ensures.0 h),
+            λ h. c.has_sort.ensures.1 (two_given is s r a b h).2,
+          )
       | else-is_typed w ↦ absurd (let no : false ≡ true = cc in cc)
     ]

@@ -5,4 +5,6 @@ use Rattle.spv_ops.specs.inner.Tests.{left_of_all}
 use Rattle.spv_ops.proofs.construct.left_after_all.Given as goal
 
 abbrev pub invariant-loop-operand : goal.invariant-loop-operand
-invariant-loop-operand l = left_of_all l.definitions l.c l.n (ids_in (plain_operands l.operands)) ≡ left_of_all l.definitions l.c l.left (ids_in (plain_operands (drop l.operand-index l.operands)))
+invariant-loop-operand l =
+    left_of_all l.definitions l.c l.n (ids_in (plain_operands l.operands)) ≡ left_of_all l.definitions l.c l.left
+    (ids_in (plain_operands (drop l.operand-index l.operands)))

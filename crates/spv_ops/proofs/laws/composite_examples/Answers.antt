@@ -13,12 +13,23 @@ returns-clause-insert_dynamic c = ((tt, refl), (refl, ((4, refl), ((64, refl), t
 
 pub returns-clause-shuffle : goal.returns-clause-shuffle
 unfolding lines
-returns-clause-shuffle c = ((tt, refl), ((1, 4, refl), ((1, 2, 4, refl, refl), ((1, 2, 4, refl, refl), ((1, refl), ((inl (omega arith), (inr refl, tt)), tt))))))
+returns-clause-shuffle c = (
+  (tt, refl),
+  (
+    (1, 4, refl),
+    (
+      (1, 2, 4, refl, refl),
+      ((1, 2, 4, refl, refl), ((1, refl), ((inl (omega arith), (inr refl, tt)), tt))),
+    ),
+  ),
+)
 
 pub returns-clause-extract : goal.returns-clause-extract
 unfolding lines
-returns-clause-extract c = ((tt, refl), (λ e. cc, (AreWithin.more 6 1 2 2 [] refl (omega arith) refl (AreWithin.none 2), (refl, tt))))
+returns-clause-extract c =
+    ((tt, refl), (λ e. cc, (AreWithin.more 6 1 2 2 [] refl (omega arith) refl (AreWithin.none 2), (refl, tt))))
 
 pub returns-clause-insert : goal.returns-clause-insert
 unfolding lines
-returns-clause-insert c = ((tt, refl), (refl, (λ e. cc, (AreWithin.more 6 1 2 2 [] refl (omega arith) refl (AreWithin.none 2), (refl, tt)))))
+returns-clause-insert c =
+    ((tt, refl), (refl, (λ e. cc, (AreWithin.more 6 1 2 2 [] refl (omega arith) refl (AreWithin.none 2), (refl, tt)))))

@@ -5,7 +5,14 @@ use Rattle.spv_ops.proofs.laws.typed_examples.Goals as goal
 
 pub returns-clause-add : goal.returns-clause-add
 unfolding lines
-returns-clause-add c = inr (5 ∷ 5 ∷ [], 1 ∷ 1 ∷ [], record { forms = _; has = add_forms; values = refl }, refl, ((tt, refl), (refl, (refl, (refl, tt)))))
+returns-clause-add c =
+    inr (
+      5 ∷ 5 ∷ [],
+      1 ∷ 1 ∷ [],
+      record { forms = _; has = add_forms; values = refl },
+      refl,
+      ((tt, refl), (refl, (refl, (refl, tt)))),
+    )
 
 pub returns-clause-at : goal.returns-clause-at
 unfolding lines

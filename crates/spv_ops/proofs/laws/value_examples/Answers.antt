@@ -15,4 +15,5 @@ differ xs a b = cc
 
 pub returns-clause-not_first : goal.returns-clause-not_first
 unfolding lines
-returns-clause-not_first c = λ v. differ (used_in v.forms to_member.operands) v.values (values_agree table to_member v.forms v.has (λ e. cc))
+returns-clause-not_first c =
+    λ v. differ (used_in v.forms to_member.operands) v.values (values_agree table to_member v.forms v.has (λ e. cc))

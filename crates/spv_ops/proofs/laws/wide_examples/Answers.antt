@@ -9,7 +9,8 @@ returns-clause-chain c = ((6, refl), ((32, refl), (refl, ((2, refl), ((5, 2, 6, 
 
 pub returns-clause-element : goal.returns-clause-element
 unfolding lines
-returns-clause-element c = ((6, refl), ((32, refl), ((32, refl), (refl, ((2, refl), ((5, 2, 6, refl, refl), (refl, tt)))))))
+returns-clause-element c =
+    ((6, refl), ((32, refl), ((32, refl), (refl, ((2, refl), ((5, 2, 6, refl, refl), (refl, tt)))))))
 
 pub returns-clause-construct : goal.returns-clause-construct
 unfolding lines

@@ -14,11 +14,15 @@ use Rattle.spv_ops.proofs.typed.row_holds.Goals as goal
 pub gathered_holds-requires-clause-counted : goal.gathered_holds-requires-clause-counted
 gathered_holds-requires-clause-counted c =
     let i = plain_inst c.args.inst.now in
-    counted c.args.found.first (sym (places_first i.opcode c.args.found.first (sym c.requires.first)) ∙ sym c.requires.places ∙ c.in-Ids.is)
+    counted c.args.found.first (sym (places_first i.opcode c.args.found.first (sym c.requires.first))
+    ∙ sym c.requires.places ∙ c.in-Ids.is)
 
 pub returns-in-Free : goal.returns-in-Free
-returns-in-Free c =
-    (λ _. free_holds c.args.definitions.now c.args.number (plain_inst c.args.inst.now) (sym c.requires.places ∙ c.in-Free.is), λ _. refl)
+returns-in-Free c = (
+  λ _. free_holds c.args.definitions.now c.args.number (plain_inst c.args.inst.now)
+      (sym c.requires.places ∙ c.in-Free.is),
+  λ _. refl,
+)
 
 pub returns-in-Nothing : goal.returns-in-Nothing
 returns-in-Nothing c =
@@ -31,7 +35,8 @@ returns-in-Nothing c =
     let result : result_type_in i.operands ≡ r = sym (c.result_type-r.ensures ∙ ap result_type_in operands) in
     let rest : after_head i.operands ≡ os = sym (c.after_head-rest.ensures ∙ ap after_head operands) in
     let asks = asks_first i.opcode c.args.found.first (sym c.requires.first) in
-    iff_to c.line_holds.ensures (typed_by is n i places.Nothing (asks_of c.args.found.first) r os (sym c.requires.places ∙ c.in-Nothing.is) asks result rest)
+    iff_to c.line_holds.ensures (typed_by is n i places.Nothing (asks_of c.args.found.first) r os
+    (sym c.requires.places ∙ c.in-Nothing.is) asks result rest)
 
 pub returns-in-Ids : goal.returns-in-Ids
 returns-in-Ids c =
@@ -44,7 +49,8 @@ returns-in-Ids c =
     let result : result_type_in i.operands ≡ r = sym (c.result_type-r.ensures ∙ ap result_type_in operands) in
     let rest : after_head i.operands ≡ os = sym (c.after_head-rest.ensures ∙ ap after_head operands) in
     let asks = asks_first i.opcode c.args.found.first (sym c.requires.first) in
-    iff_to c.gathered_holds.ensures (typed_by is n i places.Ids (asks_of c.args.found.first) r os (sym c.requires.places ∙ c.in-Ids.is) asks result rest)
+    iff_to c.gathered_holds.ensures (typed_by is n i places.Ids (asks_of c.args.found.first) r os
+    (sym c.requires.places ∙ c.in-Ids.is) asks result rest)
 
 pub returns-in-One : goal.returns-in-One
 returns-in-One c =
@@ -57,7 +63,8 @@ returns-in-One c =
     let result : result_type_in i.operands ≡ r = sym (c.result_type-r.ensures ∙ ap result_type_in operands) in
     let rest : after_head i.operands ≡ os = sym (c.after_head-rest.ensures ∙ ap after_head operands) in
     let asks = asks_first i.opcode c.args.found.first (sym c.requires.first) in
-    iff_to c.one_holds.ensures (typed_by is n i places.One (asks_of c.args.found.first) r os (sym c.requires.places ∙ c.in-One.is) asks result rest)
+    iff_to c.one_holds.ensures (typed_by is n i places.One (asks_of c.args.found.first) r os
+    (sym c.requires.places ∙ c.in-One.is) asks result rest)
 
 pub returns-in-Some : goal.returns-in-Some
 returns-in-Some c =
@@ -68,9 +75,12 @@ returns-in-Some c =
     let place : places_of i.opcode ≡ p = sym c.requires.places in
     let wide = wide_place p c.in-Many.is in
     let operands = ap plain_operands c.as_slice-operands.ensures.value in
-    let rest : plain_operands c.after_head-rest.result.now ≡ after_head i.operands = c.after_head-rest.ensures ∙ ap after_head operands in
-    let result : result_type_in i.operands ≡ Some c.in-Some.r = sym (ap result_type_in operands) ∙ sym c.result_type-r.ensures ∙ c.in-Some.is in
-    let held = subst (λ (os : List Plain). IsTrue c.wide_holds.result ↔ IsWide c.args.found.first is n c.in-Some.r os) rest c.wide_holds.ensures in
+    let rest : plain_operands c.after_head-rest.result.now ≡ after_head i.operands = c.after_head-rest.ensures
+    ∙ ap after_head operands in
+    let result : result_type_in i.operands ≡ Some c.in-Some.r = sym (ap result_type_in operands)
+    ∙ sym c.result_type-r.ensures ∙ c.in-Some.is in
+    let held = subst (λ (os : List Plain). IsTrue c.wide_holds.result ↔ IsWide c.args.found.first is n c.in-Some.r os)
+    rest c.wide_holds.ensures in
     iff_to held (iff_to (wide_told is n i c.args.found.first c.in-Some.r p c.requires.first place wide)
     (typed_by is n i p (asks_of i.opcode) (Some c.in-Some.r) (after_head i.operands) place refl result refl))
 
@@ -83,7 +93,9 @@ returns-in-None c =
     let place : places_of i.opcode ≡ p = sym c.requires.places in
     let wide = wide_place p c.in-Many.is in
     let operands = ap plain_operands c.as_slice-operands.ensures.value in
-    let result : result_type_in i.operands ≡ None = sym (ap result_type_in operands) ∙ sym c.result_type-r.ensures ∙ c.in-None.is in (
+    let result : result_type_in i.operands ≡ None = sym (ap result_type_in operands) ∙ sym c.result_type-r.ensures
+    ∙ c.in-None.is in (
       λ h. absurd (let no : false ≡ true = h in cc),
-      λ h. absurd (wide_result is n i p place wide ((typed_by is n i p (asks_of i.opcode) None (after_head i.operands) place refl result refl).1 h)),
+      λ h. absurd (wide_result is n i p place wide
+          ((typed_by is n i p (asks_of i.opcode) None (after_head i.operands) place refl result refl).1 h)),
     )

@@ -8,4 +8,5 @@ returns-in-None c = λ before i h k. same_kept c.args.definitions.now before i (
 
 pub returns-in-Some : goal.returns-in-Some
 returns-in-Some c =
-    on_ok c.add_result.result _ _ (λ p before i h k. p before i (sym h.result ∙ c.in-Some.is) (sym h.type_id) (sym h.opcode) (sym h.width) k) c.add_result.ensures.knows
+    on_ok c.add_result.result _ _ (λ p before i h k. p before i (sym h.result ∙ c.in-Some.is) (sym h.type_id)
+    (sym h.opcode) (sym h.width) k) c.add_result.ensures.knows

@@ -14,22 +14,29 @@ returns-in_err-header-clause-failed c =
 
 pub returns-in_err-assemble_lines-clause-failed : goal.returns-in_err-assemble_lines-clause-failed
 returns-in_err-assemble_lines-clause-failed c =
-    let q = err_from_is_err_and c.from_residual-in_err-assemble_lines.result c.from_residual-in_err-assemble_lines.ensures.1 in
+    let q = err_from_is_err_and c.from_residual-in_err-assemble_lines.result
+    c.from_residual-in_err-assemble_lines.ensures.1 in
     let h = c.in_ok-header.ensures in
-    rw (q.1, q.2) (text_failed c.args.table.now c.args.text.now c.in_ok-header.header (lines_of c.in_ok-header.rest.now) _ _ h.fits h.small h.lines c.in_err-assemble_lines.ensures.failed)
+    rw (q.1, q.2) (text_failed c.args.table.now c.args.text.now c.in_ok-header.header
+    (lines_of c.in_ok-header.rest.now) _ _ h.fits h.small h.lines c.in_err-assemble_lines.ensures.failed)
 
 pub returns-clause-read : goal.returns-clause-read
 returns-clause-read c =
     let h = c.in_ok-header.ensures in
     let o = c.in_ok-put_words.ensures ∙ ap (λ z. z ++ five_words c.in_ok-header.header) c.new-draft.ensures in
-    text_read c.args.table.now c.args.text.now c.in_ok-header.header (lines_of c.in_ok-header.rest.now) c.put_words.new.draft c.assemble_lines.new.draft c.finish.result h.fits h.small h.lines o c.in_ok-assemble_lines.ensures.read c.finish.ensures
+    text_read c.args.table.now c.args.text.now c.in_ok-header.header
+    (lines_of c.in_ok-header.rest.now) c.put_words.new.draft c.assemble_lines.new.draft c.finish.result h.fits
+    h.small h.lines o c.in_ok-assemble_lines.ensures.read c.finish.ensures
 
 pub returns-in_err-header-clause-memory : goal.returns-in_err-header-clause-memory
-returns-in_err-header-clause-memory c = λ ws f w n s. memory_by c.args.table.now ws c.args.text.now c.from_residual.result (returns-in_err-header-clause-failed c) c.kind.ensures.whole f w n s
+returns-in_err-header-clause-memory c =
+    λ ws f w n s. memory_by c.args.table.now ws c.args.text.now c.from_residual.result
+    (returns-in_err-header-clause-failed c) c.kind.ensures.whole f w n s
 
 pub returns-in_err-assemble_lines-clause-memory : goal.returns-in_err-assemble_lines-clause-memory
 returns-in_err-assemble_lines-clause-memory c =
-    λ ws f w n s. memory_by c.args.table.now ws c.args.text.now c.from_residual-in_err-assemble_lines.result (returns-in_err-assemble_lines-clause-failed c) c.kind.ensures.whole f w n s
+    λ ws f w n s. memory_by c.args.table.now ws c.args.text.now c.from_residual-in_err-assemble_lines.result
+    (returns-in_err-assemble_lines-clause-failed c) c.kind.ensures.whole f w n s
 
 pub returns-clause-again : goal.returns-clause-again
 returns-clause-again c = λ ws f w n s.

@@ -10,7 +10,9 @@ returns-in_err-line-clause-failed c =
 
 pub returns-in_err-put_instruction-clause-failed : goal.returns-in_err-put_instruction-clause-failed
 returns-in_err-put_instruction-clause-failed c =
-    let q = err_from_is_err_and c.from_residual-in_err-put_instruction.result c.from_residual-in_err-put_instruction.ensures.1 in
+    let q = err_from_is_err_and c.from_residual-in_err-put_instruction.result
+    c.from_residual-in_err-put_instruction.ensures.1 in
     λ before k.
     let f = rw c.as_slice.ensures.value at c.in_err-put_instruction.ensures.long in
-    rw (q.1, q.2) (long_failed c.args.setting.now.table.now before c.args.line.now c.read_line.new.buffers.words.items (length c.args.draft.now) c.in_ok-line.line _ (c.in_ok-line.ensures.read before k) f)
+    rw (q.1, q.2) (long_failed c.args.setting.now.table.now before c.args.line.now c.read_line.new.buffers.words.items
+    (length c.args.draft.now) c.in_ok-line.line _ (c.in_ok-line.ensures.read before k) f)

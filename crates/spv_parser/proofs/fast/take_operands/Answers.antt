@@ -22,8 +22,11 @@ loop-next-preserved c = (
       let n = c.in-Some.next in
       let t = c.in-Some-cell.taken in
       let z = fast_has G line before opcode pattern c.args.operands.now _ l.rest.now l.words.items a in
-      let h = rw c.in-Some-cell.is at (c.in_ok-cell.ensures.taken line (context_of before opcode a.so_far.operands) z refl k) in
-      fast_more G line before opcode pattern _ t.kinds.now n.kinds.now c.in-Some-joined.due.now n.items.left.now c.args.operands.now l.rest.now t.rest.now l.words.items _ (alone n.kind) c.is_empty-more.result a c.is_empty-more.ensures c.in-Some.ensures h
+      let h = rw c.in-Some-cell.is at (c.in_ok-cell.ensures.taken line
+      (context_of before opcode a.so_far.operands) z refl k) in
+      fast_more G line before opcode pattern _ t.kinds.now n.kinds.now c.in-Some-joined.due.now n.items.left.now
+      c.args.operands.now l.rest.now t.rest.now l.words.items _
+      (alone n.kind) c.is_empty-more.result a c.is_empty-more.ensures c.in-Some.ensures h
       c.in-Some-joined.ensures,
   c.take_operand.ensures.seen,
 )
@@ -41,10 +44,14 @@ loop-next-smaller c =
     let n = c.in-Some.next in
     let t = c.in-Some-cell.taken in
     let z = fast_has G line before opcode pattern c.args.operands.now _ l.rest.now l.words.items a in
-    let h = rw c.in-Some-cell.is at (c.in_ok-cell.ensures.taken line (context_of before opcode a.so_far.operands) z refl k) in
-    fast_nearer G line before opcode pattern _ c.args.operands.now l.rest.now t.rest.now l.words.items l.words.items _ t.kinds.now (alone n.kind) a h
+    let h = rw c.in-Some-cell.is at (c.in_ok-cell.ensures.taken line
+    (context_of before opcode a.so_far.operands) z refl k) in
+    fast_nearer G line before opcode pattern _ c.args.operands.now l.rest.now t.rest.now l.words.items l.words.items _
+    t.kinds.now (alone n.kind) a h
 
 pub returns-in_default-clause-read : goal.returns-in_default-clause-read
 returns-in_default-clause-read c = λ before m k.
     let l = c.loop-next in
-    fast_done c.args.setting.now.table.now c.args.start.line before c.args.opcode (map due (items_of c.args.pattern.now)) _ c.args.operands.now l.rest.now l.words.items _ c.is_empty-more.result (l.invariant.1 before m) c.requires.no_width c.is_empty-more.ensures c.in_default.ensures refl k
+    fast_done c.args.setting.now.table.now c.args.start.line before c.args.opcode
+    (map due (items_of c.args.pattern.now)) _ c.args.operands.now l.rest.now l.words.items _ c.is_empty-more.result
+    (l.invariant.1 before m) c.requires.no_width c.is_empty-more.ensures c.in_default.ensures refl k

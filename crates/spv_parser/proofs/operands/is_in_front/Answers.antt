@@ -10,7 +10,10 @@ turned false true e = refl
 turned false false e = cc
 
 pub returns-in-Result : goal.returns-in-Result
-returns-in-Result c = λ G d h e. front_by G d (plain_slot c.args.asked.slot) c.args.asked.leaf c.is_none.result c.args.known.result e c.in-Result.is h.result (turned (is_some c.args.known.result) c.is_none.result c.is_none.ensures)
+returns-in-Result c =
+    λ G d h e. front_by G d (plain_slot c.args.asked.slot) c.args.asked.leaf c.is_none.result c.args.known.result e
+    c.in-Result.is h.result (turned (is_some c.args.known.result) c.is_none.result c.is_none.ensures)
 
 pub returns-in_default : goal.returns-in_default
-returns-in_default c = λ G d h e. front_not G d (plain_slot c.args.asked.slot) c.args.asked.leaf e c.in_default.not-Result
+returns-in_default c =
+    λ G d h e. front_not G d (plain_slot c.args.asked.slot) c.args.asked.leaf e c.in_default.not-Result

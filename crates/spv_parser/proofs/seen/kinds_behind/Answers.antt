@@ -7,7 +7,8 @@ pub returns-in-Value : goal.returns-in-Value
 returns-in-Value c =
     let e = ap plain_operand c.in-Value.is in
     record {
-      kinds = value_opened (λ (ks : Bor (List ℕ)). ks.now) c.args.table.now _ _ (plain_operand c.args.operand.now) c.value_kinds.result e c.value_kinds.ensures;
+      kinds = value_opened (λ (ks : Bor (List ℕ)). ks.now) c.args.table.now _ _
+          (plain_operand c.args.operand.now) c.value_kinds.result e c.value_kinds.ensures;
       plain = value_plain _ _ (plain_operand c.args.operand.now) c.value_kinds.result e;
     }
 
@@ -15,6 +16,7 @@ pub returns-in-Mask : goal.returns-in-Mask
 returns-in-Mask c =
     let e = ap plain_operand c.in-Mask.is in
     record {
-      kinds = mask_opened (λ (ks : Bor (List ℕ)). ks.now) c.args.table.now _ _ (plain_operand c.args.operand.now) c.mask_kinds.result e c.mask_kinds.ensures;
+      kinds = mask_opened (λ (ks : Bor (List ℕ)). ks.now) c.args.table.now _ _
+          (plain_operand c.args.operand.now) c.mask_kinds.result e c.mask_kinds.ensures;
       plain = mask_plain _ _ (plain_operand c.args.operand.now) c.mask_kinds.result e;
     }

@@ -14,8 +14,10 @@ loop-more-init c = (
       let G = c.args.setting.now.table.now in
       let r = c.args.result_id in
       let pattern = map due (items_of c.args.pattern.now) in (
-        so_far_first G r before c.args.opcode pattern _ c.args.operands.now _ c.new-known.result (c.start.ensures G) c.clear.ensures.items c.requires.broken c.new-known.ensures,
-        stop_first G r before c.args.opcode pattern _ c.args.operands.now c.new-known.result (c.start.ensures G) c.requires.broken c.new-known.ensures,
+        so_far_first G r before c.args.opcode pattern _ c.args.operands.now _ c.new-known.result
+            (c.start.ensures G) c.clear.ensures.items c.requires.broken c.new-known.ensures,
+        stop_first G r before c.args.opcode pattern _ c.args.operands.now c.new-known.result
+            (c.start.ensures G) c.requires.broken c.new-known.ensures,
       ),
 )
 
@@ -37,20 +39,28 @@ loop-more-preserved c = (
       let es = pending_due G c.next_leaf.new.self in
       let d = context_of before c.args.opcode a.operands in
       let n : IsMore more r d l.rest.now = elim c.if-not-is_empty.branch [
-        | then-not-is_empty w ↦ rw w.more-is (more_then c.is_empty.result r d l.rest.now c.is_empty.ensures w.if-not-is_empty.true)
-        | else-not-is_empty w ↦ rw w.more-is (more_else c.is_empty.result w.differ-more.result r l.known.result d l.rest.now c.is_empty.ensures w.if-not-is_empty.false a.known.result w.differ-more.ensures)
+        | then-not-is_empty w ↦ rw w.more-is
+            (more_then c.is_empty.result r d l.rest.now c.is_empty.ensures w.if-not-is_empty.true)
+        | else-not-is_empty w ↦ rw w.more-is
+            (more_else c.is_empty.result w.differ-more.result r l.known.result d l.rest.now c.is_empty.ensures
+            w.if-not-is_empty.false a.known.result w.differ-more.ensures)
       ] in
       let i : IsAt c.args.setting.now.definitions.now l.known d = record { definitions = k; operands = a.known } in
       let t = c.in-Ok.ensures.taken d i e a.broken in
       let d' = context_of before c.args.opcode b.operands in
       let n' : IsMore more r d' l.rest.now = elim c.if-not-is_empty.branch [
-        | then-not-is_empty w ↦ rw w.more-is (more_then c.is_empty.result r d' l.rest.now c.is_empty.ensures w.if-not-is_empty.true)
-        | else-not-is_empty w ↦ rw w.more-is (more_else c.is_empty.result w.differ-more.result r l.known.result d' l.rest.now c.is_empty.ensures w.if-not-is_empty.false b.known.result w.differ-more.ensures)
+        | then-not-is_empty w ↦ rw w.more-is
+            (more_then c.is_empty.result r d' l.rest.now c.is_empty.ensures w.if-not-is_empty.true)
+        | else-not-is_empty w ↦ rw w.more-is
+            (more_else c.is_empty.result w.differ-more.result r l.known.result d' l.rest.now c.is_empty.ensures
+            w.if-not-is_empty.false b.known.result w.differ-more.ensures)
       ] in
       let i' : IsAt c.args.setting.now.definitions.now l.known d' = record { definitions = k; operands = b.known } in
       let t' = c.in-Ok.ensures.taken d' i' e b.broken in (
-        so_far_more G r before c.args.opcode pattern ds es _ c.args.operands.now l.rest.now _ l.buffers.words.items _ l.known _ s more a n u t,
-        stop_more G r before c.args.opcode pattern ds es _ c.args.operands.now l.rest.now _ l.buffers.words.items _ l.known _ s more b n' u t',
+        so_far_more G r before c.args.opcode pattern ds es _ c.args.operands.now l.rest.now _ l.buffers.words.items _
+            l.known _ s more a n u t,
+        stop_more G r before c.args.opcode pattern ds es _ c.args.operands.now l.rest.now _ l.buffers.words.items _
+            l.known _ s more b n' u t',
       ),
 )
 
@@ -78,13 +88,17 @@ returns-then-more c = λ before k.
     let d = context_of before c.args.opcode b.operands in
     let more = c.if-not-is_empty.more in
     let n : IsMore more r d l.rest.now = elim c.if-not-is_empty.branch [
-      | then-not-is_empty w ↦ rw w.more-is (more_then c.is_empty.result r d l.rest.now c.is_empty.ensures w.if-not-is_empty.true)
-      | else-not-is_empty w ↦ rw w.more-is (more_else c.is_empty.result w.differ-more.result r l.known.result d l.rest.now c.is_empty.ensures w.if-not-is_empty.false b.known.result w.differ-more.ensures)
+      | then-not-is_empty w ↦ rw w.more-is
+          (more_then c.is_empty.result r d l.rest.now c.is_empty.ensures w.if-not-is_empty.true)
+      | else-not-is_empty w ↦ rw w.more-is
+          (more_else c.is_empty.result w.differ-more.result r l.known.result d l.rest.now c.is_empty.ensures
+          w.if-not-is_empty.false b.known.result w.differ-more.ensures)
     ] in
     let pattern = map due (items_of c.args.pattern.now) in
     let ds = pending_due G l.buffers.pending in
     let u = rw c.in_default.is at c.in_ok-asked.ensures.due in
-    stop_left G r before c.args.opcode pattern ds c.args.operands.now l.rest.now l.known more _ _ b n u c.if-more.true (c.left_over.ensures G r)
+    stop_left G r before c.args.opcode pattern ds c.args.operands.now l.rest.now l.known more _ _ b n u c.if-more.true
+    (c.left_over.ensures G r)
 
 pub returns-in_default : goal.returns-in_default
 returns-in_default c = λ before k.
@@ -95,13 +109,17 @@ returns-in_default c = λ before k.
     let d = context_of before c.args.opcode a.operands in
     let more = c.if-not-is_empty.more in
     let n : IsMore more r d l.rest.now = elim c.if-not-is_empty.branch [
-      | then-not-is_empty w ↦ rw w.more-is (more_then c.is_empty.result r d l.rest.now c.is_empty.ensures w.if-not-is_empty.true)
-      | else-not-is_empty w ↦ rw w.more-is (more_else c.is_empty.result w.differ-more.result r l.known.result d l.rest.now c.is_empty.ensures w.if-not-is_empty.false a.known.result w.differ-more.ensures)
+      | then-not-is_empty w ↦ rw w.more-is
+          (more_then c.is_empty.result r d l.rest.now c.is_empty.ensures w.if-not-is_empty.true)
+      | else-not-is_empty w ↦ rw w.more-is
+          (more_else c.is_empty.result w.differ-more.result r l.known.result d l.rest.now c.is_empty.ensures
+          w.if-not-is_empty.false a.known.result w.differ-more.ensures)
     ] in
     let pattern = map due (items_of c.args.pattern.now) in
     let ds = pending_due G l.buffers.pending in
     let u = rw c.in_default.is at c.in_ok-asked.ensures.due in
-    so_far_done G r before c.args.opcode pattern ds c.args.operands.now l.rest.now l.buffers.words.items l.known more c.line.result a n u c.if-more.false (c.line.ensures c.args.opcode)
+    so_far_done G r before c.args.opcode pattern ds c.args.operands.now l.rest.now l.buffers.words.items l.known more
+    c.line.result a n u c.if-more.false (c.line.ensures c.args.opcode)
 
 pub returns-in-Err : goal.returns-in-Err
 returns-in-Err c = λ before k.
@@ -112,8 +130,11 @@ returns-in-Err c = λ before k.
     let d = context_of before c.args.opcode b.operands in
     let more = c.if-not-is_empty.more in
     let n : IsMore more r d l.rest.now = elim c.if-not-is_empty.branch [
-      | then-not-is_empty w ↦ rw w.more-is (more_then c.is_empty.result r d l.rest.now c.is_empty.ensures w.if-not-is_empty.true)
-      | else-not-is_empty w ↦ rw w.more-is (more_else c.is_empty.result w.differ-more.result r l.known.result d l.rest.now c.is_empty.ensures w.if-not-is_empty.false b.known.result w.differ-more.ensures)
+      | then-not-is_empty w ↦ rw w.more-is
+          (more_then c.is_empty.result r d l.rest.now c.is_empty.ensures w.if-not-is_empty.true)
+      | else-not-is_empty w ↦ rw w.more-is
+          (more_else c.is_empty.result w.differ-more.result r l.known.result d l.rest.now c.is_empty.ensures
+          w.if-not-is_empty.false b.known.result w.differ-more.ensures)
     ] in
     let pattern = map due (items_of c.args.pattern.now) in
     let ds = pending_due G l.buffers.pending in
@@ -123,4 +144,5 @@ returns-in-Err c = λ before k.
     let i : IsAt c.args.setting.now.definitions.now l.known d = record { definitions = k; operands = b.known } in
     let es = pending_due G c.next_leaf.new.self in
     let t = c.in-Err.ensures.refused d i e b.broken in
-    stop_refused G r before c.args.opcode pattern ds es c.args.operands.now l.rest.now l.known s more _ _ b n u (c.in_ok-stop-in-Err.ensures r d es i e t)
+    stop_refused G r before c.args.opcode pattern ds es c.args.operands.now l.rest.now l.known s more _ _ b n u
+    (c.in_ok-stop-in-Err.ensures r d es i e t)

@@ -12,8 +12,10 @@ use Rattle.spv_parser.proofs.stops.operands_or_stop.Given as goal
 
 abbrev pub invariant-loop-more : goal.invariant-loop-more
 invariant-loop-more l = shadow (Utf8 l.rest) × ((before : List PlainInst) → Knows l.setting.definitions.now before
-    → SoFar l.setting.table.now l.result_id before l.opcode (map due (items_of l.pattern)) l.operands l.known (pending_due l.setting.table.now l.buffers.pending) l.rest l.buffers.words.items
-    × StopSoFar l.setting.table.now l.result_id before l.opcode (map due (items_of l.pattern)) l.operands l.known (pending_due l.setting.table.now l.buffers.pending) l.rest)
+    → SoFar l.setting.table.now l.result_id before l.opcode (map due (items_of l.pattern)) l.operands l.known
+    (pending_due l.setting.table.now l.buffers.pending) l.rest l.buffers.words.items
+    × StopSoFar l.setting.table.now l.result_id before l.opcode (map due (items_of l.pattern)) l.operands l.known
+    (pending_due l.setting.table.now l.buffers.pending) l.rest)
 
 abbrev pub decreases-loop-more : goal.decreases-loop-more
 decreases-loop-more l = length l.rest + waiting l.known.result

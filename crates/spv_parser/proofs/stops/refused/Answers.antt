@@ -7,4 +7,7 @@ pub returns-in_default : goal.returns-in_default
 returns-in_default c = λ r d ds a e f.
     let G = c.args.setting.now.table.now in
     let s = plain_slot c.args.asked.slot in
-    stop_at_slot G r d s ds c.args.rest.now c.skip_space.result.now c.leaf_wanted.result c.args.code (shape_is_leaf G d s c.args.asked.leaf e) (refuses_by G r d s c.args.rest.now c.args.code c.in_default.not-S6 f) c.skip_space.ensures (c.leaf_wanted.ensures d a e)
+    stop_at_slot G r d s ds c.args.rest.now c.skip_space.result.now c.leaf_wanted.result c.args.code
+    (shape_is_leaf G d s c.args.asked.leaf e)
+    (refuses_by G r d s c.args.rest.now c.args.code c.in_default.not-S6 f) c.skip_space.ensures
+    (c.leaf_wanted.ensures d a e)

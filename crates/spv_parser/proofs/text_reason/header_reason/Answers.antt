@@ -10,4 +10,5 @@ returns c = λ G.
     let n = c.args.error.line in
     let m = header_least (lines_of t) c.args.error.code n c.requires in
     let e : n - 1 ≡ m.0 = let f = m.1 in omega arith in
-    header_fails_for G t c.line_after-line.result.now c.args.error.code n m.0 c.requires m.1 (c.line_after-line.ensures ∙ ap (λ k. unwrap_or (slice_get (lines_of t) k) []) e)
+    header_fails_for G t c.line_after-line.result.now c.args.error.code n m.0 c.requires m.1
+    (c.line_after-line.ensures ∙ ap (λ k. unwrap_or (slice_get (lines_of t) k) []) e)

@@ -6,7 +6,8 @@ use denote.Text.{Utf8}
 use Rattle.spv_parser.proofs.text_reason.line_after.Given as goal
 
 abbrev pub invariant-loop-rest : goal.invariant-loop-rest
-invariant-loop-rest l = shadow (Utf8 l.rest) × (slice_get (lines_of l.text) l.count ≡ slice_get (lines_of l.rest) l.left)
+invariant-loop-rest l =
+    shadow (Utf8 l.rest) × (slice_get (lines_of l.text) l.count ≡ slice_get (lines_of l.rest) l.left)
 
 abbrev pub decreases-loop-rest : goal.decreases-loop-rest
 decreases-loop-rest l = length l.rest

@@ -8,4 +8,6 @@ pub returns : goal.returns
 returns c =
     let h = c.in-Ok.ensures in
     let o = c.in_ok-put_words.ensures ∙ ap (λ z. z ++ five_words c.in-Ok.found.0) c.new-draft.ensures in
-    told_in c.args.table.now c.args.text.now c.in-Ok.found.0 (lines_of c.in-Ok.found.1.now) c.put_words.new.draft c.reason_in.new.draft c.reason_in.result h.fits h.small h.lines o c.reason_in.ensures
+    told_in c.args.table.now c.args.text.now c.in-Ok.found.0
+    (lines_of c.in-Ok.found.1.now) c.put_words.new.draft c.reason_in.new.draft c.reason_in.result h.fits h.small
+    h.lines o c.reason_in.ensures

@@ -14,14 +14,19 @@ returns-in-Some c = λ lines s.
     let insts = c.args.module.now.insts.items in
     let x = c.args.function in
     let n = c.in-Some.place in
-    let e = c.in-Some.ensures ∙ ap (position (λ (i : Inst). is_function x (plain_inst i))) c.as_slice-insts.ensures.value in
+    let e = c.in-Some.ensures ∙ ap (position (λ (i : Inst). is_function x (plain_inst i)))
+    c.as_slice-insts.ensures.value in
     let d = found_drawn c.args.table.now insts lines x n s e in
-    if_ok c.draw_at.result _ _ (c.draw_at.ensures lines s) (λ t p. p ∙ (ap (λ z. picture_of z (rows_at n (map plain_inst insts) lines)) c.in_ok-marks.ensures.finding ∙ ap (picture_of c.args.finding) (sym d)))
+    if_ok c.draw_at.result _ _ (c.draw_at.ensures lines s)
+    (λ t p. p ∙ (ap (λ z. picture_of z (rows_at n (map plain_inst insts) lines)) c.in_ok-marks.ensures.finding
+    ∙ ap (picture_of c.args.finding) (sym d)))
 
 pub returns : goal.returns
 returns c = λ lines s.
     let insts = c.args.module.now.insts.items in
     let x = c.args.function in
-    let e = c.in-None.ensures ∙ ap (position (λ (i : Inst). is_function x (plain_inst i))) c.as_slice-insts.ensures.value in
+    let e = c.in-None.ensures ∙ ap (position (λ (i : Inst). is_function x (plain_inst i)))
+    c.as_slice-insts.ensures.value in
     let d = none_drawn c.args.table.now insts lines x s e in
-    if_ok c.draw.result _ _ c.draw.ensures (λ t p. p ∙ (ap (λ z. picture_of z []) c.in_ok-marks.ensures.finding ∙ ap (picture_of c.args.finding) (sym d)))
+    if_ok c.draw.result _ _ c.draw.ensures
+    (λ t p. p ∙ (ap (λ z. picture_of z []) c.in_ok-marks.ensures.finding ∙ ap (picture_of c.args.finding) (sym d)))

@@ -9,4 +9,6 @@ use Rattle.spv_pictures.proofs.blocks.push_parts.Goals as goal
 pub loop-at-preserved : goal.loop-at-preserved
 loop-at-preserved c =
     let r = rw take_rest at c.in_ok-push_first.ensures in
-    ap (λ z. string_bytes c.push_first.new.out ++ flat_map (part_text c.args.marks.now.finding) (groups begins_part begins_block z)) (sym (left_one plain_row c.args.rows.now c.loop-at.at)) ∙ (r ∙ c.loop-at.invariant)
+    ap (λ z. string_bytes c.push_first.new.out
+    ++ flat_map (part_text c.args.marks.now.finding) (groups begins_part begins_block z))
+    (sym (left_one plain_row c.args.rows.now c.loop-at.at)) ∙ (r ∙ c.loop-at.invariant)

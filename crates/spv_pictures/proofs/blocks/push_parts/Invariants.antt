@@ -6,5 +6,7 @@ use Rattle.spv_pictures.proofs.blocks.push_parts.Given as goal
 
 abbrev pub invariant-loop-at : goal.invariant-loop-at
 invariant-loop-at l =
-    string_bytes l.out ++ flat_map (part_text l.marks.finding) (groups begins_part begins_block (plain_rows (drop l.at l.rows)))
-    ≡ string_bytes l.fn.out ++ flat_map (part_text l.marks.finding) (groups begins_part begins_block (plain_rows l.rows))
+    string_bytes l.out ++ flat_map (part_text l.marks.finding)
+    (groups begins_part begins_block (plain_rows (drop l.at l.rows)))
+    ≡ string_bytes l.fn.out ++ flat_map (part_text l.marks.finding)
+    (groups begins_part begins_block (plain_rows l.rows))

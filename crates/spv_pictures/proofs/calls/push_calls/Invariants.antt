@@ -6,4 +6,6 @@ use Rattle.spv_pictures.proofs.calls.push_calls.Given as goal
 
 abbrev pub invariant-loop-inst : goal.invariant-loop-inst
 invariant-loop-inst l =
-    string_bytes l.out ++ flat_map (λ (j : PlainInst). call_edge l.from (callee_of j)) (map plain_inst (drop l.inst-index l.body)) ≡ string_bytes l.fn.out ++ flat_map (λ (j : PlainInst). call_edge l.from (callee_of j)) (map plain_inst l.body)
+    string_bytes l.out ++ flat_map (λ (j : PlainInst). call_edge l.from (callee_of j))
+    (map plain_inst (drop l.inst-index l.body)) ≡ string_bytes l.fn.out
+    ++ flat_map (λ (j : PlainInst). call_edge l.from (callee_of j)) (map plain_inst l.body)

@@ -5,7 +5,10 @@ use Rattle.spv_module.specs.declared.module.Inst.{Inst}
 use Rattle.spv_pictures.proofs.function.body_of.Given as goal
 
 abbrev pub invariant-loop-count : goal.invariant-loop-count
-invariant-loop-count l = (l.count ≤ length l.insts) × (position_or_len (λ (i : Inst). ends_function i.opcode) l.insts ≡ l.count + position_or_len (λ (i : Inst). ends_function i.opcode) (drop l.count l.insts))
+invariant-loop-count l =
+    (l.count ≤ length l.insts) × (position_or_len
+    (λ (i : Inst). ends_function i.opcode) l.insts ≡ l.count + position_or_len (λ (i : Inst). ends_function i.opcode)
+    (drop l.count l.insts))
 
 abbrev pub decreases-loop-count : goal.decreases-loop-count
 decreases-loop-count l = length l.insts - l.count

@@ -5,4 +5,6 @@ use Rattle.spv_pictures.specs.Function.{is_function}
 use Rattle.spv_pictures.proofs.function.has_function.Given as goal
 
 abbrev pub invariant-loop-inst : goal.invariant-loop-inst
-invariant-loop-inst l = list_any (is_function l.id) (map plain_inst l.module.insts.items) ≡ list_any (is_function l.id) (map plain_inst (drop l.inst-index l.module.insts.items))
+invariant-loop-inst l =
+    list_any (is_function l.id) (map plain_inst l.module.insts.items) ≡ list_any (is_function l.id)
+    (map plain_inst (drop l.inst-index l.module.insts.items))

@@ -6,4 +6,5 @@ use Rattle.spv_pictures.specs.inner.Marks.{pair_cmp}
 use Rattle.spv_pictures.proofs.marks.steps_of.Given as goal
 
 abbrev pub invariant-loop-at : goal.invariant-loop-at
-invariant-loop-at l = (a b : ℕ) → (contains pair_cmp l.steps (a, b) || goes (drop (l.at - 1) l.walk) a b) ≡ goes l.walk a b
+invariant-loop-at l = (a b : ℕ)
+    → (contains pair_cmp l.steps (a, b) || goes (drop (l.at - 1) l.walk) a b) ≡ goes l.walk a b

@@ -8,11 +8,14 @@ use Rattle.spv_pictures.proofs.rows.count_to_block.Goals as goal
 pub returns-then-begins_block-clause-count : goal.returns-then-begins_block-clause-count
 returns-then-begins_block-clause-count c =
     let rows = c.args.rows.now in
-    let p = position_here (λ (r : Row). begins_block (plain_row r)) rows c.loop-count.count c.index-rows-count.result (omega arith) c.index-rows-count.is (sym c.begins_block.ensures ∙ c.if-begins_block.true) c.loop-count.invariant.1 in
+    let p = position_here (λ (r : Row). begins_block (plain_row r)) rows c.loop-count.count c.index-rows-count.result
+    (omega arith) c.index-rows-count.is
+    (sym c.begins_block.ensures ∙ c.if-begins_block.true) c.loop-count.invariant.1 in
     sym (position-map begins_block plain_row rows ∙ p)
 
 pub returns-clause-count : goal.returns-clause-count
 returns-clause-count c =
     let rows = c.args.rows.now in
-    let p = position_end (λ (r : Row). begins_block (plain_row r)) rows c.loop-count.count (omega arith) c.loop-count.invariant.1 in
+    let p = position_end (λ (r : Row). begins_block (plain_row r)) rows c.loop-count.count
+    (omega arith) c.loop-count.invariant.1 in
     sym (position-map begins_block plain_row rows ∙ p)

@@ -9,4 +9,6 @@ use Rattle.spv_pictures.proofs.rows.rows_of.Given as goal
 
 abbrev pub invariant-loop-at : goal.invariant-loop-at
 invariant-loop-at l =
-    shadow (Utf8 l.rest) × (plain_rows l.rows.items ++ rows_from (l.first + l.at) (map plain_inst (drop l.at l.insts)) (lines_of l.rest) ≡ rows_from l.first (map plain_inst l.insts) (lines_of l.shown))
+    shadow (Utf8 l.rest) × (plain_rows l.rows.items
+    ++ rows_from (l.first + l.at) (map plain_inst (drop l.at l.insts)) (lines_of l.rest) ≡ rows_from l.first
+    (map plain_inst l.insts) (lines_of l.shown))

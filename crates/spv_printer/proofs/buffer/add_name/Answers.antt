@@ -10,6 +10,8 @@ returns c =
     record {
       low = omega arith;
       high = omega arith;
-      text = rw c.copy_from_slice.ensures.after (name_copied c.args.buffer.now c.as_bytes-octets.result.now c.args.name.now _ c.args.at h c.as_bytes-octets.ensures.value);
+      text = rw c.copy_from_slice.ensures.after
+          (name_copied c.args.buffer.now c.as_bytes-octets.result.now c.args.name.now _ c.args.at h
+          c.as_bytes-octets.ensures.value);
       utf8 = name_utf8 c.args.name.now c.utf8.name;
     }

@@ -1,4 +1,5 @@
-use Rattle.std.proofs.Common.{◌≡◌, ◌∙◌, ◌++◌, ◌+◌, ◌-◌, refl, ap, arith, drop, length, take, length-drop, length-take-le}
+use Rattle.std.proofs.Common.{◌≡◌, ◌∙◌, ◌++◌, ◌+◌, ◌-◌, refl, ap, arith, drop, length, take, length-drop}
+use Rattle.std.proofs.Common.{length-take-le}
 use Rattle.std.proofs.lemmas.List.{take-take}
 use Rattle.spv_printer.proofs.Digits.{word_utf8}
 use Rattle.spv_printer.proofs.Drafts.{front_copied, piece_taken}
@@ -18,7 +19,9 @@ returns c =
       low = omega arith;
       high = omega arith;
       text = rw (c.copy_from_slice.ensures.after, e)
-          (front_copied c.args.buffer.now (take 16 (drop start token)) _ c.args.at (16 - start) (omega (arith, c.requires)) (omega arith)
-          ∙ (ap (λ z. old ++ z) (take-take (16 - start) 16 (drop start token) (omega arith)) ∙ ap (λ z. old ++ z) (piece_taken token _ _ start 16 16 c.put_word-start.ensures.text k refl low)));
+          (front_copied c.args.buffer.now (take 16 (drop start token)) _ c.args.at (16 - start)
+          (omega (arith, c.requires)) (omega arith)
+          ∙ (ap (λ z. old ++ z) (take-take (16 - start) 16 (drop start token) (omega arith))
+          ∙ ap (λ z. old ++ z) (piece_taken token _ _ start 16 16 c.put_word-start.ensures.text k refl low)));
       utf8 = word_utf8 c.args.word (omega arith);
     }

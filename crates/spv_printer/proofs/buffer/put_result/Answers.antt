@@ -8,8 +8,10 @@ use Rattle.spv_printer.proofs.buffer.put_result.Goals as goal
 pub returns-clause-text : goal.returns-clause-text
 returns-clause-text c =
     let n = c.in-Some.id in
-    let e = behind_space c.put_id.new.buffer (drop c.put_octets-equals.result c.put_octets-equals.new.buffer) c.put_id.result n c.put_id.ensures.text in
-    rw c.in-Some.is (e ∙ (ap (λ z. id_text n ++ z) c.put_octets-equals.ensures.text ∙ sym (append_assoc (id_text n) (codes " = ") (drop c.args.end c.args.buffer.now))))
+    let e = behind_space c.put_id.new.buffer
+    (drop c.put_octets-equals.result c.put_octets-equals.new.buffer) c.put_id.result n c.put_id.ensures.text in
+    rw c.in-Some.is (e ∙ (ap (λ z. id_text n ++ z) c.put_octets-equals.ensures.text
+    ∙ sym (append_assoc (id_text n) (codes " = ") (drop c.args.end c.args.buffer.now))))
 
 pub returns-clause-utf8 : goal.returns-clause-utf8
 returns-clause-utf8 c = let l : c.in-Some.id < 2 ^ 64 = omega arith in rw c.in-Some.is (front_utf8 c.in-Some.id l)

@@ -16,7 +16,8 @@ returns-then-not-fits c = λ d n.
     let l = rw c.in-Some.is at c.in_ok-asked.ensures.leaf in
     let e = rw c.in-Some.is at c.in_ok-asked.ensures.due in
     let f = sym (c.fits.ensures d n l) ∙ c.if-not-fits.true in
-    Stuck.unfit s (pending_due G c.next_leaf.new.self) e (shape_is_leaf G d s a.leaf l) (unfit_takes a.slot.kind (shape_of G d s) (plain_operand c.args.operand.now) f)
+    Stuck.unfit s (pending_due G c.next_leaf.new.self) e (shape_is_leaf G d s a.leaf l)
+    (unfit_takes a.slot.kind (shape_of G d s) (plain_operand c.args.operand.now) f)
 
 pub returns : goal.returns
 returns c = λ d n.
@@ -31,7 +32,8 @@ returns c = λ d n.
       rest = pending_due G c.next_leaf.new.self;
       words = operand_words (plain_operand c.args.operand.now);
       leads = e;
-      takes = fit_takes G a.slot.kind d a.slot.paired a.leaf (shape_of G d s) (plain_operand c.args.operand.now) (shape_leaf G d s a.leaf a.leaf l refl) c.read_text.ensures f;
+      takes = fit_takes G a.slot.kind d a.slot.paired a.leaf (shape_of G d s) (plain_operand c.args.operand.now)
+          (shape_leaf G d s a.leaf a.leaf l refl) c.read_text.ensures f;
       due = c.in_ok-open.ensures;
       written = c.in_ok-push_operand.ensures;
     }

@@ -9,4 +9,6 @@ use Rattle.spv_printer.proofs.encoder.write_operands.Given as goal
 abbrev pub invariant-loop-number : goal.invariant-loop-number
 invariant-loop-number l =
     (before : List PlainInst) → Knows l.setting.definitions.now before
-    → At l.setting.table.now l.setting.definitions.now before l.inst.opcode (map due (items_of l.pattern)) l.inst.operands l.known (pending_due l.setting.table.now l.pending) l.words.items l.number
+    → At l.setting.table.now l.setting.definitions.now before l.inst.opcode
+    (map due (items_of l.pattern)) l.inst.operands l.known
+    (pending_due l.setting.table.now l.pending) l.words.items l.number

@@ -15,7 +15,12 @@ loop-at-init c =
     record {
       from = omega arith;
       upto = c.requires.order;
-      added = record { operands = []; drafted = drafted_first G _ _ c.args.buffer.now refl refl refl c.requires.size; front = λ b p k. rw (z, c.of-items.ensures) (at_start G (start b p) (map due (items_of c.args.pattern.now)) _) };
+      added = record {
+        operands = [];
+        drafted = drafted_first G _ _ c.args.buffer.now refl refl refl c.requires.size;
+        front = λ b p k. rw (z, c.of-items.ensures)
+            (at_start G (start b p) (map due (items_of c.args.pattern.now)) _);
+      };
     }
 
 pub loop-at-preserved : goal.loop-at-preserved
@@ -36,9 +41,12 @@ loop-at-preserved c =
         operands = a.operands ++ (e.added.operand ∷ []);
         drafted = e.added.added a.operands a.drafted;
         front = λ b q h.
-            words_next G (start b q) _ _ _ _ _ _ _ c.in_ok-next.next.kind p.kinds.now c.args.image.now c.args.first c.loop-at.at c.args.end p.words _ (a.front b q h) f t c.requires.fits (omega arith) c.in_ok-next.ensures
-            (rw (after_is (start b q) a.operands) (e.added.takes (record { before = b; opcode = q; operands = a.operands }) h a.drafted.type_id)) refl
-            (due_joined p.kinds.now c.in_ok-next.next.kinds.now c.in_ok-kinds.kinds.now (map due (items_of c.in_ok-next.next.items.left.now)) c.in_ok-kinds.ensures);
+            words_next G (start b q) _ _ _ _ _ _ _ c.in_ok-next.next.kind p.kinds.now c.args.image.now c.args.first
+            c.loop-at.at c.args.end p.words _ (a.front b q h) f t c.requires.fits (omega arith) c.in_ok-next.ensures
+            (rw (after_is (start b q) a.operands)
+            (e.added.takes (record { before = b; opcode = q; operands = a.operands }) h a.drafted.type_id)) refl
+            (due_joined p.kinds.now c.in_ok-next.next.kinds.now c.in_ok-kinds.kinds.now
+            (map due (items_of c.in_ok-next.next.items.left.now)) c.in_ok-kinds.ensures);
       };
     }
 
@@ -51,5 +59,6 @@ returns-in-None c =
       operands = a.operands;
       characters = drafted_characters G _ a.operands _ _ a.drafted;
       line = λ o m. drafted_line G _ (record { opcode = o; operands = a.operands }) _ _ m a.drafted;
-      matches = λ b q h. words_end G (start b q) (items_of c.args.pattern.now) _ _ _ _ _ _ _ (a.front b q h) l c.in-None.ensures;
+      matches = λ b q h. words_end G (start b q) (items_of c.args.pattern.now) _ _ _ _ _ _ _
+          (a.front b q h) l c.in-None.ensures;
     }

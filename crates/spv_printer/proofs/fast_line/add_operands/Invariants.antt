@@ -7,7 +7,8 @@ abbrev pub invariant-loop-at : goal.invariant-loop-at
 invariant-loop-at l = record {
   from : l.fn.first ≤ l.at;
   upto : l.at ≤ l.end;
-  added : AreDraftedSoFar l.table l.printer.definitions l.image l.fn.pattern l.fn.first l.at l.end (due_first l.kinds l.items.left.now) l.draft l.buffer;
+  added : AreDraftedSoFar l.table l.printer.definitions l.image l.fn.pattern l.fn.first l.at l.end
+      (due_first l.kinds l.items.left.now) l.draft l.buffer;
 }
 
 abbrev pub decreases-loop-at : goal.decreases-loop-at

@@ -22,7 +22,8 @@ returns c =
     let h = c.requires.whole in
     record {
       octets = text;
-      takes = λ k. takes k c.args.octets.now n c.requires.whole below (record { within = w; at = e.zero; before = e.some }) (c.if-not-are_zeros.ensures.0 refl) u;
+      takes = λ k. takes k c.args.octets.now n c.requires.whole below
+          (record { within = w; at = e.zero; before = e.some }) (c.if-not-are_zeros.ensures.0 refl) u;
       some = omega arith;
       within = rw q (omega arith);
       piece = record {

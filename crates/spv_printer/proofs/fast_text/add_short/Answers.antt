@@ -14,6 +14,8 @@ returns c =
     record {
       low = omega arith;
       high = omega arith;
-      text = rw c.copy_from_slice.ensures.after (short_put c.args.buffer.now c.as_bytes-octets.result.now c.args.text.now _ _ c.args.at r (omega arith) q v refl (omega arith));
+      text = rw c.copy_from_slice.ensures.after
+          (short_put c.args.buffer.now c.as_bytes-octets.result.now c.args.text.now _ _ c.args.at r
+          (omega arith) q v refl (omega arith));
       utf8 = quoted_utf8 c.args.text.now q c.utf8.text;
     }

@@ -7,7 +7,15 @@ use Rattle.spv_printer.proofs.fast_text.copy_plain.Goals as goal
 pub loop-count-init : goal.loop-count-init
 loop-count-init c =
     let z : c.args.at + 0 ≡ c.args.at = omega arith in
-    record { upto = omega arith; few = omega arith; size = refl; some = tt; ascii = tt; plain = refl; text = rw z (sym (append-nil (take c.args.at c.args.buffer.now))) }
+    record {
+      upto = omega arith;
+      few = omega arith;
+      size = refl;
+      some = tt;
+      ascii = tt;
+      plain = refl;
+      text = rw z (sym (append-nil (take c.args.at c.args.buffer.now)));
+    }
 
 pub loop-count-preserved : goal.loop-count-preserved
 loop-count-preserved c =
@@ -24,5 +32,6 @@ loop-count-preserved c =
       some = rw m (all_snoc (λ b. b ≢ 0) _ _ i.some p.some);
       ascii = rw m (all_snoc (λ b. b < 128) _ _ i.ascii p.ascii);
       plain = plain_next c.args.octets.now c.loop-count.count t i.plain p.quote p.mark p.feed;
-      text = copied_next c.args.buffer.now c.loop-count.buffer c.args.octets.now c.args.at c.loop-count.count (omega arith) t i.text;
+      text = copied_next c.args.buffer.now c.loop-count.buffer c.args.octets.now c.args.at c.loop-count.count
+          (omega arith) t i.text;
     }

@@ -31,10 +31,18 @@ pub returns-in_err-at-clause-dead : goal.returns-in_err-at-clause-dead
 returns-in_err-at-clause-dead c =
     let r = err_from_is_err_and c.from_residual-in_err-at.result c.from_residual-in_err-at.ensures.1 in
     let u = c.loop-at.invariant.upto in
-    rw (r.1, r.2) (dead_here c.args.table.now c.args.image.now u.insts c.loop-at.at c.loop-at.number _ u.sofar u.count (c.in_err-at.ensures.dead u.insts u.knows))
+    rw (r.1, r.2) (dead_here c.args.table.now c.args.image.now u.insts c.loop-at.at c.loop-at.number _ u.sofar u.count
+    (c.in_err-at.ensures.dead u.insts u.knows))
 
 pub returns-clause-added : goal.returns-clause-added
 returns-clause-added c =
     let u = c.loop-at.invariant.upto in
     let h = rw c.len-len.ensures.words at c.loop-at-test.false in
-    record { insts = u.insts; lines = u.lines; listed = listed_all c.args.table.now c.args.image.now u.insts c.loop-at.at u.sofar h; shown = u.shown; text = u.text }
+    record {
+      insts = u.insts;
+      lines = u.lines;
+      listed = listed_all c.args.table.now c.args.image.now u.insts c.loop-at.at u.sofar h;
+      shown = u.shown;
+      text =
+          u.text;
+    }

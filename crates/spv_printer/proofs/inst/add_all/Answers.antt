@@ -13,7 +13,9 @@ loop-inst-preserved c = λ before k.
     let i = c.loop-inst.inst-index in
     let o = c.inst-item.result in
     let h : i < length insts = omega arith in
-    knows_more _ before insts i o h c.inst-item.is (rw c.as_slice.ensures.value at (c.in_ok-add.ensures.knows (before ++ map plain_inst (take i insts)) (c.loop-inst.invariant before k)))
+    knows_more _ before insts i o h c.inst-item.is
+    (rw c.as_slice.ensures.value at (c.in_ok-add.ensures.knows (before ++ map plain_inst (take i insts))
+    (c.loop-inst.invariant before k)))
 
 pub returns : goal.returns
 returns c = λ before k.

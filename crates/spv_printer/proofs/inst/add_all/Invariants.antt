@@ -5,4 +5,5 @@ use Rattle.spv_module.specs.Operand.{PlainInst}
 use Rattle.spv_printer.proofs.inst.add_all.Given as goal
 
 abbrev pub invariant-loop-inst : goal.invariant-loop-inst
-invariant-loop-inst l = (before : List PlainInst) → Knows l.fn.definitions before → Knows l.definitions (before ++ map plain_inst (take l.inst-index l.insts))
+invariant-loop-inst l = (before : List PlainInst) → Knows l.fn.definitions before
+    → Knows l.definitions (before ++ map plain_inst (take l.inst-index l.insts))

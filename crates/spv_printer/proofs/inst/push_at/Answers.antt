@@ -9,7 +9,8 @@ returns-clause-line c = λ lines s.
     let insts = c.args.insts.now in
     let o = c.index-insts-at.result in
     let w = shown_at c.args.table.now [] insts lines c.args.at o o s c.requires.within c.index-insts-at.is in
-    c.in_ok-push_inst.ensures.line (map plain_inst (take c.args.at insts)) w.further (inst_line lines c.args.at) c.in_ok-known.ensures.enough (rw c.as_slice-operands.ensures.value w.shown)
+    c.in_ok-push_inst.ensures.line (map plain_inst (take c.args.at insts)) w.further
+    (inst_line lines c.args.at) c.in_ok-known.ensures.enough (rw c.as_slice-operands.ensures.value w.shown)
 
 pub returns-clause-knows : goal.returns-clause-knows
 returns-clause-knows c = rw c.push_inst.ensures.same c.in_ok-known.ensures.knows

@@ -10,4 +10,5 @@ returns-then-at-insts c = λ lines s.
     rw (none_past c.args.table.now [] items lines c.args.number s h) c.new-out.ensures.bytes
 
 pub returns : goal.returns
-returns c = λ lines s. rw c.new-out.ensures.bytes at (c.in_ok-push_at.ensures.line lines (rw c.as_slice-insts.ensures.value s))
+returns c = λ lines s. rw c.new-out.ensures.bytes at
+    (c.in_ok-push_at.ensures.line lines (rw c.as_slice-insts.ensures.value s))

@@ -9,5 +9,6 @@ abbrev pub invariant-loop-number : goal.invariant-loop-number
 invariant-loop-number l = record {
   knows : Knows l.printer.definitions (map plain_inst (take l.known l.insts));
   ready : IsReady l.table l.printer;
-  text : (lines : List (List ℕ)) → ShownLines l.table [] (map plain_inst l.insts) lines → string_bytes l.out ≡ ended (map (inst_line lines) (take l.number-index l.numbers));
+  text : (lines : List (List ℕ)) → ShownLines l.table [] (map plain_inst l.insts) lines
+      → string_bytes l.out ≡ ended (map (inst_line lines) (take l.number-index l.numbers));
 }

@@ -15,7 +15,8 @@ loop-operand-preserved c =
     let i = c.loop-operand.operand-index in
     let o = get_or items i (code.OfType 0) in
     let h : i < length items = omega arith in
-    rw (so_far items i o (code.OfType 0) h refl) (c.in_ok-draft.ensures.added (plain_operands (take i items)) c.loop-operand.invariant)
+    rw (so_far items i o (code.OfType 0) h refl)
+    (c.in_ok-draft.ensures.added (plain_operands (take i items)) c.loop-operand.invariant)
 
 pub returns : goal.returns
 returns c =

@@ -14,11 +14,18 @@ returns c =
     record {
       text = λ before further line k s.
           c.in_ok-push_str.ensures.bytes
-          ∙ ap (λ z. string_bytes c.args.out.now ++ z) (c.in-Some-whole_line.ensures G _ before i further line k li (sym e) (c.has.ensures G c.requires.ready.names c.if-not-has.false c.in-Some.entry.now (sym e)) s);
+          ∙ ap (λ z. string_bytes c.args.out.now ++ z)
+          (c.in-Some-whole_line.ensures G _ before i further line k li (sym e)
+          (c.has.ensures G c.requires.ready.names c.if-not-has.false c.in-Some.entry.now (sym e)) s);
       result = li.result;
       type_id = li.type_id;
       width = other_width i c.if-opcode-eq-TYPE_INT.false c.if-opcode-eq-TYPE_FLOAT.false;
     }
 
 pub whole_line-requires : goal.whole_line-requires
-whole_line-requires c = record { low = c.in-Some-add_all_listed.ensures.low; within = c.in-Some-add_all_listed.ensures.within; utf8 = c.in-Some-add_all_listed.ensures.utf8 }
+whole_line-requires c =
+    record {
+      low = c.in-Some-add_all_listed.ensures.low;
+      within = c.in-Some-add_all_listed.ensures.within;
+      utf8 = c.in-Some-add_all_listed.ensures.utf8;
+    }

@@ -7,6 +7,7 @@ use Rattle.spv_printer.proofs.name.has_names.Given as goal
 
 abbrev pub invariant-loop-position : goal.invariant-loop-position
 invariant-loop-position l = record {
-  bits : is_some (names_from (enumerants_at (kind_of l.table l.kind)) l.mask 0) ≡ is_some (names_from (enumerants_at (kind_of l.table l.kind)) l.mask l.position);
+  bits : is_some (names_from (enumerants_at (kind_of l.table l.kind)) l.mask 0) ≡ is_some
+      (names_from (enumerants_at (kind_of l.table l.kind)) l.mask l.position);
   names : AreNames l.table l.names;
 }

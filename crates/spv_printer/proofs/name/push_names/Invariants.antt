@@ -9,6 +9,7 @@ use Rattle.spv_printer.proofs.name.push_names.Given as goal
 abbrev pub invariant-loop-position : goal.invariant-loop-position
 invariant-loop-position l = record {
   left : (ts : List (List ℕ)) → names_from (enumerants_at (kind_of l.table l.kind)) l.mask 0 ≡ Some ts
-      → Left (enumerants_at (kind_of l.table l.kind)) l.mask (string_bytes l.fn.out ++ joined ts) (string_bytes l.out) l.is_first l.position;
+      → Left (enumerants_at (kind_of l.table l.kind)) l.mask (string_bytes l.fn.out ++ joined ts)
+      (string_bytes l.out) l.is_first l.position;
   names : AreNames l.table l.names;
 }

@@ -10,7 +10,8 @@ range_from-rest-requires c = λ _.
     let u = rw v at c.as_bytes.ensures.utf8 in
     let m = rw v at c.in-Some.ensures in
     let l : c.in-Some.at < length c.loop-at.rest.now = m.0.high in
-    IsCharBoundary-after_ascii c.loop-at.rest.now c.in-Some.at u l (marked_ascii (get_or c.loop-at.rest.now c.in-Some.at 0) m.1)
+    IsCharBoundary-after_ascii c.loop-at.rest.now c.in-Some.at u l
+    (marked_ascii (get_or c.loop-at.rest.now c.in-Some.at 0) m.1)
 
 pub loop-at-preserved : goal.loop-at-preserved
 loop-at-preserved c =
@@ -23,12 +24,19 @@ loop-at-preserved c =
     let r : c.range.result.now ≡ take place xs = c.range.ensures.value ∙ ap (λ n. take n xs) z in (
       c.range_from-rest.utf8,
       rw c.range_from-rest.ensures.value
-          (quoted_more xs place (string_bytes c.args.out.now ++ quoted c.args.text.now) (string_bytes c.loop-at.out) (string_bytes c.push_str-in-Some.new.self) c.escape_of.result.now m.0.high
-          (λ k l. m.0.before k (omega arith) l) (e m.1) c.loop-at.invariant.1 (c.in_ok-push_str-2.ensures.bytes ∙ ap (λ z. z ++ c.escape_of.result.now) (c.in_ok-push_str.ensures.bytes ∙ ap (λ z. string_bytes c.loop-at.out ++ z) r))),
+          (quoted_more xs place (string_bytes c.args.out.now ++ quoted c.args.text.now) (string_bytes c.loop-at.out)
+          (string_bytes c.push_str-in-Some.new.self) c.escape_of.result.now m.0.high
+          (λ k l. m.0.before k (omega arith) l) (e m.1) c.loop-at.invariant.1
+          (c.in_ok-push_str-2.ensures.bytes
+          ∙ ap (λ z. z ++ c.escape_of.result.now)
+          (c.in_ok-push_str.ensures.bytes ∙ ap (λ z. string_bytes c.loop-at.out ++ z) r))),
     )
 
 pub returns : goal.returns
 returns c =
     let m = rw c.as_bytes.ensures.value at c.in_default.ensures in
-    quoted_end c.loop-at.rest.now (string_bytes c.args.out.now ++ quoted c.args.text.now) (string_bytes c.loop-at.out) (string_bytes c.push_str-2.new.self) (string_bytes c.push-2.new.self) (λ k l. m k (omega arith) l)
-    c.loop-at.invariant.1 c.in_ok-push_str-3.ensures.bytes (c.in_ok-push-2.ensures.bytes ∙ ap (λ z. string_bytes c.push_str-2.new.self ++ z) (c.in_ok-push-2.ensures.ascii (omega arith)))
+    quoted_end c.loop-at.rest.now (string_bytes c.args.out.now ++ quoted c.args.text.now) (string_bytes c.loop-at.out)
+    (string_bytes c.push_str-2.new.self) (string_bytes c.push-2.new.self) (λ k l. m k (omega arith) l)
+    c.loop-at.invariant.1 c.in_ok-push_str-3.ensures.bytes
+    (c.in_ok-push-2.ensures.bytes ∙ ap (λ z. string_bytes c.push_str-2.new.self ++ z)
+    (c.in_ok-push-2.ensures.ascii (omega arith)))

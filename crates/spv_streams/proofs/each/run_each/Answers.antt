@@ -9,7 +9,8 @@ returns-in-Ok-clause-ends g c =
 
 pub returns-in-Err-clause-ends : goal.returns-in-Err-clause-ends
 returns-in-Err-clause-ends g c =
-    refused_on (option_map (λ t. t.now) c.args.grammar) c.args.how _ _ _ _ _ c.in-Err.error c.in-Err.ensures.refused (got_nothing _ _).writes refl c.report.ensures
+    refused_on (option_map (λ t. t.now) c.args.grammar) c.args.how _ _ _ _ _ c.in-Err.error c.in-Err.ensures.refused
+    (got_nothing _ _).writes refl c.report.ensures
 
 pub returns-in-Ok-clause-refused : goal.returns-in-Ok-clause-refused
 returns-in-Ok-clause-refused g c = λ e h.

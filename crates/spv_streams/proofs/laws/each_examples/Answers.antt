@@ -14,7 +14,8 @@ returns-clause-no_parts c = λ G how known. no_files G how known [] [] [] 2 refl
 
 pub returns-clause-ends : goal.returns-clause-ends
 returns-clause-ends c = λ text how known names.
-    Ends.starved (got_nothing _ _).writes tt (record { whole = λ e. refl; begun = record { count = 13; fits = lit≤ tt; written = refl } }) refl
+    Ends.starved (got_nothing _ _).writes tt
+    (record { whole = λ e. refl; begun = record { count = 13; fits = lit≤ tt; written = refl } }) refl
 
 pub returns-clause-never_ends : goal.returns-clause-never_ends
 returns-clause-never_ends c = λ text how known names status. never_told text how known names status

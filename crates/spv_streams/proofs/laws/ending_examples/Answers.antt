@@ -8,7 +8,11 @@ pub returns-clause-runs : goal.returns-clause-runs
 returns-clause-runs c = λ command text. record {
   done = λ h. absurd (omega (arith, h));
   error = λ _. (memory_line, memory, refl);
-  failed = λ t. elim t [ inl a ↦ absurd (a refl) | inr b ↦ elim b [ inl a ↦ absurd (a refl) | inr a ↦ absurd (a refl) ] ];
+  failed = λ t. elim t [
+    | inl a ↦ absurd (a refl)
+    | inr b ↦
+        elim b [ inl a ↦ absurd (a refl) | inr a ↦ absurd (a refl) ]
+  ];
   unwritten = λ _ _. refl;
   unmade = λ _ _. refl;
   begun = λ t. elim t [ inl a ↦ absurd (a refl) | inr a ↦ absurd (a refl) ];

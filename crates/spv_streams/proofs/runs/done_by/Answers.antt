@@ -11,13 +11,15 @@ pub returns-in-Judge-clause-ends : goal.returns-in-Judge-clause-ends
 returns-in-Judge-clause-ends g c =
     let ends = rw c.reach_by-reach.ensures at c.tasked.ensures.ends in
     rw c.in-Judge.is (record {
-      ends = alone (DoesTask _ c.args.table.now _) (BeginsTask _ c.args.table.now _) _ _ _ _ (λ f. f refl) (λ q. refl) ends;
+      ends = alone (DoesTask _ c.args.table.now _) (BeginsTask _ c.args.table.now _) _ _ _ _ (λ f. f refl)
+          (λ q. refl) ends;
       only = of_two _ _ _ _ c.tasked.ensures.only;
     })
 
 pub returns-in-Show-clause-ends : goal.returns-in-Show-clause-ends
 returns-in-Show-clause-ends g c = rw c.in-Show.is (record {
-  ends = alone (Shows c.args.table.now) (BeginsShowing c.args.table.now) _ _ _ _ (λ f. f refl) (λ q. refl) c.shown.ensures.ends;
+  ends = alone (Shows c.args.table.now) (BeginsShowing c.args.table.now) _ _ _ _ (λ f. f refl)
+      (λ q. refl) c.shown.ensures.ends;
   only = of_two _ _ _ _ c.shown.ensures.only;
 })
 
@@ -32,7 +34,8 @@ returns-in-Trace-clause-ends g c =
     let ends = rw (c.deref.ensures.value, c.reach_by-reach-in-Trace.ensures) at c.trace_stream.ensures.ends in
     let only = rw c.reach_by-reach-in-Trace.ensures at c.trace_stream.ensures.only in
     rw c.in-Trace.is (record {
-      ends = alone (Traces c.args.table.now _ _ _ _) (BeginsTracing c.args.table.now _ _ _ _) _ _ _ _ (λ f. f refl) (λ q. refl) ends;
+      ends = alone (Traces c.args.table.now _ _ _ _) (BeginsTracing c.args.table.now _ _ _ _) _ _ _ _ (λ f. f refl)
+          (λ q. refl) ends;
       only = of_entries _ _ _ _ only;
     })
 
@@ -44,7 +47,8 @@ returns-in-Rules-clause-ends g c = rw c.in-Rules.is (record {
 
 pub returns-in-Grammar-clause-ends : goal.returns-in-Grammar-clause-ends
 returns-in-Grammar-clause-ends g c = rw c.in-Grammar.is (record {
-  ends = unread (WritesGrammar c.args.table.now) (BeginsGrammar c.args.table.now) _ _ _ _ (λ f. f refl) (λ f. f refl) (λ q. refl) c.grammar_written.ensures;
+  ends = unread (WritesGrammar c.args.table.now) (BeginsGrammar c.args.table.now) _ _ _ _ (λ f. f refl) (λ f. f refl)
+      (λ q. refl) c.grammar_written.ensures;
   only = of_two _ _ _ _ c.grammar_written.ensures.only;
 })
 
@@ -52,12 +56,14 @@ pub returns-in-Annotate-clause-ends : goal.returns-in-Annotate-clause-ends
 returns-in-Annotate-clause-ends g c =
     let ends = rw c.view_by.ensures at c.viewed.ensures.ends in
     rw c.in-Annotate.is (record {
-      ends = alone (Views _ c.args.table.now _) (BeginsViewing _ c.args.table.now _) _ _ _ _ (λ f. f refl) (λ q. refl) ends;
+      ends = alone (Views _ c.args.table.now _) (BeginsViewing _ c.args.table.now _) _ _ _ _ (λ f. f refl)
+          (λ q. refl) ends;
       only = of_functions _ _ _ _ c.viewed.ensures.only;
     })
 
 pub returns-in-Graph-clause-ends : goal.returns-in-Graph-clause-ends
 returns-in-Graph-clause-ends g c = rw c.in-Graph.is (record {
-  ends = alone (Views _ c.args.table.now _) (BeginsViewing _ c.args.table.now _) _ _ _ _ (λ f. f refl) (λ q. refl) c.viewed-in-Graph.ensures.ends;
+  ends = alone (Views _ c.args.table.now _) (BeginsViewing _ c.args.table.now _) _ _ _ _ (λ f. f refl)
+      (λ q. refl) c.viewed-in-Graph.ensures.ends;
   only = of_functions _ _ _ _ c.viewed-in-Graph.ensures.only;
 })

@@ -4,11 +4,13 @@ use Rattle.spv_streams.proofs.runs.done_by_text.Goals as goal
 
 pub returns-in-Ok-clause-ends : goal.returns-in-Ok-clause-ends
 returns-in-Ok-clause-ends g c =
-    by_text c.args.command.now (option_map (λ t. t.now) c.args.grammar) c.in-Ok.table _ _ _ _ c.in-Ok.ensures.table c.done_as-answer.ensures.ends
+    by_text c.args.command.now (option_map (λ t. t.now) c.args.grammar) c.in-Ok.table _ _ _ _ c.in-Ok.ensures.table
+    c.done_as-answer.ensures.ends
 
 pub returns-in-Err-clause-ends : goal.returns-in-Err-clause-ends
 returns-in-Err-clause-ends g c =
-    grammar_ends c.args.command.now (option_map (λ t. t.now) c.args.grammar) _ _ _ c.in-Err.error c.in-Err.ensures.refused (λ f. f refl) (λ f. f refl) (λ f. f refl) (λ q. refl) (λ q. refl)
+    grammar_ends c.args.command.now (option_map (λ t. t.now) c.args.grammar) _ _ _ c.in-Err.error
+    c.in-Err.ensures.refused (λ f. f refl) (λ f. f refl) (λ f. f refl) (λ q. refl) (λ q. refl)
 
 pub returns-in-Ok-clause-refused : goal.returns-in-Ok-clause-refused
 returns-in-Ok-clause-refused g c = λ e h.

@@ -33,7 +33,8 @@ scalar_holds P (Some s) h = h
 scalar_with : (P : Type 0) (o : Option Scalar) (s : Scalar) → o ≡ Some s → P → IsSomeAnd o (λ s. P)
 scalar_with P o s e h = rw e h
 
-pub declares_asks : (is : List PlainInst) (n : ℕ) (d : Declaration) (os : List Plain) → DeclaresSoundly is n d os → (k : ℕ) → Asks is n d os k
+pub declares_asks : (is : List PlainInst) (n : ℕ) (d : Declaration) (os : List Plain) → DeclaresSoundly is n d os
+    → (k : ℕ) → Asks is n d os k
 declares_asks is n kind.Int (Result t ∷ Word w ∷ Word s ∷ []) h k = (λ e. h.0, λ e. h.1)
 declares_asks is n kind.Float (Result t ∷ Word w ∷ []) h k = λ e. h
 declares_asks is n kind.Vector (Result t ∷ Id c ∷ Word m ∷ []) h k =
@@ -42,11 +43,13 @@ declares_asks is n kind.Vector (Result t ∷ Id c ∷ Word m ∷ []) h k =
 declares_asks is n kind.Array (Result t ∷ Id a ∷ Id l ∷ []) h k = (λ e. h.0, λ e. h.1)
 declares_asks is n kind.Struct (Result t ∷ os) h k = λ j x e at. all_at (IsData is) (ids_in os) j x h at
 declares_asks is n kind.Pointer (Result t ∷ Value j class ∷ Id p ∷ []) h k = λ e. h
-declares_asks is n kind.Function (Result t ∷ Id r ∷ os) h k = (λ e. h.0, λ j x e at. all_at (IsData is) (ids_in os) j x h.1 at)
+declares_asks is n kind.Function (Result t ∷ Id r ∷ os) h k =
+    (λ e. h.0, λ j x e at. all_at (IsData is) (ids_in os) j x h.1 at)
 declares_asks is n kind.Forward (Id p ∷ Value j class ∷ []) h k = λ e. h
 declares_asks is n d os h k = h
 
-pub asks_declares : (is : List PlainInst) (n : ℕ) (d : Declaration) (os : List Plain) → ((k : ℕ) → Asks is n d os k) → DeclaresSoundly is n d os
+pub asks_declares : (is : List PlainInst) (n : ℕ) (d : Declaration) (os : List Plain) → ((k : ℕ) → Asks is n d os k)
+    → DeclaresSoundly is n d os
 asks_declares is n kind.Int (Result t ∷ Word w ∷ Word s ∷ []) h = ((h 1).0 refl, (h 2).1 refl)
 asks_declares is n kind.Float (Result t ∷ Word w ∷ []) h = h 1 refl
 asks_declares is n kind.Vector (Result t ∷ Id c ∷ Word m ∷ []) h =
@@ -55,9 +58,11 @@ asks_declares is n kind.Vector (Result t ∷ Id c ∷ Word m ∷ []) h =
 asks_declares is n kind.Array (Result t ∷ Id a ∷ Id l ∷ []) h = ((h 1).0 refl, (h 2).1 refl)
 asks_declares is n kind.Struct (Result t ∷ os) h = at_all (IsData is) (ids_in os) (λ j x e. h (1 + j) j x refl e)
 asks_declares is n kind.Pointer (Result t ∷ Value j class ∷ Id p ∷ []) h = h 2 refl
-asks_declares is n kind.Function (Result t ∷ Id r ∷ os) h = ((h 1).0 refl, at_all (IsData is) (ids_in os) (λ j x e. (h (2 + j)).1 j x refl e))
+asks_declares is n kind.Function (Result t ∷ Id r ∷ os) h =
+    ((h 1).0 refl, at_all (IsData is) (ids_in os) (λ j x e. (h (2 + j)).1 j x refl e))
 asks_declares is n kind.Forward (Id p ∷ Value j class ∷ []) h = h 0 refl
 asks_declares is n d os h = h 0
 
-pub operands_declare : (is : List PlainInst) (n : ℕ) (d : Declaration) (os : List Plain) → ((k : ℕ) → Asks is n d os k) ↔ DeclaresSoundly is n d os
+pub operands_declare : (is : List PlainInst) (n : ℕ) (d : Declaration) (os : List Plain)
+    → ((k : ℕ) → Asks is n d os k) ↔ DeclaresSoundly is n d os
 operands_declare is n d os = (asks_declares is n d os, declares_asks is n d os)

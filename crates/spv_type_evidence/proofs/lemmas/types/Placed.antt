@@ -29,13 +29,17 @@ has_function G is n f known o =
       shape = function_shape G is f d.0 known d.1 (function_opcode is f d.0 d.1 o.begun.there);
     }
 
-pub return_function : (G : Table) (is : List PlainInst) (n : ℕ) (i : PlainInst) → IsKnown G is → slice_get is n ≡ Some i → i.opcode ≡ opcode.RETURN → HasFunction is n
-return_function G is n i known at o = let f = return_standing is known.laid n i at o in has_function G is n f.0 known f.1
+pub return_function : (G : Table) (is : List PlainInst) (n : ℕ) (i : PlainInst) → IsKnown G is → slice_get is n ≡ Some i
+    → i.opcode ≡ opcode.RETURN → HasFunction is n
+return_function G is n i known at o = let f = return_standing is known.laid n i at o in
+    has_function G is n f.0 known f.1
 
-pub value_function : (G : Table) (is : List PlainInst) (n : ℕ) (i : PlainInst) → IsKnown G is → slice_get is n ≡ Some i → i.opcode ≡ opcode.RETURN_VALUE → HasFunction is n
+pub value_function : (G : Table) (is : List PlainInst) (n : ℕ) (i : PlainInst) → IsKnown G is → slice_get is n ≡ Some i
+    → i.opcode ≡ opcode.RETURN_VALUE → HasFunction is n
 value_function G is n i known at o = let f = value_standing is known.laid n i at o in has_function G is n f.0 known f.1
 
-pub parameter_function : (G : Table) (is : List PlainInst) (n : ℕ) (i : PlainInst) → IsKnown G is → slice_get is n ≡ Some i → i.opcode ≡ opcode.FUNCTION_PARAMETER → IsTypedParameter is n i
+pub parameter_function : (G : Table) (is : List PlainInst) (n : ℕ) (i : PlainInst) → IsKnown G is
+    → slice_get is n ≡ Some i → i.opcode ≡ opcode.FUNCTION_PARAMETER → IsTypedParameter is n i
 parameter_function G is n i known at o =
     let f = parameter_standing is known.laid n i at o in
     let h = has_function G is n f.0 known f.1 in
@@ -44,7 +48,8 @@ parameter_function G is n i known at o =
     record {
       function = h;
       later = elim (cases_order h.number n) [
-        | inl e ↦ (let k : i.opcode ≡ opcode.FUNCTION = function_opcode is n i at (rw (← e) h.of.of.begun.there) in absurd (omega arith))
+        | inl e ↦ (let k : i.opcode ≡ opcode.FUNCTION = function_opcode is n i at (rw (← e) h.of.of.begun.there) in
+            absurd (omega arith))
         | inr r ↦ omega arith
       ];
       within = slice_get_within is n i at;

@@ -15,13 +15,15 @@ use Rattle.spv_type_evidence.specs.types.Function.{ReturnsFrom}
 use Rattle.spv_type_evidence.specs.types.Evidence.{Shows}
 use Rattle.spv_type_evidence.specs.types.inner.Known.{ReturnsOne}
 
-pub return_shows : (G : Table) (is : List PlainInst) (n r : ℕ) (i : PlainInst) → ReturnsFrom is n r → ¬ (IsSoundReturn is n) → i.opcode ≡ opcode.RETURN
+pub return_shows : (G : Table) (is : List PlainInst) (n r : ℕ) (i : PlainInst) → ReturnsFrom is n r
+    → ¬ (IsSoundReturn is n) → i.opcode ≡ opcode.RETURN
     → Shows G is n i Y7 (evidence.Mismatch side.Return (Some r) None None)
 return_shows G is n r i f never o = Shows.nothing r o f (λ e.
     let nothing : ReturnsNothing is f.function = rw f.returned e in
     never (f.number, f.of.of, rw f.of.there nothing))
 
-pub value_shows : (G : Table) (is : List PlainInst) (n r : ℕ) (i : PlainInst) (v : ReturnsOne is i) → ReturnsFrom is n r → ¬ (IsSoundReturnValue is n i) → i.opcode ≡ opcode.RETURN_VALUE
+pub value_shows : (G : Table) (is : List PlainInst) (n r : ℕ) (i : PlainInst) (v : ReturnsOne is i) → ReturnsFrom is n r
+    → ¬ (IsSoundReturnValue is n i) → i.opcode ≡ opcode.RETURN_VALUE
     → Shows G is n i Y7 (evidence.Mismatch side.Return (Some r) (Some v.found) None)
 value_shows G is n r i v f never o =
     let types : types_of is (take 1 (ids_in i.operands)) ≡ Some (v.found ∷ []) = rw (v.operands, v.typed) refl in

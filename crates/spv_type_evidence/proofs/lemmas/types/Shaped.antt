@@ -1,5 +1,6 @@
 -- The operands of instructions that fit their rows.
-use Rattle.std.proofs.Common.{◌≡◌, ◌∙◌, ◌≤◌, ◌+◌, ◌++◌, ℕ, zero, suc, List, [], ◌∷◌, Option, Some, None, refl, sym, ap, subst, length, map, arith, option_and_then, nat_eq}
+use Rattle.std.proofs.Common.{◌≡◌, ◌∙◌, ◌≤◌, ◌+◌, ◌++◌, ℕ, zero, suc, List, [], ◌∷◌, Option, Some, None, refl, sym, ap}
+use Rattle.std.proofs.Common.{subst, length, map, arith, option_and_then, nat_eq}
 use Rattle.std.specs.Prelude.{slice_get, sum_by, IsSomeAnd, IsSome, if◌then◌else◌, Bool, true, false}
 use Rattle.std.proofs.lemmas.Bool.{eqb-true}
 use Rattle.std.proofs.lemmas.List.Sums.{sum_by-cons, sum_by-append}
@@ -57,7 +58,8 @@ front G g gs (o ∷ os) (AreOf.more _ _ _ _ i a) = record { first = o; rest = os
 no_rest : (gs : List Form) → Ends closed gs → gs ≡ []
 no_rest _ Ends.nothing = refl
 
-all_ids : (G : Table) (r : Role) (gs : List Form) (os : List Plain) → Ends (repeated (form.Id r ∷ [])) gs → AreOf G gs os → os ≡ map operand.Id (ids_in os)
+all_ids : (G : Table) (r : Role) (gs : List Form) (os : List Plain) → Ends (repeated (form.Id r ∷ [])) gs
+    → AreOf G gs os → os ≡ map operand.Id (ids_in os)
 all_ids G r gs [] e a = refl
 all_ids G r gs (o ∷ os) (Ends.done _) a = elim a [ ]
 all_ids G r gs (o ∷ os) (Ends.again _ hs e) (AreOf.more _ _ _ _ i a) =
@@ -121,11 +123,13 @@ value_known = refl
 
 -- What definitions say.
 
-or_there : (P : PlainInst → Type 0) (a b : Option PlainInst) (d : PlainInst) → or_else a b ≡ Some d → (a ≡ Some d → P d) → (b ≡ Some d → P d) → P d
+or_there : (P : PlainInst → Type 0) (a b : Option PlainInst) (d : PlainInst) → or_else a b ≡ Some d → (a ≡ Some d → P d)
+    → (b ≡ Some d → P d) → P d
 or_there P None b d e x y = y e
 or_there P (Some a) b d e x y = x e
 
-definition_there : (is : List PlainInst) (x : ℕ) (d : PlainInst) → definition_of is x ≡ Some d → (n : ℕ) × (slice_get is n ≡ Some d)
+definition_there : (is : List PlainInst) (x : ℕ) (d : PlainInst) → definition_of is x ≡ Some d
+    → (n : ℕ) × (slice_get is n ≡ Some d)
 definition_there [] x d e = cc
 definition_there (i ∷ is) x d e =
     let b = has_result (result_in i.operands) x in
@@ -137,26 +141,41 @@ definition_there (i ∷ is) x d e =
     here true h = (0, h)
     here false h = cc
 
-value_typed : (o : Option PlainInst) → IsSomeAnd o IsValue → (u : ℕ) × (option_and_then (λ i. type_in i.operands) o ≡ Some u)
+value_typed : (o : Option PlainInst) → IsSomeAnd o IsValue
+    → (u : ℕ) × (option_and_then (λ i. type_in i.operands) o ≡ Some u)
 value_typed None h = absurd h
 value_typed (Some d) h = of (type_in d.operands) h.0 where
   of : (p : Option ℕ) → IsSome p → (u : ℕ) × (p ≡ Some u)
   of None k = cc
   of (Some u) k = (u, refl)
 
-pub typeable : (G : Table) (is : List PlainInst) (n : ℕ) (i : PlainInst) (gs : List Form) → IsKnown G is → slice_get is n ≡ Some i → HasForms G i gs
-    → (k x : ℕ) → slice_get gs k ≡ Some (form.Id role.Value) → slice_get i.operands k ≡ Some (operand.Id x) → (u : ℕ) × (type_of is x ≡ Some u)
+pub typeable : (G : Table) (is : List PlainInst) (n : ℕ) (i : PlainInst) (gs : List Form) → IsKnown G is
+    → slice_get is n ≡ Some i → HasForms G i gs
+    → (k x : ℕ) → slice_get gs k ≡ Some (form.Id role.Value) → slice_get i.operands k ≡ Some (operand.Id x)
+    → (u : ℕ) × (type_of is x ≡ Some u)
 typeable G is n i gs known at has k x g o =
-    let asked : IsUse G i k x role.Value = record { forms = gs; has = has; form = form.Id role.Value; operand = operand.Id x; form_at = g; operand_at = o; role = refl; id = refl } in
+    let asked : IsUse G i k x role.Value = record {
+      forms = gs;
+      has = has;
+      form = form.Id role.Value;
+      operand = operand.Id x;
+      form_at = g;
+      operand_at = o;
+      role = refl;
+      id = refl;
+    } in
     let used : IsUsedAt G is n k x role.Value = record { inst = i; there = at; used = asked } in
     value_typed (definition_of is x) (known.roles.each n k x role.Value used)
 
-with_type : (is : List PlainInst) (x : ℕ) (xs : List ℕ) → (u : ℕ) × (type_of is x ≡ Some u) → (us : List ℕ) × (types_of is xs ≡ Some us) → (us : List ℕ) × (types_of is (x ∷ xs) ≡ Some us)
+with_type : (is : List PlainInst) (x : ℕ) (xs : List ℕ) → (u : ℕ) × (type_of is x ≡ Some u)
+    → (us : List ℕ) × (types_of is xs ≡ Some us) → (us : List ℕ) × (types_of is (x ∷ xs) ≡ Some us)
 with_type is x xs u us = (u.0 ∷ us.0, rw (u.1, us.1) refl)
 
 -- ids that stand where values are due
-values_typed : (G : Table) (is : List PlainInst) (gs : List Form) (os : List Plain) → Ends (repeated (v ∷ [])) gs → AreOf G gs os
-    → ((k x : ℕ) → slice_get gs k ≡ Some (form.Id role.Value) → slice_get os k ≡ Some (operand.Id x) → (u : ℕ) × (type_of is x ≡ Some u))
+values_typed : (G : Table) (is : List PlainInst) (gs : List Form) (os : List Plain) → Ends (repeated (v ∷ [])) gs
+    → AreOf G gs os
+    → ((k x : ℕ) → slice_get gs k ≡ Some (form.Id role.Value) → slice_get os k ≡ Some (operand.Id x)
+    → (u : ℕ) × (type_of is x ≡ Some u))
     → (us : List ℕ) × (types_of is (ids_in os) ≡ Some us)
 values_typed G is gs [] e a h = ([], refl)
 values_typed G is gs (o ∷ os) (Ends.done _) a h = elim a [ ]
@@ -172,7 +191,9 @@ one_word o os = let e = sum_by-cons operand_words o os in omega arith
 
 pub few_ids : (os : List Plain) → length (ids_in os) ≤ sum_by operand_words os
 few_ids [] = omega arith
-few_ids (operand.Id x ∷ os) = let r = few_ids os in let e : sum_by operand_words (operand.Id x ∷ os) ≡ 1 + sum_by operand_words os = sum_by-cons operand_words (operand.Id x) os in omega arith
+few_ids (operand.Id x ∷ os) = let r = few_ids os in
+    let e : sum_by operand_words (operand.Id x ∷ os) ≡ 1 + sum_by operand_words os = sum_by-cons operand_words
+    (operand.Id x) os in omega arith
 few_ids (operand.OfType x ∷ os) = omega arith
 few_ids (operand.Result x ∷ os) = omega arith
 few_ids (operand.Word x ∷ os) = omega arith
@@ -183,11 +204,13 @@ few_ids (operand.Text x ∷ os) = omega arith
 few_ids (operand.Value a b ∷ os) = omega arith
 few_ids (operand.Mask a b ∷ os) = omega arith
 
-pub few_words : (is : List PlainInst) (n : ℕ) (i : PlainInst) → slice_get is n ≡ Some i → sum_by operand_words i.operands ≤ sum_by word_count is
+pub few_words : (is : List PlainInst) (n : ℕ) (i : PlainInst) → slice_get is n ≡ Some i
+    → sum_by operand_words i.operands ≤ sum_by word_count is
 few_words [] n i h = cc
 few_words (j ∷ is) zero i h =
     let e : j ≡ i = cc in
-    let c : sum_by word_count (j ∷ is) ≡ (1 + sum_by operand_words j.operands) + sum_by word_count is = sum_by-cons word_count j is in
+    let c : sum_by word_count (j ∷ is) ≡ (1 + sum_by operand_words j.operands) + sum_by word_count is = sum_by-cons
+    word_count j is in
     let l : sum_by operand_words j.operands ≤ sum_by word_count (j ∷ is) = omega arith in
     subst (λ (k : PlainInst). sum_by operand_words k.operands ≤ sum_by word_count (j ∷ is)) e l
 few_words (j ∷ is) (suc n) i h = let r = few_words is n i h in let c = sum_by-cons word_count j is in omega arith
@@ -202,25 +225,31 @@ first_there os rest o e = rw e refl
 third_there : (os rest : List Plain) (a b o : Plain) → os ≡ a ∷ b ∷ o ∷ rest → slice_get os 2 ≡ Some o
 third_there os rest a b o e = rw e refl
 
-later_there : (os rest : List Plain) (a b c o : Plain) (k : ℕ) → os ≡ a ∷ b ∷ c ∷ rest → slice_get rest k ≡ Some o → slice_get os (suc (suc (suc k))) ≡ Some o
+later_there : (os rest : List Plain) (a b c o : Plain) (k : ℕ) → os ≡ a ∷ b ∷ c ∷ rest → slice_get rest k ≡ Some o
+    → slice_get os (suc (suc (suc k))) ≡ Some o
 later_there os rest a b c o k e h = rw e h
 
 -- as many operands as words, where the first are told
-few_rest : (os : List Plain) (front rest : List Plain) (most : ℕ) → os ≡ front ++ rest → sum_by operand_words os ≤ most → length (ids_in rest) ≤ most
+few_rest : (os : List Plain) (front rest : List Plain) (most : ℕ) → os ≡ front ++ rest → sum_by operand_words os ≤ most
+    → length (ids_in rest) ≤ most
 few_rest os front rest most e h =
-    let a : sum_by operand_words (front ++ rest) ≡ sum_by operand_words front + sum_by operand_words rest = sum_by-append operand_words front rest in
+    let a : sum_by operand_words (front ++ rest) ≡ sum_by operand_words front + sum_by operand_words
+    rest = sum_by-append operand_words front rest in
     let b : sum_by operand_words (front ++ rest) ≤ most = subst (λ ps. sum_by operand_words ps ≤ most) e h in
     let c = few_ids rest in
     omega arith
 
-function_named : (d : PlainInst) (rest : List Plain) (x y z : ℕ) (o : Plain) → d.opcode ≡ opcode.FUNCTION → d.operands ≡ operand.OfType x ∷ operand.Result y ∷ o ∷ operand.Id z ∷ rest → function_type_in d ≡ Some z
+function_named : (d : PlainInst) (rest : List Plain) (x y z : ℕ) (o : Plain) → d.opcode ≡ opcode.FUNCTION
+    → d.operands ≡ operand.OfType x ∷ operand.Result y ∷ o ∷ operand.Id z ∷ rest → function_type_in d ≡ Some z
 function_named d rest x y z o e f = rw (e, f) refl
 
 -- OpFunction
 
-signed : (G : Table) (is : List PlainInst) (n : ℕ) (j : PlainInst) (os : List Plain) → IsKnown G is → slice_get is n ≡ Some j → signature_in j ≡ Some os → IsSignature os
+signed : (G : Table) (is : List PlainInst) (n : ℕ) (j : PlainInst) (os : List Plain) → IsKnown G is
+    → slice_get is n ≡ Some j → signature_in j ≡ Some os → IsSignature os
 signed G is n j os known at e = by (nat_eq j.opcode opcode.TYPE_FUNCTION) refl e where
-  by : (b : Bool) → nat_eq j.opcode opcode.TYPE_FUNCTION ≡ b → (if b then Some (after_result j.operands) else None) ≡ Some os → IsSignature os
+  by : (b : Bool) → nat_eq j.opcode opcode.TYPE_FUNCTION ≡ b
+      → (if b then Some (after_result j.operands) else None) ≡ Some os → IsSignature os
   by false q e = cc
   by true q e =
       let o : j.opcode ≡ opcode.TYPE_FUNCTION = eqb-true j.opcode opcode.TYPE_FUNCTION q in
@@ -230,10 +259,12 @@ signed G is n j os known at e = by (nat_eq j.opcode opcode.TYPE_FUNCTION) refl e
       let b = front G t s.rest a.rest a.later in
       let y = an_id G role.OfType b.first b.of in
       let ids = all_ids G role.OfType s.rest b.rest s.ending b.later in
-      let shape : j.operands ≡ operand.Result x.0 ∷ operand.Id y.0 ∷ b.rest = a.split ∙ ap (λ p. p ∷ a.rest) x.1 ∙ ap (λ ps. operand.Result x.0 ∷ ps) (b.split ∙ ap (λ p. p ∷ b.rest) y.1) in
+      let shape : j.operands ≡ operand.Result x.0 ∷ operand.Id y.0 ∷ b.rest = a.split ∙ ap (λ p. p ∷ a.rest) x.1
+      ∙ ap (λ ps. operand.Result x.0 ∷ ps) (b.split ∙ ap (λ p. p ∷ b.rest) y.1) in
       let same : after_result j.operands ≡ os = cc in
       let rest : operand.Id y.0 ∷ b.rest ≡ os = sym (ap after_result shape) ∙ same in
-      let few : length (ids_in b.rest) ≤ sum_by word_count is = few_rest j.operands (operand.Result x.0 ∷ operand.Id y.0 ∷ []) b.rest (sum_by word_count is) shape (few_words is n j at) in
+      let few : length (ids_in b.rest) ≤ sum_by word_count is = few_rest j.operands
+      (operand.Result x.0 ∷ operand.Id y.0 ∷ []) b.rest (sum_by word_count is) shape (few_words is n j at) in
       let words = known.words in
       record {
         returned = y.0;
@@ -242,7 +273,8 @@ signed G is n j os known at e = by (nat_eq j.opcode opcode.TYPE_FUNCTION) refl e
         few = omega arith;
       }
 
-pub function_shape : (G : Table) (is : List PlainInst) (n : ℕ) (d : PlainInst) → IsKnown G is → slice_get is n ≡ Some d → d.opcode ≡ opcode.FUNCTION → IsFunction is d
+pub function_shape : (G : Table) (is : List PlainInst) (n : ℕ) (d : PlainInst) → IsKnown G is → slice_get is n ≡ Some d
+    → d.opcode ≡ opcode.FUNCTION → IsFunction is d
 function_shape G is n d known at o =
     let s = shaped G function_row d (known.fits n d at) (ap row_of o ∙ function_known) in
     let a = front G T (R ∷ kind kind_of.FunctionControl ∷ t ∷ s.rest) d.operands s.each in
@@ -254,7 +286,8 @@ function_shape G is n d known at o =
     let z = an_id G role.OfType e.first e.of in
     let shape : d.operands ≡ operand.OfType x.0 ∷ operand.Result y.0 ∷ c.first ∷ operand.Id z.0 ∷ e.rest = (
     a.split ∙ ap (λ p. p ∷ a.rest) x.1
-    ∙ ap (λ ps. operand.OfType x.0 ∷ ps) (b.split ∙ ap (λ p. p ∷ b.rest) y.1 ∙ ap (λ ps. operand.Result y.0 ∷ ps) (c.split ∙ ap (λ ps. c.first ∷ ps) (e.split ∙ ap (λ p. p ∷ e.rest) z.1)))
+    ∙ ap (λ ps. operand.OfType x.0 ∷ ps) (b.split ∙ ap (λ p. p ∷ b.rest) y.1
+    ∙ ap (λ ps. operand.Result y.0 ∷ ps) (c.split ∙ ap (λ ps. c.first ∷ ps) (e.split ∙ ap (λ p. p ∷ e.rest) z.1)))
     ) in
     let names = function_named d e.rest x.0 y.0 z.0 c.first o shape in
     record {
@@ -267,32 +300,39 @@ function_shape G is n d known at o =
           of z.0 os (definition_of is z.0) refl r;
     }
   where
-    of : (u : ℕ) (os : List Plain) (p : Option PlainInst) → definition_of is u ≡ p → option_and_then signature_in p ≡ Some os → IsSignature os
+    of : (u : ℕ) (os : List Plain) (p : Option PlainInst) → definition_of is u ≡ p
+        → option_and_then signature_in p ≡ Some os → IsSignature os
     of u os None q r = cc
     of u os (Some j) q r = let m = definition_there is u j q in signed G is m.0 j os known m.1 r
 
-pub parameter_shape : (G : Table) (is : List PlainInst) (n : ℕ) (i : PlainInst) → IsKnown G is → slice_get is n ≡ Some i → i.opcode ≡ opcode.FUNCTION_PARAMETER → (u : ℕ) × (type_in i.operands ≡ Some u)
+pub parameter_shape : (G : Table) (is : List PlainInst) (n : ℕ) (i : PlainInst) → IsKnown G is → slice_get is n ≡ Some i
+    → i.opcode ≡ opcode.FUNCTION_PARAMETER → (u : ℕ) × (type_in i.operands ≡ Some u)
 parameter_shape G is n i known at o =
     let s = shaped G parameter_row i (known.fits n i at) (ap row_of o ∙ parameter_known) in
     let a = front G T (R ∷ s.rest) i.operands s.each in
     let x = a_type G a.first a.of in
     (x.0, type_front i.operands a.rest x.0 (a.split ∙ ap (λ p. p ∷ a.rest) x.1))
 
-pub value_shape : (G : Table) (is : List PlainInst) (n : ℕ) (i : PlainInst) → IsKnown G is → slice_get is n ≡ Some i → i.opcode ≡ opcode.RETURN_VALUE → ReturnsOne is i
+pub value_shape : (G : Table) (is : List PlainInst) (n : ℕ) (i : PlainInst) → IsKnown G is → slice_get is n ≡ Some i
+    → i.opcode ≡ opcode.RETURN_VALUE → ReturnsOne is i
 value_shape G is n i known at o =
     let s = shaped G value_row i (known.fits n i at) (ap row_of o ∙ value_known) in
     let a = front G v s.rest i.operands s.each in
     let x = an_id G role.Value a.first a.of in
     let none : a.rest ≡ [] = no_operands G s.rest a.rest a.later (no_rest s.rest s.ending) in
-    let shape : i.operands ≡ operand.Id x.0 ∷ [] = a.split ∙ ap (λ p. p ∷ a.rest) x.1 ∙ ap (λ ps. operand.Id x.0 ∷ ps) none in
-    let u = typeable G is n i (v ∷ s.rest) known at s.has 0 x.0 refl (first_there i.operands [] (operand.Id x.0) shape) in
+    let shape : i.operands ≡ operand.Id x.0 ∷ [] = a.split ∙ ap (λ p. p ∷ a.rest) x.1
+    ∙ ap (λ ps. operand.Id x.0 ∷ ps) none in
+    let u = typeable G is n i (v ∷ s.rest) known at s.has 0 x.0 refl
+    (first_there i.operands [] (operand.Id x.0) shape) in
     record { id = x.0; operands = shape; found = u.0; typed = u.1 }
 
-function_there : (o : Option PlainInst) → IsSomeAnd o (IsOfOpcode opcode.FUNCTION) → (d : PlainInst) × (o ≡ Some d) × (d.opcode ≡ opcode.FUNCTION)
+function_there : (o : Option PlainInst) → IsSomeAnd o (IsOfOpcode opcode.FUNCTION)
+    → (d : PlainInst) × (o ≡ Some d) × (d.opcode ≡ opcode.FUNCTION)
 function_there None h = absurd h
 function_there (Some d) h = (d, refl, h)
 
-pub call_shape : (G : Table) (is : List PlainInst) (n : ℕ) (i : PlainInst) → IsKnown G is → slice_get is n ≡ Some i → i.opcode ≡ opcode.FUNCTION_CALL → CallsOne is i
+pub call_shape : (G : Table) (is : List PlainInst) (n : ℕ) (i : PlainInst) → IsKnown G is → slice_get is n ≡ Some i
+    → i.opcode ≡ opcode.FUNCTION_CALL → CallsOne is i
 call_shape G is n i known at o =
     let s = shaped G call_row i (known.fits n i at) (ap row_of o ∙ call_known) in
     let a = front G T (R ∷ f ∷ s.rest) i.operands s.each in
@@ -303,7 +343,8 @@ call_shape G is n i known at o =
     let z = an_id G role.Function c.first c.of in
     let shape : i.operands ≡ operand.OfType x.0 ∷ operand.Result y.0 ∷ operand.Id z.0 ∷ c.rest = (
     a.split ∙ ap (λ p. p ∷ a.rest) x.1
-    ∙ ap (λ ps. operand.OfType x.0 ∷ ps) (b.split ∙ ap (λ p. p ∷ b.rest) y.1 ∙ ap (λ ps. operand.Result y.0 ∷ ps) (c.split ∙ ap (λ p. p ∷ c.rest) z.1))
+    ∙ ap (λ ps. operand.OfType x.0 ∷ ps) (b.split ∙ ap (λ p. p ∷ b.rest) y.1
+    ∙ ap (λ ps. operand.Result y.0 ∷ ps) (c.split ∙ ap (λ p. p ∷ c.rest) z.1))
     ) in
     let asked : IsUse G i 2 z.0 role.Function = record {
       forms = T ∷ R ∷ f ∷ s.rest;
@@ -315,11 +356,16 @@ call_shape G is n i known at o =
       role = refl;
       id = refl;
     } in
-    let d = function_there (definition_of is z.0) (known.roles.each n 2 z.0 role.Function (record { inst = i; there = at; used = asked })) in
+    let d = function_there (definition_of is z.0)
+    (known.roles.each n 2 z.0 role.Function (record { inst = i; there = at; used = asked })) in
     let m = definition_there is z.0 d.0 d.1 in
-    let types = values_typed G is s.rest c.rest s.ending c.later (λ k w g p. typeable G is n i (T ∷ R ∷ f ∷ s.rest) known at s.has (suc (suc (suc k))) w g (later_there i.operands c.rest (operand.OfType x.0) (operand.Result y.0) (operand.Id z.0) (operand.Id w) k shape p)) in
+    let types = values_typed G is s.rest c.rest s.ending c.later
+    (λ k w g p. typeable G is n i (T ∷ R ∷ f ∷ s.rest) known at s.has (suc (suc (suc k))) w g
+    (later_there i.operands c.rest (operand.OfType x.0) (operand.Result y.0) (operand.Id z.0)
+    (operand.Id w) k shape p)) in
     let few : length (ids_in c.rest) ≤ sum_by word_count is =
-    few_rest i.operands (operand.OfType x.0 ∷ operand.Result y.0 ∷ operand.Id z.0 ∷ []) c.rest (sum_by word_count is) shape (few_words is n i at)
+    few_rest i.operands (operand.OfType x.0 ∷ operand.Result y.0 ∷ operand.Id z.0 ∷ []) c.rest
+    (sum_by word_count is) shape (few_words is n i at)
     in
     let words = known.words in
     record {

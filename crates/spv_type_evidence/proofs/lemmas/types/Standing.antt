@@ -1,5 +1,6 @@
 -- A parameter and a return are of a function.
-use Rattle.std.proofs.Common.{◌≡◌, ◌∙◌, ◌<◌, ◌≤◌, ◌||◌, ◌&&◌, not, ℕ, zero, suc, List, [], ◌∷◌, inl, inr, Bool, true, false, Option, Some, None, refl, sym, ap, subst, length, drop, arith}
+use Rattle.std.proofs.Common.{◌≡◌, ◌∙◌, ◌<◌, ◌≤◌, ◌||◌, ◌&&◌, not, ℕ, zero, suc, List, [], ◌∷◌, inl, inr, Bool, true}
+use Rattle.std.proofs.Common.{false, Option, Some, None, refl, sym, ap, subst, length, drop, arith}
 use Rattle.std.specs.Prelude.{slice_get}
 use Rattle.std.proofs.lemmas.Option.{slice_get_within, none-some}
 use Rattle.spv_module.specs.Operand.{PlainInst}
@@ -44,7 +45,8 @@ some_inst (j ∷ is) zero h = (j, refl)
 some_inst (j ∷ is) (suc n) h = some_inst is n (omega (arith, h))
 
 -- what a span of a function says after an instruction of a class
-goes : (is : List PlainInst) (n : ℕ) (i : PlainInst) (s t : State) (a b : Bool) → slice_get is n ≡ Some i → is_among (class_of i.opcode) (Function ∷ []) ≡ a
+goes : (is : List PlainInst) (n : ℕ) (i : PlainInst) (s t : State) (a b : Bool) → slice_get is n ≡ Some i
+    → is_among (class_of i.opcode) (Function ∷ []) ≡ a
     → is_among (class_of i.opcode) (FunctionEnd ∷ []) ≡ b → implies (is_open t) (a || is_open s && not b) ≡ true
     → (is_open s ≡ true → (f : ℕ) × Opened is n f) → is_open t ≡ true → (f : ℕ) × Opened is (suc n) f
 goes is n i s t true b h e g imp o k = (
@@ -55,7 +57,8 @@ goes is n i s t true b h e g imp o k = (
     last = λ m l u. absurd (omega arith);
     not_ended = λ m l u.
         let same : m ≡ n = omega arith in
-        λ z. let w : is_among (class_of i.opcode) (FunctionEnd ∷ []) ≡ true = rw (class_at is n i h) at (at_moved is m n (FunctionEnd ∷ []) same z) in
+        λ z. let w : is_among (class_of i.opcode) (FunctionEnd ∷ []) ≡ true = rw (class_at is n i h) at
+        (at_moved is m n (FunctionEnd ∷ []) same z) in
         absurd (never (class_of i.opcode) e w);
   },
 ) where
@@ -74,11 +77,13 @@ goes is n i s t false b h e g imp o k =
         there = f.1.there;
         last = λ m l u z. elim (below_or m n (omega arith)) [
           | inl v ↦ f.1.last m l v z
-          | inr q ↦ is_not_at is n (class_of i.opcode) (Function ∷ []) (class_at is n i h) e (at_moved is m n (Function ∷ []) q z)
+          | inr q ↦ is_not_at is n (class_of i.opcode) (Function ∷ []) (class_at is n i h) e
+              (at_moved is m n (Function ∷ []) q z)
         ];
         not_ended = λ m l u z. elim (below_or m n (omega arith)) [
           | inl v ↦ f.1.not_ended m l v z
-          | inr q ↦ is_not_at is n (class_of i.opcode) (FunctionEnd ∷ []) (class_at is n i h) (g ∙ ended) (at_moved is m n (FunctionEnd ∷ []) q z)
+          | inr q ↦ is_not_at is n (class_of i.opcode) (FunctionEnd ∷ []) (class_at is n i h) (g ∙ ended)
+              (at_moved is m n (FunctionEnd ∷ []) q z)
         ];
       },
     )
@@ -87,21 +92,26 @@ goes is n i s t false b h e g imp o k =
     ends true x = cc
     ends false x = refl
 
-step_on : (is : List PlainInst) (n : ℕ) (i : PlainInst) → slice_get is n ≡ Some i → (p : Reached is n) → (o : Option State) → next_of p.state (class_of i.opcode) ≡ o → Reached is (suc n)
+step_on : (is : List PlainInst) (n : ℕ) (i : PlainInst) → slice_get is n ≡ Some i → (p : Reached is n)
+    → (o : Option State) → next_of p.state (class_of i.opcode) ≡ o → Reached is (suc n)
 step_on is n i h p None e =
-    let r : Remains p.state (class_of i.opcode ∷ classes (drop (suc n) is)) = subst (λ js. Remains p.state (classes js)) (from_here is n i h) p.remains in
+    let r : Remains p.state (class_of i.opcode ∷ classes (drop (suc n) is)) = subst (λ js. Remains p.state (classes js))
+    (from_here is n i h) p.remains in
     absurd (goes_no_further p.state (class_of i.opcode) e (classes (drop (suc n) is)) r)
 step_on is n i h p (Some t) e =
-    let r : Remains p.state (class_of i.opcode ∷ classes (drop (suc n) is)) = subst (λ js. Remains p.state (classes js)) (from_here is n i h) p.remains in
+    let r : Remains p.state (class_of i.opcode ∷ classes (drop (suc n) is)) = subst (λ js. Remains p.state (classes js))
+    (from_here is n i h) p.remains in
     let fine = fine_move p.state (class_of i.opcode) t e in
     record {
       state = t;
       remains = (goes_on p.state t (class_of i.opcode) e (classes (drop (suc n) is))).forth r;
-      opened = goes is n i p.state t (is_among (class_of i.opcode) (Function ∷ [])) (is_among (class_of i.opcode) (FunctionEnd ∷ [])) h refl refl fine.opens p.opened;
+      opened = goes is n i p.state t (is_among (class_of i.opcode) (Function ∷ []))
+          (is_among (class_of i.opcode) (FunctionEnd ∷ [])) h refl refl fine.opens p.opened;
     }
 
 reached : (is : List PlainInst) → IsLayout (classes is) → (n : ℕ) → n ≤ length is → Reached is n
-reached is laid zero h = record { state = at.Capabilities; remains = layout_remains (classes is) laid; opened = λ e. cc }
+reached is laid zero h =
+    record { state = at.Capabilities; remains = layout_remains (classes is) laid; opened = λ e. cc }
 reached is laid (suc n) h =
     let i = some_inst is n (omega (arith, h)) in
     let p = reached is laid n (omega (arith, h)) in
@@ -119,7 +129,8 @@ return_open at.Phis t e = refl
 return_open at.Body t e = refl
 return_open _ t e = cc
 
-of_open : (is : List PlainInst) (n f : ℕ) (i : PlainInst) → slice_get is n ≡ Some i → is_among (class_of i.opcode) (Function ∷ []) ≡ false → Opened is n f → IsOfFunction is n f
+of_open : (is : List PlainInst) (n f : ℕ) (i : PlainInst) → slice_get is n ≡ Some i
+    → is_among (class_of i.opcode) (Function ∷ []) ≡ false → Opened is n f → IsOfFunction is n f
 of_open is n f i h e o =
     let w = slice_get_within is n i h in
     let below = o.below in
@@ -130,14 +141,16 @@ of_open is n f i h e o =
         there = o.there;
         last = λ k a b z. elim (below_or k n b) [
           | inl g ↦ o.last k a g z
-          | inr q ↦ is_not_at is n (class_of i.opcode) (Function ∷ []) (class_at is n i h) e (at_moved is k n (Function ∷ []) q z)
+          | inr q ↦ is_not_at is n (class_of i.opcode) (Function ∷ []) (class_at is n i h) e
+              (at_moved is k n (Function ∷ []) q z)
         ];
       };
       not_ended = o.not_ended;
     }
 
 -- an instruction of a class that comes only where a function is open
-of_class : (is : List PlainInst) → IsLayout (classes is) → (n : ℕ) (i : PlainInst) (c : Class) → slice_get is n ≡ Some i → class_of i.opcode ≡ c → is_among c (Function ∷ []) ≡ false
+of_class : (is : List PlainInst) → IsLayout (classes is) → (n : ℕ) (i : PlainInst) (c : Class) → slice_get is n ≡ Some i
+    → class_of i.opcode ≡ c → is_among c (Function ∷ []) ≡ false
     → ((s t : State) → next_of s c ≡ Some t → is_open s ≡ true) → (f : ℕ) × IsOfFunction is n f
 of_class is laid n i c h e apart opens =
     let w = slice_get_within is n i h in
@@ -146,7 +159,8 @@ of_class is laid n i c h e apart opens =
   where
     by : (p : Reached is n) (o : Option State) → next_of p.state (class_of i.opcode) ≡ o → (f : ℕ) × IsOfFunction is n f
     by p None q =
-        let r : Remains p.state (class_of i.opcode ∷ classes (drop (suc n) is)) = subst (λ js. Remains p.state (classes js)) (from_here is n i h) p.remains in
+        let r : Remains p.state (class_of i.opcode ∷ classes (drop (suc n) is)) = subst
+        (λ js. Remains p.state (classes js)) (from_here is n i h) p.remains in
         absurd (goes_no_further p.state (class_of i.opcode) q (classes (drop (suc n) is)) r)
     by p (Some t) q =
         let f = p.opened (opens p.state t (sym (ap (next_of p.state) e) ∙ q)) in
@@ -164,11 +178,15 @@ class_of_value : class_of opcode.RETURN_VALUE ≡ Return
 unfolding rows
 class_of_value = refl
 
-pub parameter_standing : (is : List PlainInst) → IsLayout (classes is) → (n : ℕ) (i : PlainInst) → slice_get is n ≡ Some i → i.opcode ≡ opcode.FUNCTION_PARAMETER → (f : ℕ) × IsOfFunction is n f
-parameter_standing is laid n i h e = of_class is laid n i Parameter h (ap class_of e ∙ class_of_parameter) refl parameter_open
+pub parameter_standing : (is : List PlainInst) → IsLayout (classes is) → (n : ℕ) (i : PlainInst)
+    → slice_get is n ≡ Some i → i.opcode ≡ opcode.FUNCTION_PARAMETER → (f : ℕ) × IsOfFunction is n f
+parameter_standing is laid n i h e =
+    of_class is laid n i Parameter h (ap class_of e ∙ class_of_parameter) refl parameter_open
 
-pub return_standing : (is : List PlainInst) → IsLayout (classes is) → (n : ℕ) (i : PlainInst) → slice_get is n ≡ Some i → i.opcode ≡ opcode.RETURN → (f : ℕ) × IsOfFunction is n f
+pub return_standing : (is : List PlainInst) → IsLayout (classes is) → (n : ℕ) (i : PlainInst) → slice_get is n ≡ Some i
+    → i.opcode ≡ opcode.RETURN → (f : ℕ) × IsOfFunction is n f
 return_standing is laid n i h e = of_class is laid n i Return h (ap class_of e ∙ class_of_return) refl return_open
 
-pub value_standing : (is : List PlainInst) → IsLayout (classes is) → (n : ℕ) (i : PlainInst) → slice_get is n ≡ Some i → i.opcode ≡ opcode.RETURN_VALUE → (f : ℕ) × IsOfFunction is n f
+pub value_standing : (is : List PlainInst) → IsLayout (classes is) → (n : ℕ) (i : PlainInst) → slice_get is n ≡ Some i
+    → i.opcode ≡ opcode.RETURN_VALUE → (f : ℕ) × IsOfFunction is n f
 value_standing is laid n i h e = of_class is laid n i Return h (ap class_of e ∙ class_of_value) refl return_open

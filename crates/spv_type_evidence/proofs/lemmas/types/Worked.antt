@@ -1,5 +1,6 @@
 -- Evidence at the last instruction of small modules.
-use Rattle.std.proofs.Common.{◌≡◌, ◌∙◌, ◌<◌, ℕ, zero, suc, List, [], ◌∷◌, Option, Some, None, refl, sym, ap, subst, inl, inr, length, arith, lit<}
+use Rattle.std.proofs.Common.{◌≡◌, ◌∙◌, ◌<◌, ℕ, zero, suc, List, [], ◌∷◌, Option, Some, None, refl, sym, ap, subst, inl}
+use Rattle.std.proofs.Common.{inr, length, arith, lit<}
 use Rattle.std.specs.Prelude.{slice_get}
 use Rattle.spv_table.specs.Table.{Table}
 use Rattle.spv_module.specs.Operand.{Id, PlainInst}
@@ -42,30 +43,39 @@ before_count zero l = (λ e. absurd (omega (arith, e)), λ e. absurd (omega (ari
 before_count (suc zero) l = component_asked
 before_count (suc (suc j)) l = absurd (omega arith)
 
-pub count : (G : Table) → IsEvidence G with_vector rule.Y2 7 (evidence.Condition condition.VectorCount (Some 2) None None None [])
+pub count : (G : Table)
+    → IsEvidence G with_vector rule.Y2 7 (evidence.Condition condition.VectorCount (Some 2) None None None [])
 count G = record {
   inst = vector;
   there = refl;
-  shows = Shows.declaration 2 None (record { kind = kind.Vector; declares = refl; fails = λ a. not_five (a.1 refl); before = before_count }) refl;
+  shows = Shows.declaration 2 None (record
+      { kind = kind.Vector; declares = refl; fails = λ a. not_five (a.1 refl); before = before_count }) refl;
 }
 
-operand_of : (c d : Condition) (o p m n w v f g : Option ℕ) (ts us : List ℕ) → evidence.Condition c o m w f ts ≡ evidence.Condition d p n v g us → o ≡ p
+operand_of : (c d : Condition) (o p m n w v f g : Option ℕ) (ts us : List ℕ)
+    → evidence.Condition c o m w f ts ≡ evidence.Condition d p n v g us → o ≡ p
 operand_of c d o p m n w v f g ts us e = cc
 
-no_component : (G : Table) (i : PlainInst) (r : Rule) (e : Evidence) → Shows G with_vector 7 i r e → r ≡ rule.Y2 → e ≡ evidence.Condition condition.Scalar (Some 1) (Some 0) None None [] → i ≡ vector → ⊥
+no_component : (G : Table) (i : PlainInst) (r : Rule) (e : Evidence) → Shows G with_vector 7 i r e → r ≡ rule.Y2
+    → e ≡ evidence.Condition condition.Scalar (Some 1) (Some 0) None None [] → i ≡ vector → ⊥
 no_component G i _ _ (Shows.declaration k m f by) p q same =
-    let at : Some k ≡ Some 1 = operand_of (condition_at f.kind k) condition.Scalar (Some k) (Some 1) m (Some 0) None None None None [] [] q in
+    let at : Some k ≡ Some 1 = operand_of (condition_at f.kind k) condition.Scalar (Some k) (Some 1) m
+    (Some 0) None None None None [] [] q in
     let one : k ≡ 1 = cc in
-    let declares : Some kind.Vector ≡ Some f.kind = sym (ap (λ (j : PlainInst). declaration_of j.opcode) same) ∙ f.declares in
+    let declares : Some kind.Vector ≡ Some f.kind = sym (ap (λ (j : PlainInst). declaration_of j.opcode) same)
+    ∙ f.declares in
     let it : kind.Vector ≡ f.kind = cc in
-    let asked : Asks with_vector 7 f.kind vector.operands 1 = subst (λ d. Asks with_vector 7 d vector.operands 1) it component_asked in
+    let asked : Asks with_vector 7 f.kind vector.operands 1 = subst
+    (λ d. Asks with_vector 7 d vector.operands 1) it component_asked in
     let here : Asks with_vector 7 f.kind i.operands k = rw (same, one) asked in
     f.fails here
 no_component G i _ _ _ p q same = cc
 
-pub component : (G : Table) → ¬ (IsEvidence G with_vector rule.Y2 7 (evidence.Condition condition.Scalar (Some 1) (Some 0) None None []))
+pub component : (G : Table)
+    → ¬ (IsEvidence G with_vector rule.Y2 7 (evidence.Condition condition.Scalar (Some 1) (Some 0) None None []))
 component G v =
-    no_component G v.inst rule.Y2 (evidence.Condition condition.Scalar (Some 1) (Some 0) None None []) v.shows refl refl (let e : Some vector ≡ Some v.inst = v.there in cc)
+    no_component G v.inst rule.Y2 (evidence.Condition condition.Scalar (Some 1) (Some 0) None None []) v.shows refl refl
+    (let e : Some vector ≡ Some v.inst = v.there in cc)
 
 -- The first instruction, which declares the same type.
 
@@ -78,7 +88,8 @@ first G = record { inst = again; there = refl; shows = Shows.again repeated }
 earlier_of : (k m : ℕ) → evidence.Earlier k ≡ evidence.Earlier m → k ≡ m
 earlier_of k m e = cc
 
-no_second : (G : Table) (i : PlainInst) (r : Rule) (e : Evidence) → Shows G with_again 7 i r e → r ≡ rule.Y3 → e ≡ evidence.Earlier 1 → i ≡ again → ⊥
+no_second : (G : Table) (i : PlainInst) (r : Rule) (e : Evidence) → Shows G with_again 7 i r e → r ≡ rule.Y3
+    → e ≡ evidence.Earlier 1 → i ≡ again → ⊥
 no_second G i _ _ (Shows.again r) p q same =
     let one : r.place ≡ 1 = earlier_of r.place 1 q in
     let there : slice_get with_again 1 ≡ Some r.other = ap (slice_get with_again) (sym one) ∙ r.there in
@@ -93,28 +104,33 @@ no_second G i _ _ (Shows.again r) p q same =
 no_second G i _ _ _ p q same = cc
 
 pub second : (G : Table) → ¬ (IsEvidence G with_again rule.Y3 7 (evidence.Earlier 1))
-second G v = no_second G v.inst rule.Y3 (evidence.Earlier 1) v.shows refl refl (let e : Some again ≡ Some v.inst = v.there in cc)
+second G v = no_second G v.inst rule.Y3 (evidence.Earlier 1) v.shows refl refl
+    (let e : Some again ≡ Some v.inst = v.there in cc)
 
 -- The number of arguments.
 
 called : Calls with_short_call short_call function 1 []
 called = record { callee = 4; rest = []; result = refl; operands = refl; defined = refl; arguments = refl }
 
-pub number : (G : Table) → IsEvidence G with_short_call rule.Y8 7 (evidence.Mismatch side.Number (Some 1) (Some 0) (Some 3))
+pub number : (G : Table)
+    → IsEvidence G with_short_call rule.Y8 7 (evidence.Mismatch side.Number (Some 1) (Some 0) (Some 3))
 number G = record {
   inst = short_call;
   there = refl;
-  shows = Shows.call function 1 [] side.Number (Some 1) (Some 0) refl called (Differs.number (Id 1) (Id 1 ∷ []) refl (λ e. absurd (omega (arith, e))));
+  shows = Shows.call function 1 [] side.Number (Some 1) (Some 0) refl called
+      (Differs.number (Id 1) (Id 1 ∷ []) refl (λ e. absurd (omega (arith, e))));
 }
 
 -- what is found where counts differ
-found_count : (d : PlainInst) (r m : ℕ) (s : Side) (wanted found : Option ℕ) → Differs with_short_call d r m s wanted found → s ≡ side.Number → found ≡ Some m
+found_count : (d : PlainInst) (r m : ℕ) (s : Side) (wanted found : Option ℕ)
+    → Differs with_short_call d r m s wanted found → s ≡ side.Number → found ≡ Some m
 found_count d r m _ _ _ (Differs.number o ps a b) e = refl
 found_count d r m _ _ _ _ e = cc
 
 no_arguments : (i d : PlainInst) (r : ℕ) (xs : List ℕ) → Calls with_short_call i d r xs → i ≡ short_call → [] ≡ xs
 no_arguments i d r xs c same =
-    let one : Id 4 ∷ [] ≡ Id c.callee ∷ c.rest = ap (λ (j : PlainInst). after_head j.operands) (sym same) ∙ c.operands in
+    let one : Id 4 ∷ [] ≡ Id c.callee ∷ c.rest = ap (λ (j : PlainInst). after_head j.operands) (sym same)
+    ∙ c.operands in
     let rest : [] ≡ c.rest = cc in
     ap ids_in rest ∙ c.arguments
 
@@ -124,7 +140,8 @@ mismatch_side s t a b c d x y e = cc
 mismatch_found : (s t : Side) (a b c d x y : Option ℕ) → evidence.Mismatch s a b x ≡ evidence.Mismatch t c d y → b ≡ d
 mismatch_found s t a b c d x y e = cc
 
-not_one : (G : Table) (i : PlainInst) (r : Rule) (e : Evidence) → Shows G with_short_call 7 i r e → r ≡ rule.Y8 → e ≡ evidence.Mismatch side.Number (Some 0) (Some 1) (Some 3) → i ≡ short_call → ⊥
+not_one : (G : Table) (i : PlainInst) (r : Rule) (e : Evidence) → Shows G with_short_call 7 i r e → r ≡ rule.Y8
+    → e ≡ evidence.Mismatch side.Number (Some 0) (Some 1) (Some 3) → i ≡ short_call → ⊥
 not_one G i _ _ (Shows.call d r xs s wanted found o c f) p q same =
     let number = mismatch_side s side.Number wanted found (Some 0) (Some 1) (function_type_in d) (Some 3) q in
     let it = mismatch_found s side.Number wanted found (Some 0) (Some 1) (function_type_in d) (Some 3) q in
@@ -132,8 +149,12 @@ not_one G i _ _ (Shows.call d r xs s wanted found o c f) p q same =
     let none : 0 ≡ length xs = ap (λ (ys : List ℕ). length ys) (no_arguments i d r xs c same) in
     let one : 1 ≡ length xs = cc in
     absurd (omega arith)
-not_one G i _ _ (Shows.argument d r xs k t u o c a not) p q same = let number = mismatch_side (side.Argument k) side.Number (Some t) (Some u) (Some 0) (Some 1) (function_type_in d) (Some 3) q in cc
+not_one G i _ _ (Shows.argument d r xs k t u o c a not) p q same =
+    let number = mismatch_side (side.Argument k) side.Number (Some t) (Some u) (Some 0) (Some 1) (function_type_in d)
+    (Some 3) q in cc
 not_one G i _ _ _ p q same = cc
 
-pub other_number : (G : Table) → ¬ (IsEvidence G with_short_call rule.Y8 7 (evidence.Mismatch side.Number (Some 0) (Some 1) (Some 3)))
-other_number G v = not_one G v.inst rule.Y8 (evidence.Mismatch side.Number (Some 0) (Some 1) (Some 3)) v.shows refl refl (let e : Some short_call ≡ Some v.inst = v.there in cc)
+pub other_number : (G : Table)
+    → ¬ (IsEvidence G with_short_call rule.Y8 7 (evidence.Mismatch side.Number (Some 0) (Some 1) (Some 3)))
+other_number G v = not_one G v.inst rule.Y8 (evidence.Mismatch side.Number (Some 0) (Some 1) (Some 3)) v.shows refl refl
+    (let e : Some short_call ≡ Some v.inst = v.there in cc)

@@ -10,8 +10,13 @@ pub returns-in_default : goal.returns-in_default
 returns-in_default c =
     let i = c.loop-operand.invariant in
     let front = take c.loop-operand.count c.loop-operand.types in
-    let e : ids_in (plain_operands (drop c.loop-operand.operand-index c.args.operands.now)) ≡ [] = grind (arith, common_steps) in
+    let e : ids_in (plain_operands (drop c.loop-operand.operand-index c.args.operands.now)) ≡ [] = grind
+    (arith, common_steps) in
     record {
-      some = (i.0, i.2 ∙ ap (λ xs. option_map (λ us. front ++ us) (types_of c.args.definitions.now xs)) e ∙ ap Some (append-nil front));
+      some = (
+        i.0,
+        i.2 ∙ ap (λ xs. option_map (λ us. front ++ us) (types_of c.args.definitions.now xs)) e
+            ∙ ap Some (append-nil front),
+      );
       none = tt;
     }

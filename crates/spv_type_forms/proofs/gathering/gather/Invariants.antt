@@ -7,4 +7,5 @@ use Rattle.spv_type_forms.specs.Values.{types_of}
 
 abbrev pub invariant-loop-operand : goal.invariant-loop-operand
 invariant-loop-operand l = (l.count ≤ 6) × (length l.types ≡ 6)
-    × (types_of l.definitions (ids_in (plain_operands l.operands)) ≡ option_map (λ us. take l.count l.types ++ us) (types_of l.definitions (ids_in (plain_operands (drop l.operand-index l.operands)))))
+    × (types_of l.definitions (ids_in (plain_operands l.operands)) ≡ option_map (λ us. take l.count l.types ++ us)
+    (types_of l.definitions (ids_in (plain_operands (drop l.operand-index l.operands)))))

@@ -4,4 +4,5 @@ use Rattle.spv_type_forms.specs.Operands.{words_in}
 use Rattle.spv_type_forms.proofs.operands.has_words.Given as goal
 
 abbrev pub invariant-loop-operand : goal.invariant-loop-operand
-invariant-loop-operand l = words_in (plain_operands l.operands) ≡ words_in (plain_operands (drop l.operand-index l.operands))
+invariant-loop-operand l =
+    words_in (plain_operands l.operands) ≡ words_in (plain_operands (drop l.operand-index l.operands))

@@ -5,4 +5,7 @@ use Rattle.spv_type_forms.specs.inner.Tests.{are_parts_from}
 use Rattle.spv_type_forms.proofs.several.are_parts.Given as goal
 
 abbrev pub invariant-loop-operand : goal.invariant-loop-operand
-invariant-loop-operand l = (l.k ≡ l.operand-index) × (are_parts_from l.definitions l.t 0 (ids_in (plain_operands l.operands)) ≡ are_parts_from l.definitions l.t l.k (ids_in (plain_operands (drop l.operand-index l.operands))))
+invariant-loop-operand l =
+    (l.k ≡ l.operand-index) × (are_parts_from l.definitions l.t 0
+    (ids_in (plain_operands l.operands)) ≡ are_parts_from l.definitions l.t l.k
+    (ids_in (plain_operands (drop l.operand-index l.operands))))

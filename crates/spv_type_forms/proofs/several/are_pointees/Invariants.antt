@@ -6,4 +6,6 @@ use Rattle.spv_type_forms.specs.inner.Tests.{has_pointee}
 use Rattle.spv_type_forms.proofs.several.are_pointees.Given as goal
 
 abbrev pub invariant-loop-operand : goal.invariant-loop-operand
-invariant-loop-operand l = list_all (has_pointee l.definitions l.r) (ids_in (plain_operands l.operands)) ≡ list_all (has_pointee l.definitions l.r) (ids_in (plain_operands (drop l.operand-index l.operands)))
+invariant-loop-operand l =
+    list_all (has_pointee l.definitions l.r) (ids_in (plain_operands l.operands)) ≡ list_all
+    (has_pointee l.definitions l.r) (ids_in (plain_operands (drop l.operand-index l.operands)))

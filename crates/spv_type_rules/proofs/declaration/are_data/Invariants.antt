@@ -6,4 +6,6 @@ use Rattle.spv_type_forms.specs.Types.{IsData}
 use Rattle.spv_type_rules.proofs.declaration.are_data.Given as goal
 
 abbrev pub invariant-loop-operand : goal.invariant-loop-operand
-invariant-loop-operand l = AllByRecursion (IsData l.definitions) (ids_in (plain_operands (drop l.operand-index l.operands))) ↔ AllByRecursion (IsData l.definitions) (ids_in (plain_operands l.operands))
+invariant-loop-operand l =
+    AllByRecursion (IsData l.definitions) (ids_in (plain_operands (drop l.operand-index l.operands)))
+    ↔ AllByRecursion (IsData l.definitions) (ids_in (plain_operands l.operands))

@@ -4,4 +4,6 @@ use Rattle.spv_type_rules.specs.inner.Print.{mixed_with_operands, fingerprint_of
 use Rattle.spv_type_rules.proofs.fingerprint.fingerprint_of.Given as goal
 
 abbrev pub invariant-loop-operand : goal.invariant-loop-operand
-invariant-loop-operand l = mixed_with_operands l.mixed (plain_operands (drop l.operand-index l.operand-items)) ≡ fingerprint_of (plain_inst l.inst)
+invariant-loop-operand l =
+    mixed_with_operands l.mixed (plain_operands
+    (drop l.operand-index l.operand-items)) ≡ fingerprint_of (plain_inst l.inst)

@@ -12,4 +12,12 @@ pub returns-clause-constant : goal.returns-clause-constant
 returns-clause-constant c = (8, inl refl, λ _. lit< tt)
 
 pub returns-clause-again : goal.returns-clause-again
-returns-clause-again c = record { once = refl; place = 0; earlier = lit< tt; other = inst opcode.TYPE_INT (Result 1 ∷ Word 8 ∷ Word 0 ∷ []); there = refl; alike = (refl, refl) }
+returns-clause-again c =
+    record {
+      once = refl;
+      place = 0;
+      earlier = lit< tt;
+      other = inst opcode.TYPE_INT (Result 1 ∷ Word 8 ∷ Word 0 ∷ []);
+      there = refl;
+      alike = (refl, refl);
+    }

@@ -1,4 +1,5 @@
-use Rattle.spv_type_rules.proofs.Worked.{repeated, not_earlier, function_kept, function_not_kept, parameter_kept, parameter_not_kept, return_kept, return_not_kept}
+use Rattle.spv_type_rules.proofs.Worked.{repeated, not_earlier, function_kept, function_not_kept, parameter_kept}
+use Rattle.spv_type_rules.proofs.Worked.{parameter_not_kept, return_kept, return_not_kept}
 use Rattle.spv_type_rules.proofs.laws.keep_examples.Goals as goal
 
 pub returns-clause-first : goal.returns-clause-first

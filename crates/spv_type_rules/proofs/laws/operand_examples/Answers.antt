@@ -15,7 +15,8 @@ pub returns-clause-function : goal.returns-clause-function
 returns-clause-function c = (inr refl, (tt, tt))
 
 pub returns-clause-forward : goal.returns-clause-forward
-returns-clause-forward c = record { place = 1; after = lit< tt; defined = record { inst = _; there = refl; result = refl }; pointer = refl }
+returns-clause-forward c =
+    record { place = 1; after = lit< tt; defined = record { inst = _; there = refl; result = refl }; pointer = refl }
 
 pub returns-clause-other_forward : goal.returns-clause-other_forward
 returns-clause-other_forward c = no_other_class

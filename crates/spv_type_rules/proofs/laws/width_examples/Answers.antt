@@ -21,7 +21,8 @@ pub returns-clause-returned : goal.returns-clause-returned
 returns-clause-returned c = inr refl
 
 pub returns-clause-pointer_after : goal.returns-clause-pointer_after
-returns-clause-pointer_after c = record { place = 1; after = lit< tt; defined = record { inst = _; there = refl; result = refl }; pointer = refl }
+returns-clause-pointer_after c =
+    record { place = 1; after = lit< tt; defined = record { inst = _; there = refl; result = refl }; pointer = refl }
 
 pub returns-clause-other_class : goal.returns-clause-other_class
 returns-clause-other_class c = no_other_class

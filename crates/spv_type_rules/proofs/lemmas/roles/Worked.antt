@@ -1,5 +1,6 @@
 -- The worked examples of Y1.
-use Rattle.std.proofs.Common.{◌≡◌, ◌∙◌, ◌+◌, ℕ, zero, suc, List, [], ◌∷◌, Some, None, true, false, refl, sym, subst, arith, lit≤}
+use Rattle.std.proofs.Common.{◌≡◌, ◌∙◌, ◌+◌, ℕ, zero, suc, List, [], ◌∷◌, Some, None, true, false, refl, sym, subst}
+use Rattle.std.proofs.Common.{arith, lit≤}
 use Rattle.std.specs.Prelude.{slice_get}
 use Rattle.spv_table.specs.Table.{Table}
 use Rattle.spv_module.specs.Operand.{Plain, OfType, Result, Id, Word, Argument, Mention, PlainInst}
@@ -38,7 +39,16 @@ undef_forms G = record {
 }
 
 stray_use : (G : Table) → IsUse G (inst opcode.UNDEF (OfType 5 ∷ Result 2 ∷ [])) 0 5 role.OfType
-stray_use G = record { forms = _; has = undef_forms G; form = form.OfType; operand = OfType 5; form_at = refl; operand_at = refl; role = refl; id = refl }
+stray_use G = record {
+  forms = _;
+  has = undef_forms G;
+  form = form.OfType;
+  operand = OfType 5;
+  form_at = refl;
+  operand_at = refl;
+  role = refl;
+  id = refl;
+}
 
 stray_used : (G : Table) → IsUsedAt G stray 0 0 5 role.OfType
 stray_used G = record { inst = inst opcode.UNDEF (OfType 5 ∷ Result 2 ∷ []); there = refl; used = stray_use G }
@@ -61,21 +71,26 @@ pub unused_unbroken : (G : Table) → ¬ (Broken G few Y1 0)
 unused_unbroken G b = unbroken_at G Y1 0 refl b
 
 -- The uses of an instruction whose operands are what is asked of them.
-pub played : (G : Table) (is : List PlainInst) (i : PlainInst) (a : Asked) → asked_of i.opcode ≡ Some a → ArePlayed is a.first a.others a.masked i.operands
+pub played : (G : Table) (is : List PlainInst) (i : PlainInst) (a : Asked) → asked_of i.opcode ≡ Some a
+    → ArePlayed is a.first a.others a.masked i.operands
     → (k x : ℕ) (r : Role) → IsUse G i k x r → Plays is r x
-played G is i a e p k x r u = (judged G is i a (k + 1) true e (record { forms = u.forms; has = u.has }) p).each k (omega arith) x r u
+played G is i a e p k x r u =
+    (judged G is i a (k + 1) true e (record { forms = u.forms; has = u.has }) p).each k (omega arith) x r u
 
 -- nothing more is asked than types
 abbrev types_alone : Asked
 types_alone = record { first = role.Any; others = role.Any; masked = role.Any }
 
-typed_at : (G : Table) (n k x : ℕ) (r : Role) (i : PlainInst) → slice_get typed n ≡ Some i → IsUse G i k x r → Plays typed r x
+typed_at : (G : Table) (n k x : ℕ) (r : Role) (i : PlainInst) → slice_get typed n ≡ Some i → IsUse G i k x r
+    → Plays typed r x
 typed_at G zero k x r i at u =
     let same : i ≡ inst opcode.TYPE_VOID (Result 1 ∷ []) = cc in
-    played G typed (inst opcode.TYPE_VOID (Result 1 ∷ [])) types_alone refl (tt, tt) k x r (subst (λ (j : PlainInst). IsUse G j k x r) same u)
+    played G typed (inst opcode.TYPE_VOID (Result 1 ∷ [])) types_alone refl (tt, tt) k x r
+    (subst (λ (j : PlainInst). IsUse G j k x r) same u)
 typed_at G (suc zero) k x r i at u =
     let same : i ≡ inst opcode.UNDEF (OfType 1 ∷ Result 2 ∷ []) = cc in
-    played G typed (inst opcode.UNDEF (OfType 1 ∷ Result 2 ∷ [])) types_alone refl ((lit≤ tt, lit≤ tt), (tt, tt)) k x r (subst (λ (j : PlainInst). IsUse G j k x r) same u)
+    played G typed (inst opcode.UNDEF (OfType 1 ∷ Result 2 ∷ [])) types_alone refl ((lit≤ tt, lit≤ tt), (tt, tt)) k x r
+    (subst (λ (j : PlainInst). IsUse G j k x r) same u)
 typed_at G (suc (suc n)) k x r i at u = cc
 
 pub typed_in_role : (G : Table) → AreInRole G typed
@@ -89,7 +104,8 @@ stray_miscast G = record { id = 5; role = role.OfType; used = stray_use G; not =
 
 pub stray_refused : (G : Table) → IsRefusal G stray (record { rule = Y1; inst = 0; word = 5 })
 stray_refused G = record {
-  first = first_miscast G stray 0 (inst opcode.UNDEF (OfType 5 ∷ Result 2 ∷ [])) refl (record { place = 0; miscast = stray_miscast G }) (none_up_to G stray);
+  first = first_miscast G stray 0 (inst opcode.UNDEF (OfType 5 ∷ Result 2 ∷ [])) refl
+      (record { place = 0; miscast = stray_miscast G }) (none_up_to G stray);
   word = refl;
 }
 
@@ -98,15 +114,18 @@ no_other_word G f = let e : 6 ≡ 5 = f.word in absurd (omega (arith, e))
 
 -- An OpExtInst, by its operand behind the number.
 
-extended_forms : (G : Table) (o : Plain) → is_of G form.Unseen o ≡ true → HasForms G (extended o) (form.OfType ∷ form.Result ∷ form.Id role.Set ∷ form.Word ∷ form.Unseen ∷ [])
+extended_forms : (G : Table) (o : Plain) → is_of G form.Unseen o ≡ true
+    → HasForms G (extended o) (form.OfType ∷ form.Result ∷ form.Id role.Set ∷ form.Word ∷ form.Unseen ∷ [])
 unfolding rows
 extended_forms G o h = record {
-  row = row opcode.EXT_INST opcode.EXT_INST class.Body (form.OfType ∷ form.Result ∷ form.Id role.Set ∷ form.Word ∷ []) (repeated (form.Unseen ∷ []));
+  row = row opcode.EXT_INST opcode.EXT_INST class.Body (form.OfType ∷ form.Result ∷ form.Id role.Set ∷ form.Word ∷ [])
+      (repeated (form.Unseen ∷ []));
   rest = form.Unseen ∷ [];
   known = refl;
   forms = refl;
   ending = Ends.again (form.Unseen ∷ []) [] (Ends.done (form.Unseen ∷ []));
-  each = AreOf.more _ _ _ _ refl (AreOf.more _ _ _ _ refl (AreOf.more _ _ _ _ refl (AreOf.more _ _ _ _ refl (AreOf.more _ _ _ _ h AreOf.none))));
+  each = AreOf.more _ _ _ _ refl (AreOf.more _ _ _ _ refl
+      (AreOf.more _ _ _ _ refl (AreOf.more _ _ _ _ refl (AreOf.more _ _ _ _ h AreOf.none))));
 }
 
 argument_use : (G : Table) → IsUse G (extended (Argument 1)) 4 1 role.Value
@@ -139,17 +158,23 @@ AreExtended o = ArePlayed (with_extended o) role.Set role.Any role.Any (OfType 1
 
 extended_at : (G : Table) (o : Plain) (r : Rule) (n : ℕ) → AreExtended o → n ≡ 5 → Broken G (with_extended o) r n → ⊥
 extended_at G o _ _ p e (Broken.miscast n k x q u never) =
-    let there : slice_get (with_extended o) 5 ≡ Some u.inst = subst (λ (m : ℕ). slice_get (with_extended o) m ≡ Some u.inst) e u.there in
+    let there : slice_get (with_extended o) 5 ≡ Some u.inst = subst
+    (λ (m : ℕ). slice_get (with_extended o) m ≡ Some u.inst) e u.there in
     let last : slice_get (with_extended o) 5 ≡ Some (extended o) = refl in
     let both : Some u.inst ≡ Some (extended o) = sym there ∙ last in
     let same : u.inst ≡ extended o = cc in
-    never (played G (with_extended o) (extended o) set_alone refl p k x q (subst (λ (i : PlainInst). IsUse G i k x q) same u.used))
+    never (played G (with_extended o) (extended o) set_alone refl p k x q
+    (subst (λ (i : PlainInst). IsUse G i k x q) same u.used))
 
 extended_unbroken : (G : Table) (o : Plain) → AreExtended o → ¬ (Broken G (with_extended o) Y1 5)
 extended_unbroken G o p b = extended_at G o Y1 5 p refl b
 
 pub argument_unbroken : (G : Table) → ¬ (Broken G (with_extended (Argument 2)) Y1 5)
-argument_unbroken G = extended_unbroken G (Argument 2) ((lit≤ tt, lit≤ tt), (tt, (refl, (tt, ((refl, λ (e : opcode.UNDEF ≡ opcode.FUNCTION). let no : 1 ≡ 54 = e in omega (arith, no)), tt)))))
+argument_unbroken G =
+    extended_unbroken G (Argument 2) (
+      (lit≤ tt, lit≤ tt),
+      (tt, (refl, (tt, ((refl, λ (e : opcode.UNDEF ≡ opcode.FUNCTION). let no : 1 ≡ 54 = e in omega (arith, no)), tt)))),
+    )
 
 pub unseen_unbroken : (G : Table) → ¬ (Broken G (with_extended (Id 1)) Y1 5)
 unseen_unbroken G = extended_unbroken G (Id 1) ((lit≤ tt, lit≤ tt), (tt, (refl, (tt, (tt, tt)))))

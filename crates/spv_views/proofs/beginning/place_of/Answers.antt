@@ -10,7 +10,8 @@ pub returns-then-at-count : goal.returns-then-at-count
 returns-then-at-count c = λ G rule n h.
     let words = c.args.image.now in
     let at = c.loop-left.at in
-    let m = on_step G words rule c.loop-left.left at (slice_index words at) (c.loop-left.invariant G rule n h) c.loop-left-test.true refl in
+    let m = on_step G words rule c.loop-left.left at (slice_index words at)
+    (c.loop-left.invariant G rule n h) c.loop-left-test.true refl in
     let w = m.within in
     let e = c.len-count.ensures.words in
     let t = c.if-at-count.true in
@@ -18,7 +19,8 @@ returns-then-at-count c = λ G rule n h.
 
 pub loop-left-preserved : goal.loop-left-preserved
 loop-left-preserved c = λ G rule n h.
-    (on_step G c.args.image.now rule c.loop-left.left c.loop-left.at c.word.result (c.loop-left.invariant G rule n h) c.loop-left-test.true c.word.ensures).way
+    (on_step G c.args.image.now rule c.loop-left.left c.loop-left.at c.word.result
+    (c.loop-left.invariant G rule n h) c.loop-left-test.true c.word.ensures).way
 
 pub returns : goal.returns
 returns c = λ G rule n h.

@@ -9,4 +9,5 @@ abbrev pub decreases-loop-left : goal.decreases-loop-left
 decreases-loop-left l = l.left
 
 abbrev pub invariant-loop-left : goal.invariant-loop-left
-invariant-loop-left l = (G : Table) (rule : Rule) (n : ℕ) → IsMalformedAt G (drop 5 l.image) rule l.inst n → IsOnWay G l.image rule l.left l.at
+invariant-loop-left l = (G : Table) (rule : Rule) (n : ℕ) → IsMalformedAt G (drop 5 l.image) rule l.inst n
+    → IsOnWay G l.image rule l.left l.at

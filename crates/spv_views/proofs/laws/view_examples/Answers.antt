@@ -4,14 +4,19 @@ use Rattle.std.proofs.Common.{refl}
 use Rattle.spv_views.proofs.laws.view_examples.Goals as goal
 
 pub returns-clause-views : goal.returns-clause-views
-returns-clause-views c = λ G how function. short_viewed c.one_refusal.ensures.never G how function c.examples.ensures.size_first
+returns-clause-views c =
+    λ G how function. short_viewed c.one_refusal.ensures.never G how function c.examples.ensures.size_first
 
 pub returns-clause-begins : goal.returns-clause-begins
-returns-clause-begins c = λ G how function. short_begun_viewing c.one_refusal.ensures.never G how function c.examples.ensures.size_first
+returns-clause-begins c =
+    λ G how function. short_begun_viewing c.one_refusal.ensures.never G how function c.examples.ensures.size_first
 
 pub returns-clause-views_none : goal.returns-clause-views_none
 returns-clause-views_none c = λ G how function new t.
-    no_view how G function _ t.output _ refl (λ o ws h. c.one_refusal.ensures.never W2 o _ ws h c.examples.ensures.size_first) t.viewing
+    no_view how G function _ t.output _ refl
+    (λ o ws h. c.one_refusal.ensures.never W2 o _ ws h c.examples.ensures.size_first) t.viewing
 
 pub returns-clause-no_function : goal.returns-clause-no_function
-returns-clause-no_function c = λ G function. none_lacking G _ function (λ o ws h. c.one_refusal.ensures.never W2 o _ ws h c.examples.ensures.size_first)
+returns-clause-no_function c =
+    λ G function. none_lacking G _ function
+    (λ o ws h. c.one_refusal.ensures.never W2 o _ ws h c.examples.ensures.size_first)

@@ -10,7 +10,8 @@ use Rattle.spv_views.proofs.viewing.begun.Goals as goal
 pub text_of-requires-clause-spelled : goal.text_of-requires-clause-spelled
 text_of-requires-clause-spelled c =
     let d = c.in-Ok-decode in
-    spelled c.args.table.now c.in-Ok.start d.module c.len-words.ensures.fit (record { listing = d.ensures.found; header = d.ensures.header })
+    spelled c.args.table.now c.in-Ok.start d.module c.len-words.ensures.fit
+    (record { listing = d.ensures.found; header = d.ensures.header })
 
 pub returns-clause-begun : goal.returns-clause-begun
 returns-clause-begun c =
@@ -22,12 +23,14 @@ returns-clause-begun c =
     let m = c.in-Ok-decode.module in
     let is = plain_insts m in
     let found = c.in-Ok-decode.ensures.found in
-    let listed : IsListing G is d.part = subst (λ (z : List ℕ). IsListing G is z) (part_of G words start b.rule b.place d b.all) found in
+    let listed : IsListing G is d.part = subst (λ (z : List ℕ). IsListing G is z)
+    (part_of G words start b.rule b.place d b.all) found in
     let same : d.insts ≡ is = c.one_listing.ensures G d.insts is d.part d.listing listed in
     let s = (c.shown_reads_back.ensures.shown G m.header is (drop 5 start) found).1 in (
       m,
       record {
-        header = headed words start b.place m.header (dead_least G words b.rule b.place d) b.all c.in-Ok-decode.ensures.header;
+        header = headed words start b.place m.header
+            (dead_least G words b.rule b.place d) b.all c.in-Ok-decode.ensures.header;
         rule = b.rule;
         word = d.word;
         part = d.part;

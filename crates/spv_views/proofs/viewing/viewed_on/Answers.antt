@@ -4,7 +4,8 @@ use Rattle.spv_views.proofs.viewing.viewed_on.Goals as goal
 
 pub returns-in-Err-clause-known : goal.returns-in-Err-clause-known
 returns-in-Err-clause-known g c =
-    rw c.refused.ensures (refused_bytes c.one_refusal.ensures.never c.args.how c.args.table.now c.args.function _ c.in-Err.code c.in-Err.ensures.refuses)
+    rw c.refused.ensures (refused_bytes c.one_refusal.ensures.never c.args.how c.args.table.now c.args.function _
+    c.in-Err.code c.in-Err.ensures.refuses)
 
 pub returns-in-Err-clause-stranger : goal.returns-in-Err-clause-stranger
 returns-in-Err-clause-stranger g c = rw c.refused.ensures (refused_stranger _ c.in-Err.code)
@@ -13,7 +14,11 @@ pub returns-in-Err-clause-count : goal.returns-in-Err-clause-count
 returns-in-Err-clause-count g c = rw c.refused.ensures (refused_count _ c.in-Err.code _ refl c.in-Err.ensures.count)
 
 pub returns-clause-known : goal.returns-clause-known
-returns-clause-known g c = known_viewing c.args.how c.args.table.now c.args.function _ _ c.in-Ok.field-0-1 _ c.in-Ok.ensures.gives c.view_image.ensures.viewed
+returns-clause-known g c =
+    known_viewing c.args.how c.args.table.now c.args.function _ _ c.in-Ok.field-0-1 _ c.in-Ok.ensures.gives
+    c.view_image.ensures.viewed
 
 pub returns-clause-stranger : goal.returns-clause-stranger
-returns-clause-stranger g c = known_stranger c.args.table.now c.args.function _ _ c.in-Ok.field-0-1 _ c.in-Ok.ensures.gives c.view_image.ensures.stranger
+returns-clause-stranger g c =
+    known_stranger c.args.table.now c.args.function _ _ c.in-Ok.field-0-1 _ c.in-Ok.ensures.gives
+    c.view_image.ensures.stranger

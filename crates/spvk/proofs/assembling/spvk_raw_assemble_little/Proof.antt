@@ -12,5 +12,7 @@ use Rattle.spvk.proofs.assembling.spvk_raw_assemble_little.Code as code
 
 pub spvk_raw_assemble_little_spec : {M : Type 1} → statement M
 spvk_raw_assemble_little_spec 𝓤 𝓛 𝓜 𝓡 wired =
-    lends_to 𝓛 Told tt (λ G bytes. Assembles G Little bytes) (λ p G bytes. AssemblesAt p G Little bytes) 𝓜 𝓡 (λ G bytes old. (refl, refl)) (λ b o G bytes old new r h. h) _ _ _ _
-    self.name callee.name (code.unfolded 𝓤 𝓛.H 𝓜 𝓡 wired) (by_table.met 𝓤 𝓛 𝓜 𝓡 (code.calls-spvk::assembling::assemble_little_by 𝓡.env wired))
+    lends_to 𝓛 Told tt (λ G bytes. Assembles G Little bytes) (λ p G bytes. AssemblesAt p G Little bytes) 𝓜 𝓡
+    (λ G bytes old. (refl, refl)) (λ b o G bytes old new r h. h) _ _ _ _
+    self.name callee.name (code.unfolded 𝓤 𝓛.H 𝓜 𝓡 wired)
+    (by_table.met 𝓤 𝓛 𝓜 𝓡 (code.calls-spvk::assembling::assemble_little_by 𝓡.env wired))

@@ -12,5 +12,7 @@ use Rattle.spvk.proofs.checking.spvk_raw_check_as_1_6.Code as code
 
 pub spvk_raw_check_as_1_6_spec : {M : Type 1} → statement M
 spvk_raw_check_as_1_6_spec 𝓤 𝓛 𝓜 𝓡 wired =
-    lends_to 𝓛 (λ G bytes. Answers G Profile (as_1_6 bytes)) (λ p G bytes. AnswersAt p G Profile (as_1_6 bytes)) 𝓜 𝓡 (λ G bytes r h. h) (λ b o G bytes r h. h) _ _ self.name callee.name
-    (code.unfolded 𝓤 𝓛.H 𝓜 𝓡 wired) (without.met 𝓤 𝓛 𝓜 𝓡 (code.calls-spvk::checking::no_grammar 𝓡.env wired)) (by_table.met 𝓤 𝓛 𝓜 𝓡 (code.calls-spvk::checking::answer_as_1_6_by 𝓡.env wired))
+    lends_to 𝓛 (λ G bytes. Answers G Profile (as_1_6 bytes)) (λ p G bytes. AnswersAt p G Profile (as_1_6 bytes)) 𝓜 𝓡
+    (λ G bytes r h. h) (λ b o G bytes r h. h) _ _ self.name callee.name
+    (code.unfolded 𝓤 𝓛.H 𝓜 𝓡 wired) (without.met 𝓤 𝓛 𝓜 𝓡 (code.calls-spvk::checking::no_grammar 𝓡.env wired))
+    (by_table.met 𝓤 𝓛 𝓜 𝓡 (code.calls-spvk::checking::answer_as_1_6_by 𝓡.env wired))

@@ -14,5 +14,8 @@ use Rattle.spvk.proofs.explaining.spvk_raw_explain_as_1_6.Code as code
 
 pub spvk_raw_explain_as_1_6_spec : {M : Type 1} → statement M
 spvk_raw_explain_as_1_6_spec 𝓤 𝓛 𝓜 𝓡 wired =
-    lends_to 𝓛 Told tt (λ G bytes. Makes (IsExplaining G Profile (as_1_6 bytes))) (λ p G bytes. MakesAt p (IsExplaining G Profile (as_1_6 bytes))) 𝓜 𝓡 (λ G bytes old. (refl, refl)) (λ b o G bytes old new r h. h) _ _ _ _
-    self.name callee.name (code.unfolded 𝓤 𝓛.H 𝓜 𝓡 wired) (by_table.met 𝓤 𝓛 𝓜 𝓡 (code.calls-spvk::explaining::explain_as_1_6_by 𝓡.env wired))
+    lends_to 𝓛 Told tt (λ G bytes. Makes (IsExplaining G Profile (as_1_6 bytes)))
+    (λ p G bytes. MakesAt p (IsExplaining G Profile (as_1_6 bytes))) 𝓜 𝓡 (λ G bytes old. (refl, refl))
+    (λ b o G bytes old new r h. h) _ _ _ _
+    self.name callee.name (code.unfolded 𝓤 𝓛.H 𝓜 𝓡 wired)
+    (by_table.met 𝓤 𝓛 𝓜 𝓡 (code.calls-spvk::explaining::explain_as_1_6_by 𝓡.env wired))

@@ -5,4 +5,5 @@ pub returns-in-Ok : goal.returns-in-Ok
 returns-in-Ok c = c.judged.ensures c.args.bytes.now c.in-Ok.field-0-1 c.in-Ok.ensures.gives
 
 pub returns-in-Err : goal.returns-in-Err
-returns-in-Err c = rw c.refusal.ensures (refused_bytes c.args.table.now c.args.reach c.args.bytes.now c.in-Err.code c.in-Err.ensures.refuses)
+returns-in-Err c = rw c.refusal.ensures (refused_bytes c.args.table.now c.args.reach c.args.bytes.now c.in-Err.code
+    c.in-Err.ensures.refuses)

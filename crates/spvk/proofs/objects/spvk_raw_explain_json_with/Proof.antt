@@ -12,5 +12,7 @@ use Rattle.spvk.proofs.objects.spvk_raw_explain_json_with.Code as code
 
 pub spvk_raw_explain_json_with_spec : {M : Type 1} → statement M
 spvk_raw_explain_json_with_spec 𝓤 𝓛 𝓜 𝓡 wired =
-    lends_to 𝓛 (λ G f. MakesAsked (asked_by f) (IsTelling G)) (λ p G. MakesWith p (IsTelling G)) 𝓜 𝓡 (λ G f bytes old. (refl, refl)) (λ b o G f bytes old new r h. h) _ _ _ _
-    self.name callee.name (code.unfolded 𝓤 𝓛.H 𝓜 𝓡 wired) (by_table.met 𝓤 𝓛 𝓜 𝓡 (code.calls-spvk::objects::tell_with_by 𝓡.env wired))
+    lends_to 𝓛 (λ G f. MakesAsked (asked_by f) (IsTelling G)) (λ p G. MakesWith p (IsTelling G)) 𝓜 𝓡
+    (λ G f bytes old. (refl, refl)) (λ b o G f bytes old new r h. h) _ _ _ _
+    self.name callee.name (code.unfolded 𝓤 𝓛.H 𝓜 𝓡 wired)
+    (by_table.met 𝓤 𝓛 𝓜 𝓡 (code.calls-spvk::objects::tell_with_by 𝓡.env wired))

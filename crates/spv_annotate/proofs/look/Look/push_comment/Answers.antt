@@ -17,6 +17,8 @@ returns c =
     let html = linked (kept c.args.self.now.definitions.now) Commented c.args.text.now in
     let e = c.settle.ensures in
     settled c.settle.result _ _ _ _ _ _ _ e.high e.utf8 e.text
-    (between_drafted (codes "<i>") html (codes "</i>") (string_bytes c.args.out.now) (string_bytes c.push_remark.new.out) (take c.args.at c.args.buffer.now)
-    (take c.add_text-begin.result c.add_text-begin.new.buffer) (take c.in_ok-behind.behind c.push_remark.new.buffer) (take c.add_text-added.result c.add_text-added.new.buffer)
+    (between_drafted (codes "<i>") html (codes "</i>") (string_bytes c.args.out.now)
+    (string_bytes c.push_remark.new.out) (take c.args.at c.args.buffer.now)
+    (take c.add_text-begin.result c.add_text-begin.new.buffer) (take c.in_ok-behind.behind c.push_remark.new.buffer)
+    (take c.add_text-added.result c.add_text-added.new.buffer)
     c.add_text-begin.ensures.added.all c.in_ok-behind.ensures.text c.add_text-added.ensures.added.all)

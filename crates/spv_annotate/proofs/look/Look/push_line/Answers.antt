@@ -12,10 +12,12 @@ use Rattle.spv_annotate.proofs.Drafts.{headed_parts, line_drafted, opening_apart
 use Rattle.spv_annotate.proofs.look.Look.push_line.Goals as goal
 
 pub push_drafted-requires-clause-utf8 : goal.push_drafted-requires-clause-utf8
-push_drafted-requires-clause-utf8 c = c.add_heading-begin.ensures.added.utf8 (c.add_opening-opened.ensures.added.utf8 c.requires.utf8)
+push_drafted-requires-clause-utf8 c =
+    c.add_heading-begin.ensures.added.utf8 (c.add_opening-opened.ensures.added.utf8 c.requires.utf8)
 
 pub settle-requires-clause-utf8 : goal.settle-requires-clause-utf8
-settle-requires-clause-utf8 c = c.add_uses-added.ensures.added.utf8 (c.add_heading_end-ended.ensures.added.utf8 c.in_ok-behind.ensures.utf8)
+settle-requires-clause-utf8 c =
+    c.add_uses-added.ensures.added.utf8 (c.add_heading_end-ended.ensures.added.utf8 c.in_ok-behind.ensures.utf8)
 
 pub returns : goal.returns
 returns c =
@@ -34,7 +36,13 @@ returns c =
     ap (λ z. z ++ uses) (headed_parts code html ∙ ap (λ z. headed z html) c.opcode-opcode.ensures) in
     settled c.settle.result _ _ _ _ _ _ _ e.high e.utf8 e.text
     (line_drafted opening (heading_begin code) html (heading_end code) uses out one old
-    (take c.add_opening-opened.result c.add_opening-opened.new.buffer) (take c.add_heading-begin.result c.add_heading-begin.new.buffer) (take c.in_ok-behind.behind c.push_drafted.new.buffer)
-    (take c.add_heading_end-ended.result c.add_heading_end-ended.new.buffer) (take c.add_uses-added.result c.add_uses-added.new.buffer)
-    c.add_opening-opened.ensures.added.all c.add_heading-begin.ensures.added.all c.in_ok-behind.ensures.text c.add_heading_end-ended.ensures.added.all c.add_uses-added.ensures.added.all
-    ∙ (ap (λ z. (out ++ old) ++ (opening ++ z)) h ∙ ap (λ z. (out ++ old) ++ z) (opening_apart (codes "<div id=") (decimal n) (line_class S n) (headed i.opcode html ++ uses))))
+    (take c.add_opening-opened.result c.add_opening-opened.new.buffer)
+    (take c.add_heading-begin.result c.add_heading-begin.new.buffer)
+    (take c.in_ok-behind.behind c.push_drafted.new.buffer)
+    (take c.add_heading_end-ended.result c.add_heading_end-ended.new.buffer)
+    (take c.add_uses-added.result c.add_uses-added.new.buffer)
+    c.add_opening-opened.ensures.added.all c.add_heading-begin.ensures.added.all c.in_ok-behind.ensures.text
+    c.add_heading_end-ended.ensures.added.all c.add_uses-added.ensures.added.all
+    ∙ (ap (λ z. (out ++ old) ++ (opening ++ z)) h
+    ∙ ap (λ z. (out ++ old) ++ z) (opening_apart (codes "<div id=") (decimal n) (line_class S n)
+    (headed i.opcode html ++ uses))))

@@ -17,6 +17,8 @@ returns c =
     let three = string_bytes c.push_entry.new.out in
     let last = string_bytes c.push_str-2.new.self in
     on_pushed c.push_str-2.result _ last three end c.push_str-2.ensures.bytes (λ e.
-    behind (string_bytes c.args.out.now) (codes "</details>\n<details>\n<summary") _ one last c.in_ok-push_str.ensures.bytes
-    (behind one (tag ++ codes ">") (link ++ end) two last c.in_ok-push_summary_class.ensures (behind two link end three last c.in_ok-push_entry.ensures e)
+    behind (string_bytes c.args.out.now) (codes "</details>\n<details>\n<summary") _ one last
+    c.in_ok-push_str.ensures.bytes
+    (behind one (tag ++ codes ">") (link ++ end) two last c.in_ok-push_summary_class.ensures
+    (behind two link end three last c.in_ok-push_entry.ensures e)
     ∙ ap (λ z. one ++ z) (append_assoc tag (codes ">") (link ++ end))))

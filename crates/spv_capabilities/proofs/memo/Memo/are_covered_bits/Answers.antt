@@ -4,7 +4,12 @@ use Rattle.spv_capabilities.proofs.Bits.{all_bits, no_bits, no_more, bit_covered
 use Rattle.spv_capabilities.proofs.memo.Memo.are_covered_bits.Goals as goal
 
 pub loop-position-init : goal.loop-position-init
-loop-position-init c = record { known = c.requires; left = all_bits c.args.survey.now.table c.args.survey.now.insts c.args.kind c.args.mask }
+loop-position-init c =
+    record {
+      known = c.requires;
+      left = all_bits c.args.survey.now.table c.args.survey.now.insts c.args.kind
+          c.args.mask;
+    }
 
 pub returns-then-bits-eq0-clause-answer : goal.returns-then-bits-eq0-clause-answer
 returns-then-bits-eq0-clause-answer c =
@@ -18,7 +23,8 @@ returns-then-not-branch-clause-answer c =
     let p = c.loop-position.position in
     let answer = c.in_ok-is_covered_bit.ensures.answer in
     let n = bit_not_covered P c.args.mask p c.loop-position-test.true (λ f.
-    let t : c.in_ok-is_covered_bit.field-0 ≡ true = answer.1 (λ e. f (subst (λ (b : ℕ). nat_eq (b % 2) 1 ≡ true) c.bits_above-bits.ensures e)) in
+    let t : c.in_ok-is_covered_bit.field-0 ≡ true = answer.1
+    (λ e. f (subst (λ (b : ℕ). nat_eq (b % 2) 1 ≡ true) c.bits_above-bits.ensures e)) in
     let no : false ≡ true = sym c.if-not-branch.true ∙ t in
     absurd (cc)) in
     (λ t. absurd (let no : false ≡ true = t in cc), λ a. absurd (n (c.loop-position.invariant.left.0 a)))
@@ -28,7 +34,9 @@ loop-position-preserved c =
     let P : ℕ → Type 0 = IsCoveredValue c.args.survey.now.table c.args.survey.now.insts c.args.kind in
     let p = c.loop-position.position in
     let answer = c.in_ok-is_covered_bit.ensures.answer in
-    let more = bit_covered P c.args.mask p c.loop-position-test.true (λ e. answer.0 c.if-not-branch.false (subst (λ (b : ℕ). nat_eq (b % 2) 1 ≡ true) (sym c.bits_above-bits.ensures) e)) in
+    let more = bit_covered P c.args.mask p c.loop-position-test.true
+    (λ e. answer.0 c.if-not-branch.false
+    (subst (λ (b : ℕ). nat_eq (b % 2) 1 ≡ true) (sym c.bits_above-bits.ensures) e)) in
     let left = c.loop-position.invariant.left in
     record { known = c.is_covered_bit.ensures.known; left = (λ a. more.0 (left.0 a), λ b. left.1 (more.1 b)) }
 

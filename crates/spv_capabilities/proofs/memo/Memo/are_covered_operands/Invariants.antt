@@ -8,5 +8,7 @@ use Rattle.spv_capabilities.proofs.memo.Memo.are_covered_operands.Given as goal
 abbrev pub invariant-loop-operand : goal.invariant-loop-operand
 invariant-loop-operand l = record {
   known : IsKnown l.survey l.self;
-  left : AllByRecursion (IsCoveredOperand l.survey.table l.survey.insts) (plain_operands (drop l.operand-index l.operands)) ↔ AllByRecursion (IsCoveredOperand l.survey.table l.survey.insts) (plain_operands l.operands);
+  left : AllByRecursion (IsCoveredOperand l.survey.table l.survey.insts)
+      (plain_operands (drop l.operand-index l.operands))
+      ↔ AllByRecursion (IsCoveredOperand l.survey.table l.survey.insts) (plain_operands l.operands);
 }

@@ -13,13 +13,15 @@ invariant_of-result c =
     let is = map plain_inst c.args.insts.now in
     let g = c.in_ok-gathered.gathered in
     let a = subst (λ (l : Option ℕ). AreGathered l is (length is) g) c.kind_named.ensures c.in_ok-gathered.ensures in
-    let e : c.as_slice.result.now ≡ filter_map declared_by is = c.as_slice.ensures.value ∙ a.declared ∙ ap (filter_map declared_by) (take-length is) in
+    let e : c.as_slice.result.now ≡ filter_map declared_by is = c.as_slice.ensures.value ∙ a.declared
+    ∙ ap (filter_map declared_by) (take-length is) in
     record {
       fits = λ n i at. (c.requires.plan.0, c.requires.plan.1.fits n i at);
       count = c.requires.plan.1.count;
       place = c.requires.plan.1.place;
       ids = c.requires.ids;
-      implied = λ x. subst (λ (cs : List ℕ). IsTrue (contains nat_cmp c.in_ok-implied.implied x) ↔ Implied c.args.table.now cs x) e (c.in_ok-implied.ensures x);
+      implied = λ x. subst (λ (cs : List ℕ). IsTrue (contains nat_cmp c.in_ok-implied.implied x)
+          ↔ Implied c.args.table.now cs x) e (c.in_ok-implied.ensures x);
       capability = c.kind_named-2.ensures;
       gathered = a;
     }

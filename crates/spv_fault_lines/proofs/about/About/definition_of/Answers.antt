@@ -12,7 +12,8 @@ returns-then-has_result c =
 
 pub loop-inst-smaller : goal.loop-inst-smaller
 loop-inst-smaller c =
-    let l = some_within (plain_insts c.args.self.now.«module».now) c.loop-inst.at (plain_inst c.in-Some.inst.now) (sym c.in-Some.ensures) in
+    let l = some_within (plain_insts c.args.self.now.«module».now) c.loop-inst.at (plain_inst c.in-Some.inst.now)
+    (sym c.in-Some.ensures) in
     omega (arith, l)
 
 pub loop-inst-preserved : goal.loop-inst-preserved
@@ -26,4 +27,5 @@ loop-inst-preserved c =
 pub returns : goal.returns
 returns c =
     let is = plain_insts c.args.self.now.«module».now in
-    sym (definition_end c.args.id c.loop-inst.at is (none_beyond is c.loop-inst.at (sym c.in_default.ensures))) ∙ c.loop-inst.invariant.same
+    sym (definition_end c.args.id c.loop-inst.at is (none_beyond is c.loop-inst.at (sym c.in_default.ensures)))
+    ∙ c.loop-inst.invariant.same

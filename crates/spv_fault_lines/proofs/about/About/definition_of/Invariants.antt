@@ -1,6 +1,6 @@
 use Rattle.std.proofs.Common.{◌≡◌, ◌≤◌, ◌-◌, drop, length}
 use Rattle.spv_module.specs.Module.{plain_insts}
-use Rattle.spv_fault_lines.specs.Facts.{definition_from}
+use Rattle.spv_fault_lines.specs.Definition.{definition_from}
 use Rattle.spv_fault_lines.proofs.about.About.definition_of.Given as goal
 
 abbrev pub invariant-loop-inst : goal.invariant-loop-inst

@@ -1,6 +1,6 @@
 use Rattle.std.proofs.Common.{◌≡◌, ◌≤◌, ◌<◌, ℕ, None, drop, get_or, length}
 use Rattle.spv_module.specs.Module.{plain_insts}
-use Rattle.spv_fault_lines.specs.Facts.{definition_from}
+use Rattle.spv_fault_lines.specs.Definition.{definition_from}
 use Rattle.spv_fault_lines.proofs.about.About.definitions.Given as goal
 
 abbrev pub invariant-loop-at : goal.invariant-loop-at

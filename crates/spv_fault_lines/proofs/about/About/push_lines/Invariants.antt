@@ -7,5 +7,7 @@ use Rattle.spv_fault_lines.proofs.about.About.push_lines.Given as goal
 abbrev pub invariant-loop-fact : goal.invariant-loop-fact
 invariant-loop-fact l =
     (shown : List (List ℕ)) → ShownLines l.fn.self.table.now [] (plain_insts l.fn.self.«module».now) shown
-    → string_bytes l.out ++ text_of l.fn.self.detail l.fn.self.table.now (plain_insts l.fn.self.«module».now) shown (drop l.fact-index l.fn.facts)
-    ≡ string_bytes l.initial.out ++ text_of l.fn.self.detail l.fn.self.table.now (plain_insts l.fn.self.«module».now) shown l.fn.facts
+    → string_bytes l.out ++ text_of l.fn.self.detail l.fn.self.table.now (plain_insts l.fn.self.«module».now) shown
+    (drop l.fact-index l.fn.facts)
+    ≡ string_bytes l.initial.out ++ text_of l.fn.self.detail l.fn.self.table.now
+    (plain_insts l.fn.self.«module».now) shown l.fn.facts

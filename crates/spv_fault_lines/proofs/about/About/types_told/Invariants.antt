@@ -1,7 +1,8 @@
 use Rattle.std.proofs.Common.{◌≡◌, ◌<◌, ◌++◌, ℕ, List, [], None, drop, get_or, length}
 use Rattle.std.specs.Prelude.{slice_index, if◌then◌else◌}
 use Rattle.spv_module.specs.Module.{plain_insts}
-use Rattle.spv_fault_lines.specs.Facts.{definition_from, is_told, type_things}
+use Rattle.spv_fault_lines.specs.Definition.{definition_from}
+use Rattle.spv_fault_lines.specs.Facts.{is_told, type_things}
 use Rattle.spv_fault_lines.proofs.about.About.types_told.Given as goal
 
 abbrev pub invariant-loop-id : goal.invariant-loop-id

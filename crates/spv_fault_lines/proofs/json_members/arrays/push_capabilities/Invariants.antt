@@ -4,4 +4,6 @@ use Rattle.spv_fault_lines.proofs.json_members.arrays.push_capabilities.Given as
 
 abbrev pub invariant-loop-capability : goal.invariant-loop-capability
 invariant-loop-capability l =
-    l.out ++ flat_map (capability_token l.fn.about.table.now) (drop l.capability-index l.fn.capabilities) ≡ l.initial.out ++ flat_map (capability_token l.fn.about.table.now) l.fn.capabilities
+    l.out ++ flat_map (capability_token l.fn.about.table.now)
+    (drop l.capability-index l.fn.capabilities) ≡ l.initial.out
+    ++ flat_map (capability_token l.fn.about.table.now) l.fn.capabilities

@@ -5,4 +5,6 @@ use Rattle.spv_fault_lines.proofs.json_members.arrays.push_ids.Given as goal
 
 abbrev pub invariant-loop-inst : goal.invariant-loop-inst
 invariant-loop-inst l =
-    l.out ++ flat_map (result_token (plain_insts l.fn.about.«module».now)) (drop l.inst-index l.fn.insts) ≡ l.initial.out ++ flat_map (result_token (plain_insts l.fn.about.«module».now)) l.fn.insts
+    l.out ++ flat_map (result_token (plain_insts l.fn.about.«module».now))
+    (drop l.inst-index l.fn.insts) ≡ l.initial.out
+    ++ flat_map (result_token (plain_insts l.fn.about.«module».now)) l.fn.insts

@@ -4,4 +4,5 @@ use Rattle.spv_fault_lines.proofs.json_members.arrays.push_opcodes.Given as goal
 
 abbrev pub invariant-loop-opcode : goal.invariant-loop-opcode
 invariant-loop-opcode l =
-    l.out ++ flat_map (coming_token l.fn.table) (drop l.opcode-index l.fn.opcodes) ≡ l.initial.out ++ flat_map (coming_token l.fn.table) l.fn.opcodes
+    l.out ++ flat_map (coming_token l.fn.table) (drop l.opcode-index l.fn.opcodes) ≡ l.initial.out
+    ++ flat_map (coming_token l.fn.table) l.fn.opcodes

@@ -7,4 +7,5 @@ use Rattle.spv_fault_lines.proofs.json_members.arrays.push_things.Given as goal
 abbrev pub invariant-loop-thing : goal.invariant-loop-thing
 invariant-loop-thing l =
     (shown : List (List ℕ)) → ShownLines l.fn.about.table.now [] (plain_insts l.fn.about.«module».now) shown
-    → l.out ++ flat_map (thing_tokens shown) (drop l.thing-index l.fn.things) ≡ l.initial.out ++ flat_map (thing_tokens shown) l.fn.things
+    → l.out ++ flat_map (thing_tokens shown) (drop l.thing-index l.fn.things) ≡ l.initial.out
+    ++ flat_map (thing_tokens shown) l.fn.things

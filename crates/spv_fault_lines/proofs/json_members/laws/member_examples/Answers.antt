@@ -1,4 +1,5 @@
-use Rattle.spv_fault_lines.proofs.json_members.Worked.{bound_told, earlier_told, not_text_told, operand_told, types_told}
+use Rattle.spv_fault_lines.proofs.json_members.Worked.{bound_told, earlier_told, not_text_told, operand_told}
+use Rattle.spv_fault_lines.proofs.json_members.Worked.{types_told}
 use Rattle.spv_fault_lines.proofs.json_members.laws.member_examples.Goals as goal
 
 pub returns-clause-bound : goal.returns-clause-bound

@@ -7,4 +7,6 @@ use Rattle.spv_fault_lines.proofs.json_members.members.push_members.Given as goa
 abbrev pub invariant-loop-fact : goal.invariant-loop-fact
 invariant-loop-fact l =
     (shown : List (List ℕ)) → ShownLines l.fn.about.table.now [] (plain_insts l.fn.about.«module».now) shown
-    → l.out ++ flat_map (member_of l.fn.about.table.now (plain_insts l.fn.about.«module».now) shown) (drop l.fact-index l.fn.facts) ≡ l.initial.out ++ flat_map (member_of l.fn.about.table.now (plain_insts l.fn.about.«module».now) shown) l.fn.facts
+    → l.out ++ flat_map (member_of l.fn.about.table.now (plain_insts l.fn.about.«module».now) shown)
+    (drop l.fact-index l.fn.facts) ≡ l.initial.out
+    ++ flat_map (member_of l.fn.about.table.now (plain_insts l.fn.about.«module».now) shown) l.fn.facts

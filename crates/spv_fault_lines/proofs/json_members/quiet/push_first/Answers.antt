@@ -7,7 +7,8 @@ returns-then-is_late c =
     let text = c.args.text.now in
     let e = rw c.second_of-second.ensures at (sym c.is_late.ensures ∙ c.if-is_late.true) in
     record {
-      added = pushed_first text _ _ _ 2 (late_first text e) (rw c.second_of-second.ensures at c.in_ok-push_escape.ensures);
+      added = pushed_first text _ _ _ 2 (late_first text e)
+          (rw c.second_of-second.ensures at c.in_ok-push_escape.ensures);
       some = omega arith;
       fits = late_long text e;
     }

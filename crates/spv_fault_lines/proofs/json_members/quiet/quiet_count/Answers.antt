@@ -7,5 +7,6 @@ loop-count-preserved c =
     let l = c.loop-count-test.true in
     record {
       within = omega (arith, l);
-      quiet = one_further c.args.text.now c.loop-count.count l c.if-text-count-ne127.true c.if-text-count.true c.loop-count.invariant.quiet;
+      quiet = one_further c.args.text.now c.loop-count.count l c.if-text-count-ne127.true c.if-text-count.true
+          c.loop-count.invariant.quiet;
     }

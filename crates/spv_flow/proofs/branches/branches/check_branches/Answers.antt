@@ -27,7 +27,8 @@ returns-in-Some-clause-refused c = λ G p a.
     let xs = c.as_slice-insts.result.now in
     let h = rw c.in-Some.is at c.in_ok-found.ensures in
     let f = h G (record { plan = rw v p; each = rw v a.each; most = few_insts xs (rw v c.requires.words) }) in
-    refusal_told G (plain_insts c.args.module.now) c.in-Some.found.rule c.in-Some.found.inst c.stop_at.result (rw v at f) (c.stop_at.ensures (plain_insts c.args.module.now) p.place)
+    refusal_told G (plain_insts c.args.module.now) c.in-Some.found.rule c.in-Some.found.inst c.stop_at.result
+    (rw v at f) (c.stop_at.ensures (plain_insts c.args.module.now) p.place)
 
 pub returns-clause-unbroken : goal.returns-clause-unbroken
 returns-clause-unbroken c = λ G p a.

@@ -6,13 +6,15 @@ use Rattle.spv_flow.proofs.lemmas.branches.Firsts.{broken_within, first_found, u
 use Rattle.spv_flow.proofs.branches.branches.first_broken.Goals as goal
 
 pub broken_at-requires-clause-gathered : goal.broken_at-requires-clause-gathered
-broken_at-requires-clause-gathered c = λ G is phi. c.requires.gathered (c.requires.phis c.loop-at.at (omega arith) phi) G is
+broken_at-requires-clause-gathered c =
+    λ G is phi. c.requires.gathered (c.requires.phis c.loop-at.at (omega arith) phi) G is
 
 pub broken_at-requires-clause-count : goal.broken_at-requires-clause-count
 broken_at-requires-clause-count c = λ phi. c.requires.count (c.requires.phis c.loop-at.at (omega arith) phi)
 
 pub broken_at-requires-clause-marks : goal.broken_at-requires-clause-marks
-broken_at-requires-clause-marks c = λ phi. c.loop-at.auto.marks ∙ c.requires.marks (c.requires.phis c.loop-at.at (omega arith) phi)
+broken_at-requires-clause-marks c =
+    λ phi. c.loop-at.auto.marks ∙ c.requires.marks (c.requires.phis c.loop-at.at (omega arith) phi)
 
 pub returns-in-Some : goal.returns-in-Some
 returns-in-Some c = λ G is.
@@ -22,7 +24,8 @@ returns-in-Some c = λ G is.
 pub loop-at-preserved : goal.loop-at-preserved
 loop-at-preserved c = record {
   clean = c.in_default.ensures.clean;
-  unbroken = λ G is. unbroken_more G (insts_of c.args.code.now) c.loop-at.at (c.loop-at.invariant.unbroken G is) (c.in_default.ensures.rule G is);
+  unbroken = λ G is. unbroken_more G (insts_of c.args.code.now) c.loop-at.at (c.loop-at.invariant.unbroken G is)
+      (c.in_default.ensures.rule G is);
 }
 
 pub returns : goal.returns

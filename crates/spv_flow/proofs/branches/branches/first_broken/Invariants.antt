@@ -11,5 +11,6 @@ use Rattle.spv_flow.proofs.branches.branches.first_broken.Given as goal
 abbrev pub invariant-loop-at : goal.invariant-loop-at
 invariant-loop-at l = record {
   clean : (p : ℕ) → marked l.marks p ≡ false;
-  unbroken : (G : Table) → IsCode G l.code → (q : Rule) (m : ℕ) → m < l.at → stage_of q ≡ of_branches → ¬ (Broken G (insts_of l.code) q m);
+  unbroken : (G : Table) → IsCode G l.code → (q : Rule) (m : ℕ) → m < l.at → stage_of q ≡ of_branches
+      → ¬ (Broken G (insts_of l.code) q m);
 }

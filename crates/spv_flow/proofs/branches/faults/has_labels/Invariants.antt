@@ -7,4 +7,5 @@ use Rattle.spv_flow.specs.branches.Target.{IsLabelOf}
 use Rattle.spv_flow.proofs.branches.faults.has_labels.Given as goal
 
 abbrev pub invariant-loop-n : goal.invariant-loop-n
-invariant-loop-n l = (G : Table) → IsCode G l.code → (k x : ℕ) → k < l.n → IsUsedAt G (insts_of l.code) l.at k x Label → (m : ℕ) × IsLabelOf (insts_of l.code) x m
+invariant-loop-n l = (G : Table) → IsCode G l.code → (k x : ℕ) → k < l.n → IsUsedAt G (insts_of l.code) l.at k x Label
+    → (m : ℕ) × IsLabelOf (insts_of l.code) x m

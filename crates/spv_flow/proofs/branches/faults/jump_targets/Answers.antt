@@ -12,7 +12,8 @@ use Rattle.spv_flow.proofs.lemmas.branches.Direct.{used_by, jump_only, HasTwo, o
 use Rattle.spv_flow.proofs.branches.faults.jump_targets.Goals as goal
 
 pub targets_by_operand-requires-clause-op : goal.targets_by_operand-requires-clause-op
-targets_by_operand-requires-clause-op c = op_moved (insts_of c.args.code.now) c.args.at is_jump is_labelled jump_labelled c.requires.op
+targets_by_operand-requires-clause-op c =
+    op_moved (insts_of c.args.code.now) c.args.at is_jump is_labelled jump_labelled c.requires.op
 
 pub returns : goal.returns
 returns c = λ G is.
@@ -25,6 +26,8 @@ returns c = λ G is.
     let fits = is.plan.fits at i there in
     let labelled : is_labelled opcode.BRANCH ≡ true = refl in
     let first : is_label_at opcode.BRANCH 0 ≡ true = refl in
-    let used = used_by G L at 0 c.in-Some.id opcode.BRANCH i there e labelled first fits (sym c.in-Some.is ∙ c.id_at.ensures) in
-    let has : HasTwo G L at 0 0 c.in-Some.id c.in-Some.id = record { one = used; two = used; only = jump_only G L at c.in-Some.id i there e fits used } in
+    let used = used_by G L at 0 c.in-Some.id opcode.BRANCH i there e labelled first fits
+    (sym c.in-Some.is ∙ c.id_at.ensures) in
+    let has : HasTwo G L at 0 0 c.in-Some.id c.in-Some.id = record
+    { one = used; two = used; only = jump_only G L at c.in-Some.id i there e fits used } in
     one_target G code at 0 c.in-Some.id c.target_of.result is has (c.target_of.ensures G is)

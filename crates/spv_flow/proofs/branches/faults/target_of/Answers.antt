@@ -6,9 +6,18 @@ pub returns-in_default : goal.returns-in_default
 returns-in_default c = λ G is. c.in_default.ensures.label G is
 
 pub returns-then-entries-target : goal.returns-then-entries-target
-returns-then-entries-target c = λ G is. (c.in-Some.target, c.in-Some.ensures.label G is, c.requires.entries.sound c.in-Some.target c.if-entries-target.true)
+returns-then-entries-target c =
+    λ G is. (
+      c.in-Some.target,
+      c.in-Some.ensures.label G is,
+      c.requires.entries.sound c.in-Some.target c.if-entries-target.true,
+    )
 
 pub returns-else-entries-target : goal.returns-else-entries-target
 returns-else-entries-target c = λ G is.
-    let t = c.in-Some.target in
-    (t, c.in-Some.ensures.label G is, λ e. both_ways (marked c.args.entries.now t) c.if-entries-target.false (c.requires.entries.complete t c.in-Some.ensures.within e))
+    let t = c.in-Some.target in (
+      t,
+      c.in-Some.ensures.label G is,
+      λ e. both_ways (marked c.args.entries.now t) c.if-entries-target.false
+          (c.requires.entries.complete t c.in-Some.ensures.within e),
+    )

@@ -14,15 +14,18 @@ pub conditional_targets-requires-clause-op : goal.conditional_targets-requires-c
 conditional_targets-requires-clause-op c =
     let code = c.args.code.now in
     let i : PlainInst = plain_inst (get_or code.insts.now c.args.at c.index-code-at.result) in
-    let there : slice_get (insts_of code) c.args.at ≡ Some i = inst_get code.insts.now c.args.at c.index-code-at.result c.requires.at in
+    let there : slice_get (insts_of code) c.args.at ≡ Some i = inst_get code.insts.now c.args.at c.index-code-at.result
+    c.requires.at in
     op_holds (insts_of code) c.args.at i is_conditional there (ap is_conditional c.if-opcode-eq-BRANCH_CONDITIONAL.true)
 
 pub jump_targets-requires-clause-op : goal.jump_targets-requires-clause-op
 jump_targets-requires-clause-op c =
     let code = c.args.code.now in
     let i : PlainInst = plain_inst (get_or code.insts.now c.args.at c.index-code-at.result) in
-    let there : slice_get (insts_of code) c.args.at ≡ Some i = inst_get code.insts.now c.args.at c.index-code-at.result c.requires.at in
+    let there : slice_get (insts_of code) c.args.at ≡ Some i = inst_get code.insts.now c.args.at c.index-code-at.result
+    c.requires.at in
     op_holds (insts_of code) c.args.at i is_jump there (ap is_jump c.if-opcode-eq-BRANCH.true)
 
 pub targets_by_operand-requires-clause-op : goal.targets_by_operand-requires-clause-op
-targets_by_operand-requires-clause-op c = op_moved (insts_of c.args.code.now) c.args.at is_branch is_labelled branch_labelled c.requires.op
+targets_by_operand-requires-clause-op c =
+    op_moved (insts_of c.args.code.now) c.args.at is_branch is_labelled branch_labelled c.requires.op

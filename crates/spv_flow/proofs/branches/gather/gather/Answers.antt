@@ -8,7 +8,8 @@ pub loop-at-preserved : goal.loop-at-preserved
 loop-at-preserved c = record {
   edges = c.in_ok-gather_at.ensures.edges;
   count = c.in_ok-gather_at.ensures.count;
-  gathered = λ G is. gathered_more G (insts_of c.args.code.now) c.loop-at.edges c.gather_at.new.edges c.loop-at.at (c.loop-at.invariant.gathered G is) (c.in_ok-gather_at.ensures.adds G is);
+  gathered = λ G is. gathered_more G (insts_of c.args.code.now) c.loop-at.edges c.gather_at.new.edges c.loop-at.at
+      (c.loop-at.invariant.gathered G is) (c.in_ok-gather_at.ensures.adds G is);
 }
 
 pub returns-clause-gathered : goal.returns-clause-gathered

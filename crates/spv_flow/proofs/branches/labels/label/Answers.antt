@@ -5,4 +5,5 @@ use Rattle.spv_flow.proofs.branches.labels.label.Goals as goal
 
 pub returns : goal.returns
 returns c = λ G f.
-    c.label_in.ensures G (plain_inst c.args.inst.now) (record { of = refl; has = ap (λ (os : List Operand). plain_operands os) (sym c.as_slice.ensures.value) }) f
+    c.label_in.ensures G (plain_inst c.args.inst.now)
+    (record { of = refl; has = ap (λ (os : List Operand). plain_operands os) (sym c.as_slice.ensures.value) }) f

@@ -17,5 +17,6 @@ loop-next-preserved c =
     record {
       further = omega (arith, low);
       label = case_after c.loop-next.next l.label;
-      same = same_more (plain_operands c.args.operands.now) c.args.n c.loop-next.next c.args.id l.label (c.is_id_at.ensures c.if-not-is_id_at.false) l.same;
+      same = same_more (plain_operands c.args.operands.now) c.args.n c.loop-next.next c.args.id l.label
+          (c.is_id_at.ensures c.if-not-is_id_at.false) l.same;
     }

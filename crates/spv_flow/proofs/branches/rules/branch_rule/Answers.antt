@@ -3,15 +3,19 @@ use Rattle.spv_flow.proofs.lemmas.branches.Firsts.{branch_lacks, branch_enters, 
 use Rattle.spv_flow.proofs.branches.rules.branch_rule.Goals as goal
 
 pub returns-in-Lacking : goal.returns-in-Lacking
-returns-in-Lacking c = λ G is. branch_lacks G (insts_of c.args.code.now) c.args.at c.requires.op (rw c.in-Lacking.is at (c.targets_of.ensures G is))
+returns-in-Lacking c =
+    λ G is. branch_lacks G (insts_of c.args.code.now) c.args.at c.requires.op
+    (rw c.in-Lacking.is at (c.targets_of.ensures G is))
 
 pub returns-in-Entering : goal.returns-in-Entering
-returns-in-Entering c = λ G is. let t = rw c.in-Entering.is at (c.targets_of.ensures G is) in branch_enters G (insts_of c.args.code.now) c.args.at c.requires.op t.0 t.1
+returns-in-Entering c = λ G is. let t = rw c.in-Entering.is at (c.targets_of.ensures G is) in
+    branch_enters G (insts_of c.args.code.now) c.args.at c.requires.op t.0 t.1
 
 pub returns-then-has_same_labels : goal.returns-then-has_same_labels
 returns-then-has_same_labels c = λ G is.
     let t = rw c.in-Sound.is at (c.targets_of.ensures G is) in
-    branch_same G (insts_of c.args.code.now) c.args.at c.requires.op c.if-has_opcode.ensures t.0 t.1 (c.if-has_same_labels.ensures G is)
+    branch_same G (insts_of c.args.code.now) c.args.at c.requires.op c.if-has_opcode.ensures t.0 t.1
+    (c.if-has_same_labels.ensures G is)
 
 pub returns-else-has_same_labels : goal.returns-else-has_same_labels
 returns-else-has_same_labels c = λ G is.

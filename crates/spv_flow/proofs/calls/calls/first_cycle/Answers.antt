@@ -40,12 +40,14 @@ entries_of-requires c =
 pub first_cyclic-requires-clause-within : goal.first_cyclic-requires-clause-within
 first_cyclic-requires-clause-within c =
     let xs = c.as_slice-insts.result.now in
-    rw (c.deref-2.ensures.value, ← length-map xs plain_inst) (calls_within (map plain_inst xs) (length xs) c.in_ok-calls.calls.items c.in_ok-calls.ensures)
+    rw (c.deref-2.ensures.value, ← length-map xs plain_inst)
+    (calls_within (map plain_inst xs) (length xs) c.in_ok-calls.calls.items c.in_ok-calls.ensures)
 
 pub first_cyclic-requires-clause-starts : goal.first_cyclic-requires-clause-starts
 first_cyclic-requires-clause-starts c =
     let xs = c.as_slice-insts.result.now in
-    rw (c.deref-3.ensures.value, ← length-map xs plain_inst) (entries_below (map plain_inst xs) (length xs) c.in_ok-entries.entries.items c.in_ok-entries.ensures)
+    rw (c.deref-3.ensures.value, ← length-map xs plain_inst)
+    (entries_below (map plain_inst xs) (length xs) c.in_ok-entries.entries.items c.in_ok-entries.ensures)
 
 pub returns-then-are_ordered-clause-none : goal.returns-then-are_ordered-clause-none
 returns-then-are_ordered-clause-none c =
@@ -57,7 +59,8 @@ returns-then-are_ordered-clause-none c =
 pub index-requires : goal.index-requires
 index-requires c =
     let calls = c.in_ok-calls.calls.items in
-    let f : IsFirstCyclic calls c.in_ok-entries.entries.items c.in-Some.first = rw (c.in-Some.is, c.deref-2.ensures.value, c.deref-3.ensures.value) at c.in_ok-first.ensures in
+    let f : IsFirstCyclic calls c.in_ok-entries.entries.items c.in-Some.first = rw
+    (c.in-Some.is, c.deref-2.ensures.value, c.deref-3.ensures.value) at c.in_ok-first.ensures in
     let w = slice_get_within calls c.in-Some.first f.cyclic.call f.cyclic.there in
     let v = c.in_ok-calls.calls.ok.0 in
     omega arith
@@ -67,12 +70,14 @@ returns-in-Some-clause-first c =
     let xs = c.as_slice-insts.result.now in
     let is = map plain_inst xs in
     let calls = c.in_ok-calls.calls.items in
-    let f : IsFirstCyclic calls c.in_ok-entries.entries.items c.in-Some.first = rw (c.in-Some.is, c.deref-2.ensures.value, c.deref-3.ensures.value) at c.in_ok-first.ensures in
+    let f : IsFirstCyclic calls c.in_ok-entries.entries.items c.in-Some.first = rw
+    (c.in-Some.is, c.deref-2.ensures.value, c.deref-3.ensures.value) at c.in_ok-first.ensures in
     let w = slice_get_within calls c.in-Some.first f.cyclic.call f.cyclic.there in
     let a = rw (← length-map xs plain_inst) at c.in_ok-calls.ensures in
     let b = rw (← length-map xs plain_inst) at c.in_ok-entries.ensures in
     let h = found calls c.in-Some.first c.index.result.now w c.index.ensures in
-    rw (← c.as_slice-insts.ensures.value) (first_told is calls c.in_ok-entries.entries.items c.in-Some.first c.index.result.now a b h f)
+    rw (← c.as_slice-insts.ensures.value) (first_told is calls c.in_ok-entries.entries.items c.in-Some.first
+    c.index.result.now a b h f)
 
 pub returns-clause-none : goal.returns-clause-none
 returns-clause-none c =

@@ -14,8 +14,10 @@ loop-i-preserved c =
     elim c.match-call_at.branch [
       | in-Some+in_ok-push w ↦
           rw (w.calls-is, w.in_ok-push.ensures.items)
-          (calls_more is c.args.ids.now c.loop-i.i c.loop-i.calls.items w.in-Some.call c.requires.ids c.loop-i.invariant (w.in-Some.ensures is c.requires.places c.requires.ids h))
-      | in_default w ↦ rw w.calls-is (calls_past is c.loop-i.i c.loop-i.calls.items c.loop-i.invariant (w.in_default.ensures is c.requires.places c.requires.ids h))
+          (calls_more is c.args.ids.now c.loop-i.i c.loop-i.calls.items w.in-Some.call c.requires.ids c.loop-i.invariant
+          (w.in-Some.ensures is c.requires.places c.requires.ids h))
+      | in_default w ↦ rw w.calls-is (calls_past is c.loop-i.i c.loop-i.calls.items c.loop-i.invariant
+          (w.in_default.ensures is c.requires.places c.requires.ids h))
     ]
 
 pub before_functions-i-requires : goal.before_functions-i-requires

@@ -1,4 +1,5 @@
-use Rattle.spv_flow.proofs.lemmas.calls.Worked.{called_3, label_no_call, never_calls, entry_0, no_entry, chain_6, no_chain, inside, outside, unreached}
+use Rattle.spv_flow.proofs.lemmas.calls.Worked.{called_3, label_no_call, never_calls, entry_0, no_entry, chain_6}
+use Rattle.spv_flow.proofs.lemmas.calls.Worked.{no_chain, inside, outside, unreached}
 use Rattle.spv_flow.proofs.calls.laws.call_examples.Goals as goal
 
 pub returns : goal.returns

@@ -5,4 +5,5 @@ use Rattle.spv_module.specs.Operand.{type_in}
 use Rattle.spv_flow.proofs.walks.code.has_type.Given as goal
 
 abbrev pub invariant-loop-operand : goal.invariant-loop-operand
-invariant-loop-operand l = is_some (type_in (plain_operands l.operands)) ≡ is_some (type_in (plain_operands (drop l.operand-index l.operands)))
+invariant-loop-operand l =
+    is_some (type_in (plain_operands l.operands)) ≡ is_some (type_in (plain_operands (drop l.operand-index l.operands)))

@@ -13,7 +13,9 @@ returns-else-insts-at-eq-LABEL c =
     let e = c.index-insts-at-else-insts-at-eq-LABEL.result in
     let some = c.requires.some in
     let within = c.requires.at in
-    begins_by (map plain_inst insts) at (at - 1) (plain_inst (get_or insts at d)) (plain_inst (get_or insts (at - 1) e)) c.is_terminator.result (inst_get insts at d within) c.if-insts-at-eq-LABEL.false
+    begins_by (map plain_inst insts) at (at - 1) (plain_inst (get_or insts at d))
+    (plain_inst (get_or insts (at - 1) e)) c.is_terminator.result
+    (inst_get insts at d within) c.if-insts-at-eq-LABEL.false
     (omega (arith, some)) (inst_get insts (at - 1) e (omega (arith, within))) c.is_terminator.ensures
 
 pub returns-then-insts-at-eq-LABEL : goal.returns-then-insts-at-eq-LABEL

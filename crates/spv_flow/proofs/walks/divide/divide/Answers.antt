@@ -11,7 +11,8 @@ use Rattle.spv_flow.proofs.walks.divide.divide.Goals.{then-begins+in_ok-push-2, 
 pub overflow_cast-numbers-then-begins : goal.overflow_cast-numbers-then-begins
 overflow_cast-numbers-then-begins c =
     let s = c.loop-at.invariant.starts in
-    let h = few_starts (insts_of c.args.code.now) c.args.function c.loop-at.at c.loop-at.starts.items c.loop-at.numbers s in
+    let h = few_starts (insts_of c.args.code.now) c.args.function c.loop-at.at c.loop-at.starts.items c.loop-at.numbers
+    s in
     let e = c.len.ensures in
     let lt = c.loop-at-test.true in
     let r = c.ranges.end in
@@ -32,11 +33,15 @@ loop-at-preserved c =
     elim c.if-begins.branch [
       | then-begins+in_ok-push-2 w ↦ (
           let more = starts_more is f at starts numbers s (omega (arith, count, to, within, l)) w.if-begins.ensures in
-          let n : length starts ≡ w.len.result = (let o = c.loop-at.starts.ok.0 in let e = w.len.ensures in omega (arith, o, e)) in
+          let n : length starts ≡ w.len.result =
+          (let o = c.loop-at.starts.ok.0 in let e = w.len.ensures in omega (arith, o, e)) in
           let numbered = subst (λ (k : ℕ). AreStarts is f (at + 1) (starts ++ at ∷ []) (set numbers at k)) n more in
-          let pushed = subst (λ (xs : List ℕ). AreStarts is f (at + 1) xs (set numbers at w.len.result)) (sym w.in_ok-push-2.ensures.items) numbered in
-          rw (w.starts-is, w.numbers-is) (record { count = length-set numbers at w.len.result ∙ count; starts = pushed }))
-      | else-begins w ↦ (rw (w.starts-is, w.numbers-is) (record { count = count; starts = starts_other is f at starts numbers s w.if-begins.ensures }))
+          let pushed = subst (λ (xs : List ℕ). AreStarts is f (at + 1) xs (set numbers at w.len.result))
+          (sym w.in_ok-push-2.ensures.items) numbered in
+          rw (w.starts-is, w.numbers-is) (record
+          { count = length-set numbers at w.len.result ∙ count; starts = pushed }))
+      | else-begins w ↦ (rw (w.starts-is, w.numbers-is)
+          (record { count = count; starts = starts_other is f at starts numbers s w.if-begins.ensures }))
     ]
 
 pub returns : goal.returns
@@ -49,7 +54,8 @@ returns c =
     let to = c.loop-at.auto.at-end (omega (arith, some)) in
     let e : c.loop-at.at ≡ c.args.end = omega (arith, last, to) in
     let s = subst (λ (n : ℕ). AreStarts is f n c.loop-at.starts.items c.loop-at.numbers) e c.loop-at.invariant.starts in
-    subst (λ (xs : List ℕ). IsLaid is f c.args.end xs c.loop-at.numbers) (sym c.in_ok-push-3.ensures.items) (starts_all is f c.args.end c.loop-at.starts.items c.loop-at.numbers x s)
+    subst (λ (xs : List ℕ). IsLaid is f c.args.end xs c.loop-at.numbers) (sym c.in_ok-push-3.ensures.items)
+    (starts_all is f c.args.end c.loop-at.starts.items c.loop-at.numbers x s)
 
 pub bounds-numbers-function : goal.bounds-numbers-function
 bounds-numbers-function c = grind (arith, common_steps)
@@ -69,5 +75,6 @@ loop-at-init c =
     let l = length-map c.args.code.now.insts.now plain_inst in
     record {
       count = length-set numbers c.args.function 0 ∙ count;
-      starts = rw (c.in_ok-push.ensures.items, c.clear.ensures.items) (starts_first (insts_of c.args.code.now) c.args.function numbers (omega (arith, some, within, count, l)));
+      starts = rw (c.in_ok-push.ensures.items, c.clear.ensures.items)
+          (starts_first (insts_of c.args.code.now) c.args.function numbers (omega (arith, some, within, count, l)));
     }

@@ -13,7 +13,8 @@ use Rattle.spv_flow.specs.walks.inner.Leading.{LeadsTo}
 use Rattle.spv_flow.proofs.lemmas.walks.Starting.{few_blocks, block_last}
 use Rattle.spv_flow.proofs.lemmas.walks.Targets.{labels_lead, next_leads, none_next, none_after}
 use Rattle.spv_flow.proofs.walks.edges.add_targets.Goals as goal
-use Rattle.spv_flow.proofs.walks.edges.add_targets.Goals.{else-not-is_terminator-via-then-not-is_terminator+else-block-blocks, else-not-is_terminator-via-else-not-is_terminator}
+use Rattle.spv_flow.proofs.walks.edges.add_targets.Goals.{else-not-is_terminator-via-then-not-is_terminator+else-block-blocks}
+use Rattle.spv_flow.proofs.walks.edges.add_targets.Goals.{else-not-is_terminator-via-else-not-is_terminator}
 
 pub add_labels-requires-clause-op : goal.add_labels-requires-clause-op
 add_labels-requires-clause-op c =
@@ -34,7 +35,8 @@ returns-then-is_branch c =
     let i = plain_inst (get_or code.insts.now last c.index-code-last.result) in
     let there = inst_get code.insts.now last c.index-code-last.result h.2 in
     let branch = op_holds (insts_of code) last i is_branch there (sym c.is_branch.ensures ∙ c.if-is_branch.true) in
-    on_ok_weaker c.add_labels.result (λ g. labels_lead code b.starts.now c.args.block last c.args.targets.now.items c.add_labels.new.targets.items branch h.1 g) c.add_labels.ensures
+    on_ok_weaker c.add_labels.result (λ g. labels_lead code b.starts.now c.args.block last c.args.targets.now.items
+    c.add_labels.new.targets.items branch h.1 g) c.add_labels.ensures
 
 pub overflow_cast-block : goal.overflow_cast-block
 overflow_cast-block c =
@@ -74,8 +76,10 @@ returns-in_ok-push c =
     let t = op_tells (insts_of code) last i is_terminator there o in
     let f = sym c.is_terminator.ensures ∙ c.if-not-is_terminator.true in
     cc) in
-    subst (λ (xs : List ℕ). AddsBy code (λ (G : Table) (t : ℕ). LeadsTo G (insts_of code) b.starts.now c.args.block t) c.args.targets.now.items xs) (sym c.in_ok-push.ensures.items)
-    (next_leads code b.function b.starts.now c.args.block last c.args.targets.now.items c.requires.blocks.laid.divided plain open_end h.1 c.if-block-blocks.true)
+    subst (λ (xs : List ℕ). AddsBy code (λ (G : Table) (t : ℕ). LeadsTo G (insts_of code) b.starts.now c.args.block t)
+    c.args.targets.now.items xs) (sym c.in_ok-push.ensures.items)
+    (next_leads code b.function b.starts.now c.args.block last c.args.targets.now.items c.requires.blocks.laid.divided
+    plain open_end h.1 c.if-block-blocks.true)
 
 pub returns-else-not-is_terminator : goal.returns-else-not-is_terminator
 returns-else-not-is_terminator c =
@@ -92,9 +96,11 @@ returns-else-not-is_terminator c =
     elim c.else-not-is_terminator.branch [
       | else-not-is_terminator-via-then-not-is_terminator+else-block-blocks w ↦ (
           let f = w.if-block-blocks.false in
-          none_next code b.function b.starts.now c.args.block last c.args.targets.now.items c.requires.blocks.laid.divided plain h.1 c.requires.block (omega (arith, f)))
+          none_next code b.function b.starts.now c.args.block last c.args.targets.now.items
+          c.requires.blocks.laid.divided plain h.1 c.requires.block (omega (arith, f)))
       | else-not-is_terminator-via-else-not-is_terminator w ↦ (
-          let ended = op_holds (insts_of code) last i is_terminator there (sym c.is_terminator.ensures ∙ w.if-not-is_terminator.false) in
+          let ended = op_holds (insts_of code) last i is_terminator there
+          (sym c.is_terminator.ensures ∙ w.if-not-is_terminator.false) in
           none_after code b.starts.now c.args.block last c.args.targets.now.items plain ended h.1)
     ]
 
@@ -105,4 +111,5 @@ pub bounds-code-last : goal.bounds-code-last
 bounds-code-last c = (block_last c.args.code.now c.args.blocks.now c.requires.blocks c.args.block c.requires.block).2
 
 pub add_labels-requires-clause-at : goal.add_labels-requires-clause-at
-add_labels-requires-clause-at c = (block_last c.args.code.now c.args.blocks.now c.requires.blocks c.args.block c.requires.block).2
+add_labels-requires-clause-at c =
+    (block_last c.args.code.now c.args.blocks.now c.requires.blocks c.args.block c.requires.block).2

@@ -9,10 +9,14 @@ use Rattle.spv_flow.proofs.walks.function.first_in_function.Goals as goal
 pub first_in_blocks-requires-clause-blocks : goal.first_in_blocks-requires-clause-blocks
 first_in_blocks-requires-clause-blocks c =
     let code = c.args.code.now in
-    let numbered : c.as_slice-2.result.now ≡ c.divide.new.numbers = c.as_slice-2.ensures.value ∙ taken c.divide.new.numbers _ _ (let l = c.divide.auto.numbers in let m = c.deref_mut.ensures.len in omega (arith, l, m)) in
+    let numbered : c.as_slice-2.result.now ≡ c.divide.new.numbers = c.as_slice-2.ensures.value
+    ∙ taken c.divide.new.numbers _ _ (let l = c.divide.auto.numbers in let m = c.deref_mut.ensures.len in
+    omega (arith, l, m)) in
     let laid : IsLaid (insts_of code) c.args.function c.args.extent.end c.as_slice.result.now c.as_slice-2.result.now =
-    subst (λ (xs : List ℕ). IsLaid (insts_of code) c.args.function c.args.extent.end xs c.as_slice-2.result.now) (sym c.as_slice.ensures.value)
-    (subst (λ (xs : List ℕ). IsLaid (insts_of code) c.args.function c.args.extent.end c.divide.new.starts.items xs) (sym numbered) c.in_ok-divide.ensures) in
+    subst (λ (xs : List ℕ). IsLaid (insts_of code) c.args.function c.args.extent.end xs c.as_slice-2.result.now)
+    (sym c.as_slice.ensures.value)
+    (subst (λ (xs : List ℕ). IsLaid (insts_of code) c.args.function c.args.extent.end c.divide.new.starts.items xs)
+    (sym numbered) c.in_ok-divide.ensures) in
     record {
       laid = laid;
       count = (

@@ -25,7 +25,8 @@ loop-block-preserved c =
     let code = c.args.code.now in
     let starts = c.args.blocks.now.starts.now in
     let P : Table → ℕ → Query → Type 0 = λ G b a. IsQueryIn G (insts_of code) starts b a in
-    adds_step code P c.loop-block.block c.args.queries.now.items c.loop-block.queries.items c.add_block.new.queries.items c.loop-block.invariant c.in_ok-add_block.ensures
+    adds_step code P c.loop-block.block c.args.queries.now.items c.loop-block.queries.items
+    c.add_block.new.queries.items c.loop-block.invariant c.in_ok-add_block.ensures
 
 pub returns : goal.returns
 returns c =
@@ -33,4 +34,5 @@ returns c =
     let starts = c.args.blocks.now.starts.now in
     let end = c.loop-block-test.false in
     let P : Table → ℕ → Query → Type 0 = λ G b a. IsQueryIn G (insts_of code) starts b a in
-    adds_end code P c.loop-block.block c.args.queries.now.items c.loop-block.queries.items c.loop-block.invariant (λ G is b a k. let w = k.1.block in omega (arith, w, end))
+    adds_end code P c.loop-block.block c.args.queries.now.items c.loop-block.queries.items c.loop-block.invariant
+    (λ G is b a k. let w = k.1.block in omega (arith, w, end))

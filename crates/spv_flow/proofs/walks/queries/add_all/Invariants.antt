@@ -5,4 +5,6 @@ use Rattle.spv_flow.proofs.lemmas.walks.Adding.{UpTo}
 use Rattle.spv_flow.proofs.walks.queries.add_all.Given as goal
 
 abbrev pub invariant-loop-block : goal.invariant-loop-block
-invariant-loop-block l = AddsBy l.code (UpTo l.block (λ G b a. IsQueryIn G (insts_of l.code) l.blocks.starts.now b a)) l.fn.queries.items l.queries.items
+invariant-loop-block l =
+    AddsBy l.code (UpTo l.block (λ G b a. IsQueryIn G (insts_of l.code) l.blocks.starts.now b a)) l.fn.queries.items
+    l.queries.items

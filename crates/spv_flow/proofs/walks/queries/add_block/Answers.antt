@@ -17,9 +17,13 @@ loop-at-preserved c =
     let now = c.loop-at.queries.items in
     let new = c.add_queries.new.queries.items in
     let from = c.loop-at.auto.at in
-    let P : Table → ℕ → Query → Type 0 = λ G j a. IsIn starts c.args.block j × IsQueryAt G (insts_of code) starts c.args.block j a in
-    let here : IsIn starts c.args.block at = record { block = c.requires.block; from = from; to = c.loop-at-test.true } in
-    let one = adds_as code (λ (G : Table) (a : Query). IsQueryAt G (insts_of code) starts c.args.block at a) (λ (G : Table) (a : Query). P G at a) now new c.in_ok-add_queries.ensures (λ G is a k. (here, k)) (λ G is a k. k.1) in
+    let P : Table → ℕ → Query
+    → Type 0 = λ G j a. IsIn starts c.args.block j × IsQueryAt G (insts_of code) starts c.args.block j a in
+    let here : IsIn starts c.args.block at = record
+    { block = c.requires.block; from = from; to = c.loop-at-test.true } in
+    let one = adds_as code (λ (G : Table) (a : Query). IsQueryAt G (insts_of code) starts c.args.block at a)
+    (λ (G : Table) (a : Query). P G at a) now new c.in_ok-add_queries.ensures (λ G is a k. (here, k))
+    (λ G is a k. k.1) in
     adds_step code P at old now new c.loop-at.invariant one
 
 pub returns : goal.returns
@@ -27,9 +31,13 @@ returns c =
     let code = c.args.code.now in
     let starts = c.args.blocks.now.starts.now in
     let end = c.loop-at-test.false in
-    let P : Table → ℕ → Query → Type 0 = λ G j a. IsIn starts c.args.block j × IsQueryAt G (insts_of code) starts c.args.block j a in
-    let all = adds_end code P c.loop-at.at c.args.queries.now.items c.loop-at.queries.items c.loop-at.invariant (λ G is j a k. let to = k.0.to in omega (arith, to, end)) in
-    adds_as code (λ (G : Table) (a : Query). (j : ℕ) × P G j a) (λ (G : Table) (a : Query). IsQueryIn G (insts_of code) starts c.args.block a) c.args.queries.now.items c.loop-at.queries.items all
+    let P : Table → ℕ → Query
+    → Type 0 = λ G j a. IsIn starts c.args.block j × IsQueryAt G (insts_of code) starts c.args.block j a in
+    let all = adds_end code P c.loop-at.at c.args.queries.now.items c.loop-at.queries.items c.loop-at.invariant
+    (λ G is j a k. let to = k.0.to in omega (arith, to, end)) in
+    adds_as code (λ (G : Table) (a : Query). (j : ℕ) × P G j a)
+    (λ (G : Table) (a : Query). IsQueryIn G (insts_of code) starts c.args.block a) c.args.queries.now.items
+    c.loop-at.queries.items all
     (λ G is a k. (k.0, k.1.0, k.1.1)) (λ G is a k. (k.0, (k.1, k.2)))
 
 pub add_queries-requires-clause-at : goal.add_queries-requires-clause-at

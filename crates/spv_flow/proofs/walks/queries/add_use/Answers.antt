@@ -12,7 +12,8 @@ returns-in_ok-push c =
     let starts = c.args.blocks.now.starts.now in
     let P : Table → Query → Type 0 = λ G a. IsUseQuery G (insts_of code) starts c.args.block c.args.at c.args.n a in
     let query = c.in-Some.query in
-    rw c.in_ok-push.ensures.items (adds_one code P c.args.queries.now.items query (λ G is. c.in-Some.ensures G is) (λ G is a p. one_use G code starts c.args.block c.args.at c.args.n query a is (c.in-Some.ensures G is) p))
+    rw c.in_ok-push.ensures.items (adds_one code P c.args.queries.now.items query (λ G is. c.in-Some.ensures G is)
+    (λ G is a p. one_use G code starts c.args.block c.args.at c.args.n query a is (c.in-Some.ensures G is) p))
 
 pub returns-in_default : goal.returns-in_default
 returns-in_default c =

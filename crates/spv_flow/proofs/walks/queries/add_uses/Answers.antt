@@ -14,7 +14,8 @@ use Rattle.spv_flow.proofs.lemmas.walks.Adding.{UpTo, adds_none, adds_step, adds
 use Rattle.spv_flow.proofs.lemmas.walks.Asking.{no_use, no_asked}
 use Rattle.spv_flow.proofs.lemmas.walks.Used.{none_found, id_in}
 use Rattle.spv_flow.proofs.walks.queries.add_uses.Goals as goal
-use Rattle.spv_flow.proofs.walks.queries.add_uses.Goals.{in-Some+then-not-is_settled+in_ok-add_use, in-Some+else-not-is_settled, in_default}
+use Rattle.spv_flow.proofs.walks.queries.add_uses.Goals.{in-Some+then-not-is_settled+in_ok-add_use}
+use Rattle.spv_flow.proofs.walks.queries.add_uses.Goals.{in-Some+else-not-is_settled, in_default}
 
 pub add_use-requires-clause-id : goal.add_use-requires-clause-id
 add_use-requires-clause-id c =
@@ -41,12 +42,16 @@ loop-n-preserved c =
           subst (λ (v : Vec Query Global). AddsBy code (UpTo (n + 1) P) old v.items) (sym w.queries-is) all)
       | in-Some+else-not-is_settled w ↦ (
           let used = sym w.in-Some.is ∙ c.use_id_in.ensures ∙ e in
-          let none = adds_none code (λ G a. P G n a) now (λ G is. no_asked G code starts c.args.block c.args.at n w.in-Some.id (plain_inst inst) is there used (rw (← c.requires.start) (w.is_settled.ensures G is w.if-not-is_settled.false))) in
+          let none = adds_none code (λ G a. P G n a) now
+          (λ G is. no_asked G code starts c.args.block c.args.at n w.in-Some.id (plain_inst inst) is there used
+          (rw (← c.requires.start) (w.is_settled.ensures G is w.if-not-is_settled.false))) in
           let all = adds_step code P n old now now c.loop-n.invariant none in
           subst (λ (v : Vec Query Global). AddsBy code (UpTo (n + 1) P) old v.items) (sym w.queries-is) all)
       | in_default w ↦ (
           let unused = sym w.in_default.is ∙ c.use_id_in.ensures ∙ e in
-          let none = adds_none code (λ G a. P G n a) now (λ G is. no_use G code starts c.args.block c.args.at n (none_found G (insts_of code) c.args.at n (plain_inst inst) there unused)) in
+          let none = adds_none code (λ G a. P G n a) now
+          (λ G is. no_use G code starts c.args.block c.args.at n
+          (none_found G (insts_of code) c.args.at n (plain_inst inst) there unused)) in
           let all = adds_step code P n old now now c.loop-n.invariant none in
           subst (λ (v : Vec Query Global). AddsBy code (UpTo (n + 1) P) old v.items) (sym w.queries-is) all)
     ]
@@ -57,8 +62,12 @@ returns c =
     let starts = c.args.blocks.now.starts.now in
     let inst : Inst = get_or code.insts.now c.args.at c.index-code-at.result in
     let i : PlainInst = plain_inst inst in
-    let there : slice_get (insts_of code) c.args.at ≡ Some i = inst_get code.insts.now c.args.at c.index-code-at.result c.requires.at in
+    let there : slice_get (insts_of code) c.args.at ≡ Some i = inst_get code.insts.now c.args.at c.index-code-at.result
+    c.requires.at in
     let end = c.loop-n-test.false in
-    let all : length i.operands ≤ c.loop-n.n = omega (arith, end, length-map inst.operands plain_operand, ap length c.as_slice-operands.ensures.value) in
-    adds_end code (λ (G : Table) (j : ℕ) (a : Query). IsUseQuery G (insts_of code) starts c.args.block c.args.at j a) c.loop-n.n c.args.queries.now.items c.loop-n.queries.items c.loop-n.invariant
-    (λ G is j a u. let lt = use_within G i j u.id u.role (use_in G (insts_of code) c.args.at j u.id u.role i there u.used) in omega (arith, lt, all))
+    let all : length i.operands ≤ c.loop-n.n = omega
+    (arith, end, length-map inst.operands plain_operand, ap length c.as_slice-operands.ensures.value) in
+    adds_end code (λ (G : Table) (j : ℕ) (a : Query). IsUseQuery G (insts_of code) starts c.args.block c.args.at j a)
+    c.loop-n.n c.args.queries.now.items c.loop-n.queries.items c.loop-n.invariant
+    (λ G is j a u. let lt = use_within G i j u.id u.role
+    (use_in G (insts_of code) c.args.at j u.id u.role i there u.used) in omega (arith, lt, all))

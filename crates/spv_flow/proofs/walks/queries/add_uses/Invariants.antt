@@ -5,4 +5,5 @@ use Rattle.spv_flow.proofs.lemmas.walks.Adding.{UpTo}
 use Rattle.spv_flow.proofs.walks.queries.add_uses.Given as goal
 
 abbrev pub invariant-loop-n : goal.invariant-loop-n
-invariant-loop-n l = AddsBy l.code (UpTo l.n (λ G j a. IsUseQuery G (insts_of l.code) l.blocks.starts.now l.block l.at j a)) l.fn.queries.items l.queries.items
+invariant-loop-n l = AddsBy l.code (UpTo l.n
+    (λ G j a. IsUseQuery G (insts_of l.code) l.blocks.starts.now l.block l.at j a)) l.fn.queries.items l.queries.items

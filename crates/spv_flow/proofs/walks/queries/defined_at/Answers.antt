@@ -17,4 +17,5 @@ returns-clause-used c = λ G is.
     let code = c.args.code.now in
     let i = plain_inst (get_or code.insts.now c.args.at c.index-code-at.result) in
     let there = inst_get code.insts.now c.args.at c.index-code-at.result c.requires in
-    found_by G (insts_of code) c.args.at c.args.n c.in_ok-id.id i there c.in_ok-id.ensures c.definition.result (c.definition.ensures.there G is)
+    found_by G (insts_of code) c.args.at c.args.n c.in_ok-id.id i there c.in_ok-id.ensures c.definition.result
+    (c.definition.ensures.there G is)

@@ -16,7 +16,8 @@ returns-then-place-blocks c = λ G x is at.
     let insts = code.insts.now in
     let i = plain_inst (get_or insts c.args.place c.index-code-place.result) in
     let there = inst_get insts c.args.place c.index-code-place.result c.requires.place in
-    let e = subst (λ (os : List Operand). c.has_type.result ≡ is_some (type_in (plain_operands os))) c.as_slice.ensures.value c.has_type.ensures in
+    let e = subst (λ (os : List Operand). c.has_type.result ≡ is_some (type_in (plain_operands os)))
+    c.as_slice.ensures.value c.has_type.ensures in
     let after = c.if-blocks-place.true in
     let of = c.requires.blocks.laid.extent.of c.args.place (omega (arith, after)) c.if-place-blocks.true in
     by_type (is_some (type_in i.operands)) c.has_type.result (IsLocalValue (insts_of code) x) e

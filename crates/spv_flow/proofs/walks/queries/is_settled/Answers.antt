@@ -15,7 +15,12 @@ returns-then-start-definition c = λ G is t.
     let none = c.if-more-eq0.false in
     let below = c.if-at-more.false in
     let some : 0 < slice_index near c.args.id = omega (arith, none) in
-    inr (slice_index near c.args.id - 1, c.if-start-definition.true, omega (arith, some, below), listed G c.args.code.now near c.args.id is c.requires.near (omega (arith, within)) some)
+    inr (
+      slice_index near c.args.id - 1,
+      c.if-start-definition.true,
+      omega (arith, some, below),
+      listed G c.args.code.now near c.args.id is c.requires.near (omega (arith, within)) some,
+    )
 
 pub returns-then-is_global : goal.returns-then-is_global
 returns-then-is_global c = λ G is t.
@@ -23,7 +28,8 @@ returns-then-is_global c = λ G is t.
     let within = c.if-place-near.false in
     let none = c.if-more-eq0.false in
     let some : 0 < slice_index near c.args.id = omega (arith, none) in
-    inl (c.is_global.ensures G c.args.id is (listed G c.args.code.now near c.args.id is c.requires.near (omega (arith, within)) some) c.if-is_global.true)
+    inl (c.is_global.ensures G c.args.id is
+    (listed G c.args.code.now near c.args.id is c.requires.near (omega (arith, within)) some) c.if-is_global.true)
 
 pub returns : goal.returns
 returns c = λ G is t.
@@ -39,4 +45,6 @@ returns c = λ G is t.
     let j = plain_inst (get_or code.insts.now d c.index-code-definition.result) in
     let here = inst_get code.insts.now d c.index-code-definition.result inside in
     let function = op_holds (insts_of code) d j is_function here t in
-    inl (value_not G code c.args.id d d is (listed G code near c.args.id is c.requires.near (omega (arith, within)) some) (of_itself (insts_of code) d function) (omega arith))
+    inl (value_not G code c.args.id d d is
+    (listed G code near c.args.id is c.requires.near (omega (arith, within)) some)
+    (of_itself (insts_of code) d function) (omega arith))

@@ -21,8 +21,17 @@ first_missing-requires-clause-code c =
     let xs = c.as_slice-insts.result.now in
     let k = c.requires.known in
     let g = no_function (map plain_inst xs) c.args.plan.now c.before_functions-globals.result (rw v k.1.place)
-    c.before_functions-globals.ensures.before in
-    (k.0, record { plan = rw v k.1; bound = c.args.module.now.header.bound; ids = rw v k.2; branches = rw v k.3; most = few_insts xs (rw v c.requires.words); global = g })
+    c.before_functions-globals.ensures.before in (
+      k.0,
+      record {
+        plan = rw v k.1;
+        bound = c.args.module.now.header.bound;
+        ids = rw v k.2;
+        branches = rw v k.3;
+        most = few_insts xs (rw v c.requires.words);
+        global = g;
+      },
+    )
 
 pub first_missing-requires-clause-most : goal.first_missing-requires-clause-most
 first_missing-requires-clause-most c =
@@ -39,7 +48,14 @@ rule-requires c =
     let h = rw c.in-Some.is at c.in_ok-inst.ensures in
     let g = no_function (map plain_inst xs) c.args.plan.now c.before_functions-globals.result (rw v k.1.place)
     c.before_functions-globals.ensures.before in
-    let f = h k.0 (record { plan = rw v k.1; bound = c.args.module.now.header.bound; ids = rw v k.2; branches = rw v k.3; most = few_insts xs (rw v c.requires.words); global = g }) in
+    let f = h k.0 (record {
+      plan = rw v k.1;
+      bound = c.args.module.now.header.bound;
+      ids = rw v k.2;
+      branches = rw v k.3;
+      most = few_insts xs (rw v c.requires.words);
+      global = g;
+    }) in
     let w = unavailable_there k.0 (map plain_inst xs) c.in-Some.inst f.0 in
     omega (arith, w, l)
 
@@ -51,7 +67,14 @@ stop_at-requires c =
     let h = rw c.in-Some.is at c.in_ok-inst.ensures in
     let g = no_function (map plain_inst xs) c.args.plan.now c.before_functions-globals.result (rw v k.1.place)
     c.before_functions-globals.ensures.before in
-    let f = h k.0 (record { plan = rw v k.1; bound = c.args.module.now.header.bound; ids = rw v k.2; branches = rw v k.3; most = few_insts xs (rw v c.requires.words); global = g }) in
+    let f = h k.0 (record {
+      plan = rw v k.1;
+      bound = c.args.module.now.header.bound;
+      ids = rw v k.2;
+      branches = rw v k.3;
+      most = few_insts xs (rw v c.requires.words);
+      global = g;
+    }) in
     let w = unavailable_there k.0 (map plain_inst xs) c.in-Some.inst f.0 in
     let n : length c.args.plan.now ≡ length (map plain_inst xs) = rw v k.1.count in
     omega (arith, w, n)
@@ -63,8 +86,16 @@ returns-in-Some-clause-refused c = λ G p a b.
     let h = rw c.in-Some.is at c.in_ok-inst.ensures in
     let g = no_function (map plain_inst xs) c.args.plan.now c.before_functions-globals.result (rw v p.place)
     c.before_functions-globals.ensures.before in
-    let f = h G (record { plan = rw v p; bound = c.args.module.now.header.bound; ids = rw v a; branches = rw v b; most = few_insts xs (rw v c.requires.words); global = g }) in
-    told G (plain_insts c.args.module.now) c.rule.result c.in-Some.inst c.stop_at.result (rw v at c.rule.ensures) (rw v at f) (c.stop_at.ensures (plain_insts c.args.module.now) p.place)
+    let f = h G (record {
+      plan = rw v p;
+      bound = c.args.module.now.header.bound;
+      ids = rw v a;
+      branches = rw v b;
+      most = few_insts xs (rw v c.requires.words);
+      global = g;
+    }) in
+    told G (plain_insts c.args.module.now) c.rule.result c.in-Some.inst c.stop_at.result (rw v at c.rule.ensures)
+    (rw v at f) (c.stop_at.ensures (plain_insts c.args.module.now) p.place)
 
 pub returns-clause-unbroken : goal.returns-clause-unbroken
 returns-clause-unbroken c = λ G p a b.
@@ -73,6 +104,13 @@ returns-clause-unbroken c = λ G p a b.
     let h = rw c.in_default.is at c.in_ok-inst.ensures in
     let g = no_function (map plain_inst xs) c.args.plan.now c.before_functions-globals.result (rw v p.place)
     c.before_functions-globals.ensures.before in
-    let u = h G (record { plan = rw v p; bound = c.args.module.now.header.bound; ids = rw v a; branches = rw v b; most = few_insts xs (rw v c.requires.words); global = g }) in
+    let u = h G (record {
+      plan = rw v p;
+      bound = c.args.module.now.header.bound;
+      ids = rw v a;
+      branches = rw v b;
+      most = few_insts xs (rw v c.requires.words);
+      global = g;
+    }) in
     let n = unbroken_by G (map plain_inst xs) u in
     rw v at n

@@ -15,7 +15,8 @@ function_extent-extent-requires-clause-function c =
     let code = c.args.code.now in
     let at = c.loop-at.at in
     let i = plain_inst (get_or code.insts.now at c.index-code-at.result) in
-    op_holds (insts_of code) at i is_function (inst_get code.insts.now at c.index-code-at.result c.loop-at-test.true) (eq-eqb i.opcode opcode.FUNCTION c.if-code-at-eq-FUNCTION.true)
+    op_holds (insts_of code) at i is_function (inst_get code.insts.now at c.index-code-at.result c.loop-at-test.true)
+    (eq-eqb i.opcode opcode.FUNCTION c.if-code-at-eq-FUNCTION.true)
 
 pub loop-at-init : goal.loop-at-init
 loop-at-init c = record { count = c.in_ok-buffers.ensures; sound = sound_start c.args.code.now }
@@ -24,14 +25,21 @@ pub returns-in-Some : goal.returns-in-Some
 returns-in-Some c =
     let code = c.args.code.now in
     let at = c.loop-at.at in
-    first_here code at c.in-Some.inst c.loop-at.invariant.sound (subst (λ (o : Option ℕ). (G : Table) → IsCode G code → IsFirstIn G (insts_of code) at o) c.in-Some.is c.in_ok-inst.ensures.first)
+    first_here code at c.in-Some.inst c.loop-at.invariant.sound
+    (subst (λ (o : Option ℕ). (G : Table) → IsCode G code → IsFirstIn G (insts_of code) at o) c.in-Some.is
+    c.in_ok-inst.ensures.first)
 
 pub loop-at-preserved-then-code-at-eq-FUNCTION : goal.loop-at-preserved-then-code-at-eq-FUNCTION
 loop-at-preserved-then-code-at-eq-FUNCTION c =
     let code = c.args.code.now in
     let at = c.loop-at.at in
-    let none = subst (λ (o : Option ℕ). (G : Table) → IsCode G code → IsFirstIn G (insts_of code) at o) c.in_default.is c.in_ok-inst.ensures.first in
-    record { count = c.in_ok-inst.ensures.count; sound = sound_more code at c.function_extent-extent.result.end c.function_extent-extent.ensures.extent none c.loop-at.invariant.sound }
+    let none = subst (λ (o : Option ℕ). (G : Table) → IsCode G code → IsFirstIn G (insts_of code) at o) c.in_default.is
+    c.in_ok-inst.ensures.first in
+    record {
+      count = c.in_ok-inst.ensures.count;
+      sound = sound_more code at c.function_extent-extent.result.end c.function_extent-extent.ensures.extent none
+          c.loop-at.invariant.sound;
+    }
 
 pub loop-at-preserved : goal.loop-at-preserved
 loop-at-preserved c =
@@ -39,7 +47,10 @@ loop-at-preserved c =
     let at = c.loop-at.at in
     let i = plain_inst (get_or code.insts.now at c.index-code-at.result) in
     let there = inst_get code.insts.now at c.index-code-at.result c.loop-at-test.true in
-    record { count = c.loop-at.invariant.count; sound = sound_other code at i there c.if-code-at-eq-FUNCTION.false c.loop-at.invariant.sound }
+    record {
+      count = c.loop-at.invariant.count;
+      sound = sound_other code at i there c.if-code-at-eq-FUNCTION.false c.loop-at.invariant.sound;
+    }
 
 pub returns : goal.returns
 returns c =

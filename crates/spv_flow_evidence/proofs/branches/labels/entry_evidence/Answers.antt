@@ -18,8 +18,10 @@ returns-then-is_entry c = λ G is.
     let code = c.args.code.now in
     let x = c.in-Some.id in
     let i : PlainInst = plain_inst (get_or code.insts.now c.args.at c.index-code-at.result) in
-    let there : slice_get (insts_of code) c.args.at ≡ Some i = inst_get code.insts.now c.args.at c.index-code-at.result c.requires.at in
-    let used = use_at G (insts_of code) c.args.at c.loop-k.k x Label i there (c.in-Some.ensures G (is.plan.fits c.args.at i there)) in
+    let there : slice_get (insts_of code) c.args.at ≡ Some i = inst_get code.insts.now c.args.at c.index-code-at.result
+    c.requires.at in
+    let used = use_at G (insts_of code) c.args.at c.loop-k.k x Label i there
+    (c.in-Some.ensures G (is.plan.fits c.args.at i there)) in
     let e = c.if-is_entry.ensures G is in
     IsEvidence.to_entry c.args.at c.loop-k.k x e.place c.requires.op used e.defined e.entry
 
@@ -30,11 +32,15 @@ loop-k-preserved c = λ G is.
     let P : ℕ → Type 0 = λ x. ¬ (IsEntryId L x) in
     let k = c.loop-k.k in
     let i : PlainInst = plain_inst (get_or code.insts.now c.args.at c.index-code-at.result) in
-    let there : slice_get L c.args.at ≡ Some i = inst_get code.insts.now c.args.at c.index-code-at.result c.requires.at in
+    let there : slice_get L c.args.at ≡ Some i = inst_get code.insts.now c.args.at c.index-code-at.result c.requires.at
+    in
     let fits = is.plan.fits c.args.at i there in
     elim c.match-label.branch [
-      | in-Some+else-is_entry w ↦ each_more G L c.args.at k w.in-Some.id P (use_at G L c.args.at k w.in-Some.id Label i there (w.in-Some.ensures G fits)) (w.if-is_entry.ensures G is) (c.loop-k.invariant G is)
-      | in_default w ↦ each_other G L c.args.at k P (λ x u. w.in_default.ensures G fits x (use_in G L c.args.at k x Label i there u)) (c.loop-k.invariant G is)
+      | in-Some+else-is_entry w ↦ each_more G L c.args.at k w.in-Some.id P
+          (use_at G L c.args.at k w.in-Some.id Label i there (w.in-Some.ensures G fits)) (w.if-is_entry.ensures G is)
+          (c.loop-k.invariant G is)
+      | in_default w ↦ each_other G L c.args.at k P
+          (λ x u. w.in_default.ensures G fits x (use_in G L c.args.at k x Label i there u)) (c.loop-k.invariant G is)
     ]
 
 pub unreachable-requires : goal.unreachable-requires
@@ -44,8 +50,10 @@ unreachable-requires c =
     let P : ℕ → Type 0 = λ x. ¬ (IsEntryId L x) in
     let inst : Inst = get_or code.insts.now c.args.at c.index-code-at.result in
     let i : PlainInst = plain_inst inst in
-    let there : slice_get L c.args.at ≡ Some i = inst_get code.insts.now c.args.at c.index-code-at.result c.requires.at in
-    let all : length i.operands ≤ c.loop-k.k = omega (arith, length-map inst.operands plain_operand, ap length c.as_slice-k-end.ensures.value) in
+    let there : slice_get L c.args.at ≡ Some i = inst_get code.insts.now c.args.at c.index-code-at.result c.requires.at
+    in
+    let all : length i.operands ≤ c.loop-k.k = omega
+    (arith, length-map inst.operands plain_operand, ap length c.as_slice-k-end.ensures.value) in
     let p = c.requires.broken in
     let G = p.0 in
     let is = p.1 in

@@ -7,4 +7,5 @@ use Rattle.spv_flow_evidence.specs.branches.inner.Known.{IsEntryId}
 use Rattle.spv_flow_evidence.proofs.branches.labels.entry_evidence.Given as goal
 
 abbrev pub invariant-loop-k : goal.invariant-loop-k
-invariant-loop-k l = (G : Table) → IsCode G l.code → (j x : ℕ) → j < l.k → IsUsedAt G (insts_of l.code) l.at j x Label → ¬ (IsEntryId (insts_of l.code) x)
+invariant-loop-k l = (G : Table) → IsCode G l.code → (j x : ℕ) → j < l.k → IsUsedAt G (insts_of l.code) l.at j x Label
+    → ¬ (IsEntryId (insts_of l.code) x)

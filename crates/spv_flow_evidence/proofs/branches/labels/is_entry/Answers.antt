@@ -11,7 +11,8 @@ use Rattle.spv_flow.proofs.lemmas.branches.Labelled.{one_place}
 use Rattle.spv_flow_evidence.specs.branches.inner.Known.{IsEntryId}
 use Rattle.spv_flow_evidence.proofs.branches.labels.is_entry.Goals as goal
 
-judged : (G : Table) (c : Code) (marks : List Bool) (x t : ℕ) (b : Bool) → marked marks t ≡ b → IsCode G c → AreEntries (insts_of c) marks (length c.insts.now) → t < length c.insts.now → IsLabelOf (insts_of c) x t
+judged : (G : Table) (c : Code) (marks : List Bool) (x t : ℕ) (b : Bool) → marked marks t ≡ b → IsCode G c
+    → AreEntries (insts_of c) marks (length c.insts.now) → t < length c.insts.now → IsLabelOf (insts_of c) x t
     → MatchBool b (IsEntryId (insts_of c) x) (¬ (IsEntryId (insts_of c) x))
 judged G c marks x t true e is are within label = record { place = t; defined = label.defined; entry = are.sound t e }
 judged G c marks x t false e is are within label = λ h.
@@ -21,7 +22,9 @@ judged G c marks x t false e is are within label = λ h.
 pub returns-in-Some : goal.returns-in-Some
 returns-in-Some c = λ G is.
     let t = c.in-Some.target in
-    judged G c.args.code.now c.args.entries.now c.args.id t (marked c.args.entries.now t) refl is c.requires.entries c.in-Some.ensures.within (c.in-Some.ensures.label G is)
+    judged G c.args.code.now c.args.entries.now c.args.id t
+    (marked c.args.entries.now t) refl is c.requires.entries c.in-Some.ensures.within (c.in-Some.ensures.label G is)
 
 pub returns-in-None : goal.returns-in-None
-returns-in-None c = λ G is h. c.in-None.ensures.label G is h.place (record { defined = h.defined; label = h.entry.label })
+returns-in-None c = λ G is h. c.in-None.ensures.label G is h.place
+    (record { defined = h.defined; label = h.entry.label })

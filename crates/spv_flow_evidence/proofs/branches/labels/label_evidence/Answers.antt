@@ -17,11 +17,13 @@ pub unwrap-requires : goal.unwrap-requires
 unwrap-requires c =
     let code = c.args.code.now in
     let i : PlainInst = plain_inst (get_or code.insts.now c.args.at c.index-code-at.result) in
-    let there : slice_get (insts_of code) c.args.at ≡ Some i = inst_get code.insts.now c.args.at c.index-code-at.result c.requires.at in
+    let there : slice_get (insts_of code) c.args.at ≡ Some i = inst_get code.insts.now c.args.at c.index-code-at.result
+    c.requires.at in
     let p = c.requires.defined in
     let G = p.0 in
     let is = p.1 in
-    let used = use_at G (insts_of code) c.args.at c.loop-k.k c.in-Some.id Label i there (c.in-Some.ensures G (is.plan.fits c.args.at i there)) in
+    let used = use_at G (insts_of code) c.args.at c.loop-k.k c.in-Some.id Label i there
+    (c.in-Some.ensures G (is.plan.fits c.args.at i there)) in
     has_definition G code c.args.at c.loop-k.k c.in-Some.id c.definition.result c.definition.ensures is p.2 used
 
 pub returns-then-not-has_label : goal.returns-then-not-has_label
@@ -29,10 +31,13 @@ returns-then-not-has_label c = λ G is.
     let code = c.args.code.now in
     let x = c.in-Some.id in
     let i : PlainInst = plain_inst (get_or code.insts.now c.args.at c.index-code-at.result) in
-    let there : slice_get (insts_of code) c.args.at ≡ Some i = inst_get code.insts.now c.args.at c.index-code-at.result c.requires.at in
-    let used = use_at G (insts_of code) c.args.at c.loop-k.k x Label i there (c.in-Some.ensures G (is.plan.fits c.args.at i there)) in
+    let there : slice_get (insts_of code) c.args.at ≡ Some i = inst_get code.insts.now c.args.at c.index-code-at.result
+    c.requires.at in
+    let used = use_at G (insts_of code) c.args.at c.loop-k.k x Label i there
+    (c.in-Some.ensures G (is.plan.fits c.args.at i there)) in
     let defined = (only G code x c.unwrap.result is (sym c.definition.ensures ∙ c.unwrap.ensures)).there in
-    IsEvidence.no_label c.args.at c.loop-k.k x c.unwrap.result c.requires.op used defined (c.if-not-has_label.ensures G is)
+    IsEvidence.no_label c.args.at c.loop-k.k x c.unwrap.result c.requires.op used defined
+    (c.if-not-has_label.ensures G is)
 
 pub loop-k-preserved : goal.loop-k-preserved
 loop-k-preserved c = λ G is.
@@ -41,11 +46,15 @@ loop-k-preserved c = λ G is.
     let P : ℕ → Type 0 = λ x. (m : ℕ) × IsLabelOf L x m in
     let k = c.loop-k.k in
     let i : PlainInst = plain_inst (get_or code.insts.now c.args.at c.index-code-at.result) in
-    let there : slice_get L c.args.at ≡ Some i = inst_get code.insts.now c.args.at c.index-code-at.result c.requires.at in
+    let there : slice_get L c.args.at ≡ Some i = inst_get code.insts.now c.args.at c.index-code-at.result c.requires.at
+    in
     let fits = is.plan.fits c.args.at i there in
     elim c.match-label.branch [
-      | in-Some+else-not-has_label w ↦ each_more G L c.args.at k w.in-Some.id P (use_at G L c.args.at k w.in-Some.id Label i there (w.in-Some.ensures G fits)) (w.if-not-has_label.ensures G is) (c.loop-k.invariant G is)
-      | in_default w ↦ each_other G L c.args.at k P (λ x u. w.in_default.ensures G fits x (use_in G L c.args.at k x Label i there u)) (c.loop-k.invariant G is)
+      | in-Some+else-not-has_label w ↦ each_more G L c.args.at k w.in-Some.id P
+          (use_at G L c.args.at k w.in-Some.id Label i there (w.in-Some.ensures G fits))
+          (w.if-not-has_label.ensures G is) (c.loop-k.invariant G is)
+      | in_default w ↦ each_other G L c.args.at k P
+          (λ x u. w.in_default.ensures G fits x (use_in G L c.args.at k x Label i there u)) (c.loop-k.invariant G is)
     ]
 
 pub unreachable-requires : goal.unreachable-requires
@@ -55,11 +64,14 @@ unreachable-requires c =
     let P : ℕ → Type 0 = λ x. (m : ℕ) × IsLabelOf L x m in
     let inst : Inst = get_or code.insts.now c.args.at c.index-code-at.result in
     let i : PlainInst = plain_inst inst in
-    let there : slice_get L c.args.at ≡ Some i = inst_get code.insts.now c.args.at c.index-code-at.result c.requires.at in
-    let all : length i.operands ≤ c.loop-k.k = omega (arith, length-map inst.operands plain_operand, ap length c.as_slice-k-end.ensures.value) in
+    let there : slice_get L c.args.at ≡ Some i = inst_get code.insts.now c.args.at c.index-code-at.result c.requires.at
+    in
+    let all : length i.operands ≤ c.loop-k.k = omega
+    (arith, length-map inst.operands plain_operand, ap length c.as_slice-k-end.ensures.value) in
     let p = c.requires.broken in
     let G = p.0 in
     let is = p.1 in
     let lacks = p.2 in
-    let label = each_all G L c.args.at c.loop-k.k i P there all (c.loop-k.invariant G is) lacks.operand lacks.id lacks.used in
+    let label = each_all G L c.args.at c.loop-k.k i P there all
+    (c.loop-k.invariant G is) lacks.operand lacks.id lacks.used in
     lacks.none label.0 label.1

@@ -7,4 +7,5 @@ use Rattle.spv_flow.specs.branches.Target.{IsLabelOf}
 use Rattle.spv_flow_evidence.proofs.branches.labels.label_evidence.Given as goal
 
 abbrev pub invariant-loop-k : goal.invariant-loop-k
-invariant-loop-k l = (G : Table) → IsCode G l.code → (j x : ℕ) → j < l.k → IsUsedAt G (insts_of l.code) l.at j x Label → (m : ℕ) × IsLabelOf (insts_of l.code) x m
+invariant-loop-k l = (G : Table) → IsCode G l.code → (j x : ℕ) → j < l.k → IsUsedAt G (insts_of l.code) l.at j x Label
+    → (m : ℕ) × IsLabelOf (insts_of l.code) x m

@@ -43,7 +43,8 @@ loop-n-preserved c =
             steps = subst (λ (v : Vec Query Global). All S v.items) (sym w.queries-is)
                 (subst (λ (xs : List Query). All S xs) (sym w.in_ok-push.ensures.items) steps);
             asked = λ G is. (
-                let more = asked_more G code b c.args.taking c.args.block c.args.at n c.loop-n.queries.items w.in-Some.query
+                let more = asked_more G code b c.args.taking c.args.block c.args.at n c.loop-n.queries.items
+                w.in-Some.query
                 is c.requires.blocks (w.in-Some.ensures G is) (c.loop-n.invariant.asked G is) in
                 let pushed = subst (λ (xs : List Query). P G xs) (sym w.in_ok-push.ensures.items) more in
                 subst (λ (v : Vec Query Global). P G v.items) (sym w.queries-is) pushed);

@@ -11,7 +11,8 @@ pub returns-then-is_imported_definition : goal.returns-then-is_imported_definiti
 returns-then-is_imported_definition c = λ i o.
     let both = c.is_imported_definition.ensures.0 c.if-is_imported_definition.true in
     let a = c.first_import.ensures in
-    subst (λ m. IsUnsound c.args.survey.now.table c.args.survey.now.insts c.args.number i (part.Imported m)) a.1 (IsUnsound.imported a.0 o both.1)
+    subst (λ m. IsUnsound c.args.survey.now.table c.args.survey.now.insts c.args.number i (part.Imported m)) a.1
+    (IsUnsound.imported a.0 o both.1)
 
 pub first_import-requires-clause-imported : goal.first_import-requires-clause-imported
 first_import-requires-clause-imported c = (c.is_imported_definition.ensures.0 c.if-is_imported_definition.true).0

@@ -1,4 +1,5 @@
-use Rattle.spv_form_evidence.proofs.lemmas.capabilities.Worked.{no_kernel, kernel, bit, covered_bit, model, addressing, call, no_call}
+use Rattle.spv_form_evidence.proofs.lemmas.capabilities.Worked.{no_kernel, kernel, bit, covered_bit, model, addressing}
+use Rattle.spv_form_evidence.proofs.lemmas.capabilities.Worked.{call, no_call}
 use Rattle.spv_form_evidence.proofs.capabilities.laws.evidence_examples.Goals as goal
 
 pub returns : goal.returns

@@ -18,7 +18,8 @@ returns-then-has_result c = λ G bound.
     let l = length-map c.args.insts.now plain_inst in
     let m = c.loop-m-test.true in
     let s = inst_there c.args.insts.now c.loop-m.m c.index-insts-m.result (omega arith) c.index-insts-m.is in
-    IsEvidence.defined_again n c.loop-m.m x (defined_here is n x (plain_inst c.index-insts-at.result) t (sym c.result_id.ensures ∙ c.in-Some.is)) m
+    IsEvidence.defined_again n c.loop-m.m x
+    (defined_here is n x (plain_inst c.index-insts-at.result) t (sym c.result_id.ensures ∙ c.in-Some.is)) m
     (defined_here is c.loop-m.m x (plain_inst c.index-insts-m.result) s (c.has_result.ensures.0 c.if-has_result.true))
 
 pub loop-m-preserved : goal.loop-m-preserved
@@ -30,7 +31,8 @@ loop-m-preserved c =
     let m = c.loop-m-test.true in
     let s = inst_there c.args.insts.now c.loop-m.m c.index-insts-m.result (omega arith) c.index-insts-m.is in
     below_more _ _ c.loop-m.invariant
-    (λ d. let h = c.has_result.ensures.1 (result_here is c.loop-m.m c.in-Some.id (plain_inst c.index-insts-m.result) s d) in let g = c.if-has_result.false in cc)
+    (λ d. let h = c.has_result.ensures.1 (result_here is c.loop-m.m c.in-Some.id
+    (plain_inst c.index-insts-m.result) s d) in let g = c.if-has_result.false in cc)
 
 pub unreachable-requires-2 : goal.unreachable-requires-2
 unreachable-requires-2 c =
@@ -38,6 +40,7 @@ unreachable-requires-2 c =
     let is = map plain_inst c.args.insts.now in
     let n = c.args.at in
     let t = broken_there b.0 b.1 c.args.insts.now D2 n c.index-insts-at.result b.2 c.index-insts-at.is in
-    let e = again b.0 b.1 is D2 n c.in-Some.id (plain_inst c.index-insts-at.result) refl t (sym c.result_id.ensures ∙ c.in-Some.is) b.2 in
+    let e = again b.0 b.1 is D2 n c.in-Some.id (plain_inst c.index-insts-at.result) refl t
+    (sym c.result_id.ensures ∙ c.in-Some.is) b.2 in
     let l = e.below in
     c.loop-m.invariant e.inst (omega arith) e.there

@@ -18,10 +18,13 @@ pub returns-then-is_in_order : goal.returns-then-is_in_order
 returns-then-is_in_order c = λ G bound is n f s a d m.
     let u = c.in-Some.used in
     not_such G (plain_inst c.args.inst.now) (IsDisordered bound is n m) c.args.k u.id u.role (c.in-Some.ensures G f)
-    (λ h. h.not (c.if-is_in_order.ensures is bound n s d h.below (first_of bound is _ u.id c.in-Some-get.first c.args.definitions.now a h.below (sym c.get.ensures ∙ c.in-Some-get.is))))
+    (λ h. h.not (c.if-is_in_order.ensures is bound n s d h.below
+    (first_of bound is _ u.id c.in-Some-get.first c.args.definitions.now a h.below
+    (sym c.get.ensures ∙ c.in-Some-get.is))))
 
 pub returns-else-is_in_order : goal.returns-else-is_in_order
 returns-else-is_in_order c = λ G bound is n f s a d.
     let u = c.in-Some.used in
-    disordered_here G bound is n (plain_inst c.args.inst.now) c.args.k u.id c.in-Some-get.first u.role c.args.definitions.now (c.in-Some.ensures G f) a (sym c.get.ensures ∙ c.in-Some-get.is)
+    disordered_here G bound is n (plain_inst c.args.inst.now) c.args.k u.id c.in-Some-get.first u.role
+    c.args.definitions.now (c.in-Some.ensures G f) a (sym c.get.ensures ∙ c.in-Some-get.is)
     (λ b o. c.if-is_in_order.ensures is bound n s d b o)

@@ -29,7 +29,8 @@ returns-in-Some c = λ G p.
     let i = plain_inst c.index-insts-at.result in
     let t = broken_there b.0 bound c.args.insts.now D4 n c.index-insts-at.result b.2.broken c.index-insts-at.is in
     disordered_shows G bound is n i c.loop-k.k c.in-Some.first t (ordered b.0 bound is D4 n refl b.2.broken)
-    (c.in-Some.ensures G bound is n (p.fits n i t) (c.site_of-site.ensures G is p t) c.in_ok-definitions.ensures c.in_ok-announced.ensures)
+    (c.in-Some.ensures G bound is n (p.fits n i t)
+    (c.site_of-site.ensures G is p t) c.in_ok-definitions.ensures c.in_ok-announced.ensures)
 
 pub loop-k-preserved : goal.loop-k-preserved
 loop-k-preserved c = λ G p.
@@ -40,7 +41,8 @@ loop-k-preserved c = λ G p.
     let i = plain_inst c.index-insts-at.result in
     let t = broken_there b.0 bound c.args.insts.now D4 n c.index-insts-at.result b.2.broken c.index-insts-at.is in
     below_more _ _ (c.loop-k.invariant G p)
-    (c.in_default.ensures G bound is n (p.fits n i t) (c.site_of-site.ensures G is p t) c.in_ok-definitions.ensures c.in_ok-announced.ensures)
+    (c.in_default.ensures G bound is n (p.fits n i t)
+    (c.site_of-site.ensures G is p t) c.in_ok-definitions.ensures c.in_ok-announced.ensures)
 
 pub unreachable-requires : goal.unreachable-requires
 unreachable-requires c =

@@ -13,19 +13,23 @@ pub returns-then-plays : goal.returns-then-plays
 returns-then-plays c = λ G n f t.
     let is = c.args.definitions.now in
     let u = c.in-Some.used in
-    not_such G (plain_inst c.args.inst.now) (IsMiscast is) c.args.k u.id u.role (c.in-Some.ensures G f) (λ m. m.not (c.plays.ensures.0 c.if-plays.true))
+    not_such G (plain_inst c.args.inst.now) (IsMiscast is) c.args.k u.id u.role (c.in-Some.ensures G f)
+    (λ m. m.not (c.plays.ensures.0 c.if-plays.true))
 
 pub returns-in-Some-definition : goal.returns-in-Some-definition
 returns-in-Some-definition c = λ G n f t.
     let is = c.args.definitions.now in
     let u = c.in-Some.used in
     let m = c.in-Some-definition.definition in
-    let d = subst (λ o. IsDefinitionOf is u.id o) (sym c.definition.ensures ∙ c.in-Some-definition.is) (c.requires.ids u.id) in
-    miscast G is n (plain_inst c.args.inst.now) c.args.k u.id m u.role c.plays.result t (c.in-Some.ensures G f) c.plays.ensures.1 c.if-plays.false d
+    let d = subst (λ o. IsDefinitionOf is u.id o) (sym c.definition.ensures ∙ c.in-Some-definition.is)
+    (c.requires.ids u.id) in
+    miscast G is n (plain_inst c.args.inst.now) c.args.k u.id m u.role c.plays.result t
+    (c.in-Some.ensures G f) c.plays.ensures.1 c.if-plays.false d
 
 pub returns-in-None : goal.returns-in-None
 returns-in-None c = λ G n f t.
     let is = c.args.definitions.now in
     let u = c.in-Some.used in
     let d = subst (λ o. IsDefinitionOf is u.id o) (sym c.definition.ensures ∙ c.in-None.is) (c.requires.ids u.id) in
-    not_such G (plain_inst c.args.inst.now) (IsMiscast is) c.args.k u.id u.role (c.in-Some.ensures G f) (λ m. d m.definition m.defined)
+    not_such G (plain_inst c.args.inst.now) (IsMiscast is) c.args.k u.id u.role (c.in-Some.ensures G f)
+    (λ m. d m.definition m.defined)

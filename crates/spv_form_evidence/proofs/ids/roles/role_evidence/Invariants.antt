@@ -7,4 +7,5 @@ use Rattle.spv_form_evidence.specs.ids.inner.Casts.{IsMiscast}
 use Rattle.spv_form_evidence.proofs.ids.roles.role_evidence.Given as goal
 
 abbrev pub invariant-loop-k : goal.invariant-loop-k
-invariant-loop-k l = (G : Table) → FitsShape G (plain_inst l.there) → (k : ℕ) → k < l.k → ¬ (HasUse G (plain_inst l.there) (IsMiscast (plain_insts l.module)) k)
+invariant-loop-k l = (G : Table) → FitsShape G (plain_inst l.there) → (k : ℕ) → k < l.k
+    → ¬ (HasUse G (plain_inst l.there) (IsMiscast (plain_insts l.module)) k)

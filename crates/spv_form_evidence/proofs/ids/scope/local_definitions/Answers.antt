@@ -8,7 +8,8 @@ use Rattle.spv_form_evidence.proofs.ids.scope.local_definitions.Goals as goal
 pub loop-i-preserved : goal.loop-i-preserved
 loop-i-preserved c =
     let t = inst_there c.args.insts.now c.loop-i.i c.index-insts-i.result c.loop-i-test.true c.index-insts-i.is in
-    c.in_ok-keep_local.ensures c.requires.plan.0 (map plain_inst c.args.insts.now) c.args.bound c.requires.plan.1 t c.loop-i.invariant
+    c.in_ok-keep_local.ensures c.requires.plan.0
+    (map plain_inst c.args.insts.now) c.args.bound c.requires.plan.1 t c.loop-i.invariant
 
 pub returns : goal.returns
 returns c =

@@ -21,7 +21,8 @@ returns-in-Some c = λ G p.
     let is = map plain_inst c.args.insts.now in
     let i = plain_inst c.index-insts-at.result in
     let t = broken_there b.0 bound c.args.insts.now D5 n c.index-insts-at.result b.2.broken c.index-insts-at.is in
-    unscoped_shows G bound is n i c.loop-k.k c.in-Some.definition.inst c.in-Some.definition.function t (scoped b.0 bound is D5 n refl b.2.broken)
+    unscoped_shows G bound is n i c.loop-k.k c.in-Some.definition.inst c.in-Some.definition.function t
+    (scoped b.0 bound is D5 n refl b.2.broken)
     (c.in-Some.ensures G bound is n p (p.fits n i t) (c.function_of-here.ensures G is p) c.in_ok-local.ensures)
 
 pub loop-k-preserved : goal.loop-k-preserved

@@ -13,7 +13,8 @@ pub returns-in_default-get : goal.returns-in_default-get
 returns-in_default-get c = λ G bound is n p f o a m g.
     let u = c.in-Some.used in
     not_such G (plain_inst c.args.inst.now) (IsUnscoped bound is n m g) c.args.k u.id u.role (c.in-Some.ensures G f)
-    (λ h. not_local bound is c.args.here u.id m g c.args.local.now a h.below (sym c.get.ensures ∙ c.in_default-get.is) h.local)
+    (λ h. not_local bound is c.args.here u.id m g c.args.local.now a h.below
+    (sym c.get.ensures ∙ c.in_default-get.is) h.local)
 
 pub returns-in_default-home : goal.returns-in_default-home
 returns-in_default-home c = λ G bound is n p f o a m g h.
@@ -40,5 +41,7 @@ returns-else-is_here c = λ G bound is n p f o a.
     let e : kept c.args.local.now u.id ≡ Some d = sym c.get.ensures ∙ c.in-Some-get.is in
     let q = local_one bound is c.args.here (length is) u.id d c.args.local.now a e in
     let h = c.in-Some-home.ensures G is u.id p q.there in
-    unscoped_here G bound is c.args.here n (plain_inst c.args.inst.now) c.args.k u.id d c.in-Some-home.function u.role c.args.local.now (c.in-Some.ensures G f) o a e h
+    unscoped_here G bound is c.args.here n
+    (plain_inst c.args.inst.now) c.args.k u.id d c.in-Some-home.function u.role c.args.local.now
+    (c.in-Some.ensures G f) o a e h
     (λ r. let z = c.is_here.ensures.1 r in let s = c.if-is_here.false in cc)

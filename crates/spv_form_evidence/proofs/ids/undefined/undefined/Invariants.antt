@@ -7,4 +7,5 @@ use Rattle.spv_form_evidence.specs.ids.inner.Undefined.{IsUndefined}
 use Rattle.spv_form_evidence.proofs.ids.undefined.undefined.Given as goal
 
 abbrev pub invariant-loop-k : goal.invariant-loop-k
-invariant-loop-k l = (G : Table) → FitsShape G (plain_inst l.inst) → (k : ℕ) → k < l.k → ¬ (HasNamed G (plain_inst l.inst) (IsUndefined l.bound (map plain_inst l.insts)) k)
+invariant-loop-k l = (G : Table) → FitsShape G (plain_inst l.inst) → (k : ℕ) → k < l.k
+    → ¬ (HasNamed G (plain_inst l.inst) (IsUndefined l.bound (map plain_inst l.insts)) k)

@@ -3,7 +3,8 @@ use Rattle.spv_table.specs.Table.{pattern_of}
 use Rattle.spv_module.specs.Module.{plain_operands}
 use Rattle.spv_inst.specs.inner.Pending.{plain_slot}
 use Rattle.spv_inst.proofs.Turns.{plain-push}
-use Rattle.spv_form_evidence.proofs.lemmas.words.Walking.{way_first, way_settled, way_opened, way_taken, way_refused, way_left}
+use Rattle.spv_form_evidence.proofs.lemmas.words.Walking.{way_first, way_settled, way_opened, way_taken, way_refused}
+use Rattle.spv_form_evidence.proofs.lemmas.words.Walking.{way_left}
 use Rattle.spv_form_evidence.proofs.lemmas.words.Walking.{way_end}
 use Rattle.spv_form_evidence.proofs.words.operands.failed_operand.Goals as goal
 

@@ -16,10 +16,12 @@ is_extended_sound-requires-clause-floor c = λ l.
     let n = c.args.inst in
     let t = inst_of s n c.index-self-inst.result c.requires.survey c.requires.below in
     let i = plain_inst (get_or s.insts.now n c.index-self-inst.result) in
-    goes_on (insts_of s) n c.args.floor i t (other i.opcode opcode.FUNCTION c.if-there-eq-EXT_INST.true (omega arith)) (c.requires.open l)
+    goes_on (insts_of s) n c.args.floor i t (other i.opcode opcode.FUNCTION c.if-there-eq-EXT_INST.true (omega arith))
+    (c.requires.open l)
 
 pub is_extended_sound-requires-clause-there : goal.is_extended_sound-requires-clause-there
-is_extended_sound-requires-clause-there c = inst_of c.args.self.now c.args.inst c.index-self-inst.result c.requires.survey c.requires.below
+is_extended_sound-requires-clause-there c =
+    inst_of c.args.self.now c.args.inst c.index-self-inst.result c.requires.survey c.requires.below
 
 pub returns-then-is_extended_sound-clause-clean : goal.returns-then-is_extended_sound-clause-clean
 returns-then-is_extended_sound-clause-clean c = c.is_extended_sound.ensures c.if-is_extended_sound.true
@@ -30,7 +32,8 @@ returns-then-is_extended_sound-clause-silent c =
     let n = c.args.inst in
     let t = inst_of s n c.index-self-inst.result c.requires.survey c.requires.below in
     let i = plain_inst (get_or s.insts.now n c.index-self-inst.result) in
-    not_announced (insts_of s) n i t (other i.opcode opcode.TYPE_FORWARD_POINTER c.if-there-eq-EXT_INST.true (omega arith))
+    not_announced (insts_of s) n i t (other i.opcode opcode.TYPE_FORWARD_POINTER c.if-there-eq-EXT_INST.true
+    (omega arith))
 
 pub returns-then-is_extended_sound-clause-open : goal.returns-then-is_extended_sound-clause-open
 returns-then-is_extended_sound-clause-open c = λ l.
@@ -39,34 +42,43 @@ returns-then-is_extended_sound-clause-open c = λ l.
     let i = plain_inst (get_or s.insts.now n c.index-self-inst.result) in
     let t = inst_of s n c.index-self-inst.result c.requires.survey c.requires.below in
     let e = c.if-there-eq-EXT_INST.true in
-    stays_open (insts_of s) n c.args.floor i t (other i.opcode opcode.FUNCTION_END e (omega arith)) (goes_on (insts_of s) n c.args.floor i t (other i.opcode opcode.FUNCTION e (omega arith)) (c.requires.open l))
+    stays_open (insts_of s) n c.args.floor i t (other i.opcode opcode.FUNCTION_END e (omega arith))
+    (goes_on (insts_of s) n c.args.floor i t (other i.opcode opcode.FUNCTION e (omega arith)) (c.requires.open l))
 
 pub are_ordinary_sound-requires-clause-floor : goal.are_ordinary_sound-requires-clause-floor
 are_ordinary_sound-requires-clause-floor c = λ l.
     let s = c.args.self.now in
     let n = c.args.inst in
     let t = inst_of s n c.index-self-inst.result c.requires.survey c.requires.below in
-    goes_on (insts_of s) n c.args.floor (plain_inst (get_or s.insts.now n c.index-self-inst.result)) t (c.is_ordinary.ensures.begins c.if-is_ordinary.true) (c.requires.open l)
+    goes_on (insts_of s) n c.args.floor (plain_inst (get_or s.insts.now n c.index-self-inst.result)) t
+    (c.is_ordinary.ensures.begins c.if-is_ordinary.true) (c.requires.open l)
 
 pub are_ordinary_sound-requires-clause-operands : goal.are_ordinary_sound-requires-clause-operands
 are_ordinary_sound-requires-clause-operands c =
     let s = c.args.self.now in
     let n = c.args.inst in
-    record { inst = plain_inst (get_or s.insts.now n c.index-self-inst.result); there = inst_of s n c.index-self-inst.result c.requires.survey c.requires.below; same = c.seen.ensures }
+    record {
+      inst = plain_inst (get_or s.insts.now n c.index-self-inst.result);
+      there = inst_of s n c.index-self-inst.result c.requires.survey c.requires.below;
+      same = c.seen.ensures;
+    }
 
 pub returns-then-are_ordinary_sound-clause-clean : goal.returns-then-are_ordinary_sound-clause-clean
 returns-then-are_ordinary_sound-clause-clean c =
     let s = c.args.self.now in
     let n = c.args.inst in
     let t = inst_of s n c.index-self-inst.result c.requires.survey c.requires.below in
-    clean_at s n (plain_inst (get_or s.insts.now n c.index-self-inst.result)) c.seen.result.now c.requires.survey c.requires.below t c.if-there-eq-EXT_INST.false c.seen.ensures (c.are_ordinary_sound.ensures c.if-are_ordinary_sound.true)
+    clean_at s n (plain_inst (get_or s.insts.now n c.index-self-inst.result)) c.seen.result.now c.requires.survey
+    c.requires.below t c.if-there-eq-EXT_INST.false c.seen.ensures
+    (c.are_ordinary_sound.ensures c.if-are_ordinary_sound.true)
 
 pub returns-then-are_ordinary_sound-clause-silent : goal.returns-then-are_ordinary_sound-clause-silent
 returns-then-are_ordinary_sound-clause-silent c =
     let s = c.args.self.now in
     let n = c.args.inst in
     let t = inst_of s n c.index-self-inst.result c.requires.survey c.requires.below in
-    not_announced (insts_of s) n (plain_inst (get_or s.insts.now n c.index-self-inst.result)) t (c.is_ordinary.ensures.announces c.if-is_ordinary.true)
+    not_announced (insts_of s) n (plain_inst (get_or s.insts.now n c.index-self-inst.result)) t
+    (c.is_ordinary.ensures.announces c.if-is_ordinary.true)
 
 pub returns-then-are_ordinary_sound-clause-open : goal.returns-then-are_ordinary_sound-clause-open
 returns-then-are_ordinary_sound-clause-open c = λ l.
@@ -75,32 +87,40 @@ returns-then-are_ordinary_sound-clause-open c = λ l.
     let i = plain_inst (get_or s.insts.now n c.index-self-inst.result) in
     let t = inst_of s n c.index-self-inst.result c.requires.survey c.requires.below in
     let g = c.if-is_ordinary.true in
-    stays_open (insts_of s) n c.args.floor i t (c.is_ordinary.ensures.ends g) (goes_on (insts_of s) n c.args.floor i t (c.is_ordinary.ensures.begins g) (c.requires.open l))
+    stays_open (insts_of s) n c.args.floor i t (c.is_ordinary.ensures.ends g)
+    (goes_on (insts_of s) n c.args.floor i t (c.is_ordinary.ensures.begins g) (c.requires.open l))
 
 pub are_sound-requires-clause-floor : goal.are_sound-requires-clause-floor
 are_sound-requires-clause-floor c =
     let s = c.args.self.now in
-    c.entered-here.ensures (insts_of s) (inst_of s c.args.inst c.index-self-inst.result c.requires.survey c.requires.below) c.requires.open
+    c.entered-here.ensures (insts_of s) (inst_of s c.args.inst c.index-self-inst.result c.requires.survey
+    c.requires.below) c.requires.open
 
 pub are_sound-requires-clause-operands : goal.are_sound-requires-clause-operands
 are_sound-requires-clause-operands c =
     let s = c.args.self.now in
     let n = c.args.inst in
-    record { inst = plain_inst (get_or s.insts.now n c.index-self-inst.result); there = inst_of s n c.index-self-inst.result c.requires.survey c.requires.below; same = c.seen-2.ensures }
+    record {
+      inst = plain_inst (get_or s.insts.now n c.index-self-inst.result);
+      there = inst_of s n c.index-self-inst.result c.requires.survey c.requires.below;
+      same = c.seen-2.ensures;
+    }
 
 pub returns-then-are_sound-clause-clean : goal.returns-then-are_sound-clause-clean
 returns-then-are_sound-clause-clean c =
     let s = c.args.self.now in
     let n = c.args.inst in
     let t = inst_of s n c.index-self-inst.result c.requires.survey c.requires.below in
-    clean_at s n (plain_inst (get_or s.insts.now n c.index-self-inst.result)) c.seen-2.result.now c.requires.survey c.requires.below t c.if-there-eq-EXT_INST.false c.seen-2.ensures (c.are_sound.ensures c.if-are_sound.true)
+    clean_at s n (plain_inst (get_or s.insts.now n c.index-self-inst.result)) c.seen-2.result.now c.requires.survey
+    c.requires.below t c.if-there-eq-EXT_INST.false c.seen-2.ensures (c.are_sound.ensures c.if-are_sound.true)
 
 pub returns-then-are_sound-clause-silent : goal.returns-then-are_sound-clause-silent
 returns-then-are_sound-clause-silent c =
     let s = c.args.self.now in
     let n = c.args.inst in
     let t = inst_of s n c.index-self-inst.result c.requires.survey c.requires.below in
-    not_announced (insts_of s) n (plain_inst (get_or s.insts.now n c.index-self-inst.result)) t c.if-there-eq-TYPE_FORWARD_POINTER.false
+    not_announced (insts_of s) n (plain_inst (get_or s.insts.now n c.index-self-inst.result)) t
+    c.if-there-eq-TYPE_FORWARD_POINTER.false
 
 pub returns-then-are_sound-clause-open : goal.returns-then-are_sound-clause-open
 returns-then-are_sound-clause-open c =

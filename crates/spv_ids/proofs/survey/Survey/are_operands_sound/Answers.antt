@@ -13,9 +13,11 @@ loop-operand-preserved c =
     let os = c.args.operands.now in
     let k = c.loop-operand.operand-index in
     let t = slice_get-get_or os k (code.OfType 0) c.loop-operand-test.true in
-    least_sound_operand c.args.self.now.bound (insts_of c.args.self.now) c.args.inst k os _ None c.requires.operands t (c.is_operand_sound.ensures c.if-not-is_operand_sound.false) c.loop-operand.invariant
+    least_sound_operand c.args.self.now.bound (insts_of c.args.self.now) c.args.inst k os _ None c.requires.operands t
+    (c.is_operand_sound.ensures c.if-not-is_operand_sound.false) c.loop-operand.invariant
 
 pub returns : goal.returns
 returns c = λ t.
     let e : c.loop-operand.operand-index ≡ length c.args.operands.now = omega arith in
-    least_operand_moved c.args.self.now.bound (insts_of c.args.self.now) c.args.inst c.loop-operand.operand-index (length c.args.operands.now) None e c.loop-operand.invariant
+    least_operand_moved c.args.self.now.bound (insts_of c.args.self.now) c.args.inst c.loop-operand.operand-index
+    (length c.args.operands.now) None e c.loop-operand.invariant

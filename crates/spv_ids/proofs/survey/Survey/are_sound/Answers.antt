@@ -21,11 +21,14 @@ loop-operand-preserved c =
     elim c.match-seen_id.branch [
       | in-Some+else-not-is_use_sound w ↦
           let u = sym c.seen_id.ensures ∙ w.in-Some.is in
-          least_sound b is n k w.in-Some.id os _ None a t u (w.is_use_sound.ensures w.if-not-is_use_sound.false) c.loop-operand.invariant
-      | in_default w ↦ least_no_use b is n k os _ None a t (sym c.seen_id.ensures ∙ w.in_default.is) c.loop-operand.invariant
+          least_sound b is n k w.in-Some.id os _ None a t u
+          (w.is_use_sound.ensures w.if-not-is_use_sound.false) c.loop-operand.invariant
+      | in_default w ↦ least_no_use b is n k os _ None a t
+          (sym c.seen_id.ensures ∙ w.in_default.is) c.loop-operand.invariant
     ]
 
 pub returns : goal.returns
 returns c = λ t.
     let e : c.loop-operand.operand-index ≡ length c.args.operands.now = omega arith in
-    least_moved c.args.self.now.bound (insts_of c.args.self.now) c.args.inst c.loop-operand.operand-index (length c.args.operands.now) None e c.loop-operand.invariant
+    least_moved c.args.self.now.bound (insts_of c.args.self.now) c.args.inst c.loop-operand.operand-index
+    (length c.args.operands.now) None e c.loop-operand.invariant

@@ -21,7 +21,8 @@ unreachable-requires c =
     let l : s.end < length s.insts.now = omega arith in
     let i = plain_inst (get_or s.insts.now s.end c.index-self-self.result) in
     let t = inst_at s.insts.now s.end c.index-self-self.result l in
-    let q = defined_result is s.end b.id i c.result_of.result t (c.result_of.ensures ∙ sym (c.requires.survey.places.early.result s.end i t)) b.there in
+    let q = defined_result is s.end b.id i c.result_of.result t
+    (c.result_of.ensures ∙ sym (c.requires.survey.places.early.result s.end i t)) b.there in
     let e = c.in_default.is in
     cc
 
@@ -35,10 +36,14 @@ returns-then-is_out_of_range-clause-broken c =
     let l : s.end < length s.insts.now = omega arith in
     let i = plain_inst (get_or s.insts.now s.end c.index-self-self.result) in
     let t = inst_at s.insts.now s.end c.index-self-self.result l in
-    IsFaulty.result_out_of_range c.in-Some.id (defined_here is s.end c.in-Some.id i t (sym c.in-Some.is ∙ c.result_of.ensures ∙ sym (c.requires.survey.places.early.result s.end i t))) (c.is_out_of_range.ensures.0 c.if-is_out_of_range.true)
+    IsFaulty.result_out_of_range c.in-Some.id
+    (defined_here is s.end c.in-Some.id i t
+    (sym c.in-Some.is ∙ c.result_of.ensures ∙ sym (c.requires.survey.places.early.result s.end i t)))
+    (c.is_out_of_range.ensures.0 c.if-is_out_of_range.true)
 
 pub returns-then-is_out_of_range-clause-least : goal.returns-then-is_out_of_range-clause-least
-returns-then-is_out_of_range-clause-least c = λ q f. least_end c.args.self.now.bound (insts_of c.args.self.now) c.args.self.now.end q f
+returns-then-is_out_of_range-clause-least c =
+    λ q f. least_end c.args.self.now.bound (insts_of c.args.self.now) c.args.self.now.end q f
 
 pub returns-then-has_out_of_range-clause-broken : goal.returns-then-has_out_of_range-clause-broken
 returns-then-has_out_of_range-clause-broken c =
@@ -53,10 +58,12 @@ returns-then-has_out_of_range-clause-broken c =
     let os = map plain_operand c.seen.result.now in
     let a : AreSeen is s.end os = record { inst = i; there = t; same = c.seen.ensures } in
     let k : length c.seen.result.now ≡ length os = sym (length-map c.seen.result.now plain_operand) in
-    IsFaulty.by_use (length c.seen.result.now) D1 (match_true _ _ c.has_out_of_range.result c.if-has_out_of_range.true (c.has_out_of_range.ensures is s.end a))
+    IsFaulty.by_use (length c.seen.result.now) D1
+    (match_true _ _ c.has_out_of_range.result c.if-has_out_of_range.true (c.has_out_of_range.ensures is s.end a))
 
 pub returns-then-has_out_of_range-clause-least : goal.returns-then-has_out_of_range-clause-least
-returns-then-has_out_of_range-clause-least c = λ q f. least_end c.args.self.now.bound (insts_of c.args.self.now) c.args.self.now.end q f
+returns-then-has_out_of_range-clause-least c =
+    λ q f. least_end c.args.self.now.bound (insts_of c.args.self.now) c.args.self.now.end q f
 
 pub returns-then-has_operand_out_of_range-clause-broken : goal.returns-then-has_operand_out_of_range-clause-broken
 returns-then-has_operand_out_of_range-clause-broken c =
@@ -68,11 +75,15 @@ returns-then-has_operand_out_of_range-clause-broken c =
     let l : s.end < length s.insts.now = omega arith in
     let i = plain_inst (get_or s.insts.now s.end c.index-self-self.result) in
     let t = inst_at s.insts.now s.end c.index-self-self.result l in
-    let a : AreBehind is s.end (map plain_operand c.behind.result.now) = record { inst = i; there = t; same = c.behind.ensures } in
-    IsFaulty.by_operand (length c.behind.result.now) D1 (match_true _ _ c.has_operand_out_of_range.result c.if-has_operand_out_of_range.true (c.has_operand_out_of_range.ensures is s.end a))
+    let a : AreBehind is s.end (map plain_operand c.behind.result.now) = record
+    { inst = i; there = t; same = c.behind.ensures } in
+    IsFaulty.by_operand (length c.behind.result.now) D1
+    (match_true _ _ c.has_operand_out_of_range.result c.if-has_operand_out_of_range.true
+    (c.has_operand_out_of_range.ensures is s.end a))
 
 pub returns-then-has_operand_out_of_range-clause-least : goal.returns-then-has_operand_out_of_range-clause-least
-returns-then-has_operand_out_of_range-clause-least c = λ q f. least_end c.args.self.now.bound (insts_of c.args.self.now) c.args.self.now.end q f
+returns-then-has_operand_out_of_range-clause-least c =
+    λ q f. least_end c.args.self.now.bound (insts_of c.args.self.now) c.args.self.now.end q f
 
 pub returns-clause-broken : goal.returns-clause-broken
 returns-clause-broken c =
@@ -84,9 +95,11 @@ returns-clause-broken c =
     let l : s.end < length s.insts.now = omega arith in
     let i = plain_inst (get_or s.insts.now s.end c.index-self-self.result) in
     let t = inst_at s.insts.now s.end c.index-self-self.result l in
-    let d = defined_here is s.end c.in-Some.id i t (sym c.in-Some.is ∙ c.result_of.ensures ∙ sym (c.requires.survey.places.early.result s.end i t)) in
+    let d = defined_here is s.end c.in-Some.id i t
+    (sym c.in-Some.is ∙ c.result_of.ensures ∙ sym (c.requires.survey.places.early.result s.end i t)) in
     let e = result_same is s.end b.id c.in-Some.id b.there d in
-    again_end s.bound is s.end b (λ o. false_true (sym c.if-is_out_of_range.false ∙ c.is_out_of_range.ensures.1 (rw e at o)))
+    again_end s.bound is s.end b (λ o. false_true
+    (sym c.if-is_out_of_range.false ∙ c.is_out_of_range.ensures.1 (rw e at o)))
 
 pub returns-clause-least : goal.returns-clause-least
 returns-clause-least c = λ q f.
@@ -101,9 +114,14 @@ returns-clause-least c = λ q f.
     let os = map plain_operand c.seen.result.now in
     let a : AreSeen is s.end os = record { inst = i; there = t; same = c.seen.ensures } in
     let k : length c.seen.result.now ≡ length os = sym (length-map c.seen.result.now plain_operand) in
-    let d = defined_here is s.end c.in-Some.id i t (sym c.in-Some.is ∙ c.result_of.ensures ∙ sym (c.requires.survey.places.early.result s.end i t)) in
-    let n = match_false _ _ c.has_out_of_range.result c.if-has_out_of_range.false (c.has_out_of_range.ensures is s.end a) in
-    let p : AreBehind is s.end (map plain_operand c.behind.result.now) = record { inst = i; there = t; same = c.behind.ensures } in
-    let z = match_false _ _ c.has_operand_out_of_range.result c.if-has_operand_out_of_range.false (c.has_operand_out_of_range.ensures is s.end p) in
-    least_again s.bound is s.end c.in-Some.id os c.behind.result.now q d (λ o. false_true (sym c.if-is_out_of_range.false ∙ c.is_out_of_range.ensures.1 o)) a
+    let d = defined_here is s.end c.in-Some.id i t
+    (sym c.in-Some.is ∙ c.result_of.ensures ∙ sym (c.requires.survey.places.early.result s.end i t)) in
+    let n = match_false _ _ c.has_out_of_range.result c.if-has_out_of_range.false
+    (c.has_out_of_range.ensures is s.end a) in
+    let p : AreBehind is s.end (map plain_operand c.behind.result.now) = record
+    { inst = i; there = t; same = c.behind.ensures } in
+    let z = match_false _ _ c.has_operand_out_of_range.result c.if-has_operand_out_of_range.false
+    (c.has_operand_out_of_range.ensures is s.end p) in
+    least_again s.bound is s.end c.in-Some.id os c.behind.result.now q d
+    (λ o. false_true (sym c.if-is_out_of_range.false ∙ c.is_out_of_range.ensures.1 o)) a
     (λ h. n (has_moved s.bound is s.end (length os) (length c.seen.result.now) D1 (sym k) h)) p z f

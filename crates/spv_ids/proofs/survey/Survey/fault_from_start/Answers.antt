@@ -9,13 +9,15 @@ use Rattle.std.proofs.lemmas.Grind.{common_steps}
 use Rattle.spv_ids.proofs.survey.Survey.fault_from_start.Goals as goal
 
 pub inst_fault-requires-clause-there : goal.inst_fault-requires-clause-there
-inst_fault-requires-clause-there c = inst_of c.args.self.now c.loop-passed.passed.to c.index-self-n.result c.requires.survey c.loop-passed-test.true
+inst_fault-requires-clause-there c =
+    inst_of c.args.self.now c.loop-passed.passed.to c.index-self-n.result c.requires.survey c.loop-passed-test.true
 
 pub returns-in-Some : goal.returns-in-Some
 returns-in-Some c =
     let s = c.args.self.now in
     let n = c.loop-passed.passed.to in
-    let h = least_is (IsFaulty s.bound (insts_of s) n) c.inst_fault.result (Some c.in-Some.rule) c.in-Some.is c.inst_fault.ensures in
+    let h = least_is (IsFaulty s.bound (insts_of s) n) c.inst_fault.result
+    (Some c.in-Some.rule) c.in-Some.is c.inst_fault.ensures in
     fault_here s.bound (insts_of s) n c.in-Some.rule c.loop-passed.invariant.clean h
 
 pub pass-passed-requires-in-loop-passed-clause-clean :
@@ -44,7 +46,8 @@ loop-passed-preserved c =
     record {
       within = p.within;
       clean = p.clean;
-      announced = p.announced c.announce.new.announced (c.in_ok-announce.ensures (insts_of s) t c.loop-passed.invariant.announced);
+      announced = p.announced c.announce.new.announced
+          (c.in_ok-announce.ensures (insts_of s) t c.loop-passed.invariant.announced);
       is_open = p.open;
     }
 

@@ -17,7 +17,8 @@ returns-then-is_out_of_range c = λ is n a.
     let k = c.loop-operand.operand-index in
     let t = slice_get-get_or os k (code.OfType 0) c.loop-operand-test.true in
     let u = sym c.seen_id.ensures ∙ c.in-Some.is in
-    bad_at c.args.self.now.bound is n k (length os) c.in-Some.id os _ D1 a t c.loop-operand-test.true u (IsBadUse.out_of_range (c.is_out_of_range.ensures.0 c.if-is_out_of_range.true))
+    bad_at c.args.self.now.bound is n k (length os) c.in-Some.id os _ D1 a t c.loop-operand-test.true u
+    (IsBadUse.out_of_range (c.is_out_of_range.ensures.0 c.if-is_out_of_range.true))
 
 pub loop-operand-preserved : goal.loop-operand-preserved
 loop-operand-preserved c = λ is n a.
@@ -26,11 +27,15 @@ loop-operand-preserved c = λ is n a.
     let t = slice_get-get_or os k (code.OfType 0) c.loop-operand-test.true in
     elim c.match-seen_id.branch [
       | in-Some+else-is_out_of_range w ↦
-          no_range c.args.self.now.bound is n k w.in-Some.id os _ a t (sym c.seen_id.ensures ∙ w.in-Some.is) (λ o. false_true (sym w.if-is_out_of_range.false ∙ w.is_out_of_range.ensures.1 o)) (c.loop-operand.invariant is n a)
-      | in_default w ↦ no_range_no_use c.args.self.now.bound is n k os _ a t (sym c.seen_id.ensures ∙ w.in_default.is) (c.loop-operand.invariant is n a)
+          no_range c.args.self.now.bound is n k w.in-Some.id os _ a t (sym c.seen_id.ensures ∙ w.in-Some.is)
+          (λ o. false_true (sym w.if-is_out_of_range.false ∙ w.is_out_of_range.ensures.1 o))
+          (c.loop-operand.invariant is n a)
+      | in_default w ↦ no_range_no_use c.args.self.now.bound is n k os _ a t (sym c.seen_id.ensures ∙ w.in_default.is)
+          (c.loop-operand.invariant is n a)
     ]
 
 pub returns : goal.returns
 returns c = λ is n a.
     let e : length c.args.operands.now ≡ c.loop-operand.operand-index = omega arith in
-    λ h. c.loop-operand.invariant is n a (has_moved c.args.self.now.bound is n (length c.args.operands.now) c.loop-operand.operand-index D1 e h)
+    λ h. c.loop-operand.invariant is n a (has_moved c.args.self.now.bound is n
+    (length c.args.operands.now) c.loop-operand.operand-index D1 e h)

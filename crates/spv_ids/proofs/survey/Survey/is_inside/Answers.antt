@@ -18,4 +18,5 @@ returns c = λ t.
     let l : n < length s.insts.now = omega arith in
     let z = c.if-floor-eq-NONE.false in
     let o = c.requires.floor (omega arith) in
-    unordered (insts_of s) n c.args.floor (plain_inst (get_or s.insts.now n c.index-self-inst.result)) (inst_at s.insts.now n c.index-self-inst.result l) (lt_tells 7 _ t) o
+    unordered (insts_of s) n c.args.floor (plain_inst (get_or s.insts.now n c.index-self-inst.result))
+    (inst_at s.insts.now n c.index-self-inst.result l) (lt_tells 7 _ t) o

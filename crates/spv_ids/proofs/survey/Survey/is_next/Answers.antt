@@ -24,4 +24,5 @@ returns c = λ x e t q b.
     let j = plain_inst (get_or s.insts.now d c.index-self-definition.result) in
     let t1 = inst_of s n c.index-self-inst.result v c.requires.below in
     let t2 = inst_of s d c.index-self-definition.result v y in
-    sound_next s n x d c.args.floor i j v c.if-definition-inst.false t1 t2 c.if-there-le-FUNCTION_END.false (lt_tells opcode.FUNCTION_END j.opcode t) o (e l) q b
+    sound_next s n x d c.args.floor i j v c.if-definition-inst.false t1 t2 c.if-there-le-FUNCTION_END.false
+    (lt_tells opcode.FUNCTION_END j.opcode t) o (e l) q b

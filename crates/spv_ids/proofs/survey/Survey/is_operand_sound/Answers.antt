@@ -4,4 +4,5 @@ use Rattle.spv_ids.proofs.Behind.{none_in_range}
 use Rattle.spv_ids.proofs.survey.Survey.is_operand_sound.Goals as goal
 
 pub returns : goal.returns
-returns c = λ t q b. none_in_range c.args.self.now.bound (insts_of c.args.self.now) c.args.inst _ q (sym c.id_behind.ensures ∙ c.in_default.is) b
+returns c = λ t q b. none_in_range c.args.self.now.bound (insts_of c.args.self.now) c.args.inst _ q
+    (sym c.id_behind.ensures ∙ c.in_default.is) b

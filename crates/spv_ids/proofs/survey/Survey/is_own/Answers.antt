@@ -13,7 +13,8 @@ returns-then-own-definition c = λ x e t y.
     let k = length-map s.insts.now plain_inst in
     let g = c.requires.whole in
     let a : length (insts_of s) ≤ s.end = omega arith in
-    absurd (sound_nowhere s x c.args.definition v e a (λ f. c.floor_of-own.ensures.home (insts_of s) f v.places c.if-own-definition.true) y)
+    absurd (sound_nowhere s x c.args.definition v e a
+    (λ f. c.floor_of-own.ensures.home (insts_of s) f v.places c.if-own-definition.true) y)
 
 pub returns : goal.returns
 returns c = λ x e t y.

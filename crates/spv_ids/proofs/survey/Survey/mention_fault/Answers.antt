@@ -18,7 +18,8 @@ returns-then-not-is_defined c =
     let e = sym c.is_defined.ensures ∙ c.if-not-is_defined.true in
     let e' = rw (c.get.ensures, c.get-2.ensures) at e in (
       IsBadMention.undefined (undefined_by s c.args.id c.requires.survey e'),
-      λ q b. mention_undefined s.bound (insts_of s) c.args.id q (λ h. false_true (sym c.if-is_out_of_range.false ∙ c.is_out_of_range.ensures.1 h)) b,
+      λ q b. mention_undefined s.bound (insts_of s) c.args.id q
+          (λ h. false_true (sym c.if-is_out_of_range.false ∙ c.is_out_of_range.ensures.1 h)) b,
     )
 
 pub returns : goal.returns
@@ -27,4 +28,5 @@ returns c = λ q b.
     let e = sym c.is_defined.ensures ∙ c.if-not-is_defined.false in
     let e' = rw (c.get.ensures, c.get-2.ensures) at e in
     let d = defined_by s c.args.id c.requires.survey e' in
-    mention_sound s.bound (insts_of s) c.args.id d.place q (λ h. false_true (sym c.if-is_out_of_range.false ∙ c.is_out_of_range.ensures.1 h)) d.there b
+    mention_sound s.bound (insts_of s) c.args.id d.place q
+    (λ h. false_true (sym c.if-is_out_of_range.false ∙ c.is_out_of_range.ensures.1 h)) d.there b

@@ -14,7 +14,11 @@ returns-clause-site c =
     let p = v.places.place c.args.inst c.in-Some.place (sym c.at.ensures ∙ c.in-Some.is) in
     record {
       below = b;
-      opcode = record { inst = plain_inst c.index-self-inst.result; there = inst_there c.args.self.now.insts.now c.args.inst c.index-self-inst.result l c.index-self-inst.is; same = ap (λ i. i.opcode) c.index-self-inst.is };
+      opcode = record {
+        inst = plain_inst c.index-self-inst.result;
+        there = inst_there c.args.self.now.insts.now c.args.inst c.index-self-inst.result l c.index-self-inst.is;
+        same = ap (λ i. i.opcode) c.index-self-inst.is;
+      };
       section = p.section;
       function = p.function;
     }

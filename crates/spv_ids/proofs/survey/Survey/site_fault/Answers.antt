@@ -2,7 +2,8 @@ use Rattle.std.proofs.Common.{◌∙◌, sym}
 use Rattle.spv_ids.specs.inner.Faulty.{IsBadUse}
 use Rattle.spv_ids.specs.inner.Survey.{insts_of}
 use Rattle.spv_ids.proofs.Bools.{false_true, match_true, match_false}
-use Rattle.spv_ids.proofs.Scopes.{least_range, least_undefined, least_order, least_scope, undefined_by, defined_by, no_bad}
+use Rattle.spv_ids.proofs.Scopes.{least_range, least_undefined, least_order, least_scope, undefined_by, defined_by}
+use Rattle.spv_ids.proofs.Scopes.{no_bad}
 use Rattle.spv_ids.proofs.survey.Survey.site_fault.Goals as goal
 
 pub returns-then-is_out_of_range : goal.returns-then-is_out_of_range
@@ -17,7 +18,8 @@ returns-then-not-is_defined c =
     let e = sym c.is_defined.ensures ∙ c.if-not-is_defined.true in
     let e' = rw (c.requires.first, c.get.ensures) at e in (
       IsBadUse.undefined (undefined_by s c.args.id c.requires.survey e'),
-      λ q b. least_undefined s.bound (insts_of s) c.args.site.now.inst c.args.id q (λ h. false_true (sym c.if-is_out_of_range.false ∙ c.is_out_of_range.ensures.1 h)) b,
+      λ q b. least_undefined s.bound (insts_of s) c.args.site.now.inst c.args.id q
+          (λ h. false_true (sym c.if-is_out_of_range.false ∙ c.is_out_of_range.ensures.1 h)) b,
     )
 
 pub returns-then-not-is_in_order : goal.returns-then-not-is_in_order
@@ -28,7 +30,8 @@ returns-then-not-is_in_order c =
     let d = defined_by s c.args.id c.requires.survey e' in
     let o = match_false _ _ c.is_in_order.result c.if-not-is_in_order.true c.is_in_order.ensures in (
       IsBadUse.not_in_order o.0 o.1,
-      λ q b. least_order s.bound (insts_of s) c.args.site.now.inst c.args.id d.place q (λ h. false_true (sym c.if-is_out_of_range.false ∙ c.is_out_of_range.ensures.1 h)) d.there b,
+      λ q b. least_order s.bound (insts_of s) c.args.site.now.inst c.args.id d.place q
+          (λ h. false_true (sym c.if-is_out_of_range.false ∙ c.is_out_of_range.ensures.1 h)) d.there b,
     )
 
 pub returns-then-not-is_in_scope : goal.returns-then-not-is_in_scope
@@ -40,7 +43,8 @@ returns-then-not-is_in_scope c =
     let o = match_true _ _ c.is_in_order.result c.if-not-is_in_order.false c.is_in_order.ensures in
     let p = match_false _ _ c.is_in_scope.result c.if-not-is_in_scope.true c.is_in_scope.ensures in (
       IsBadUse.not_in_scope p.0 p.1 p.2,
-      λ q b. least_scope s.bound (insts_of s) c.args.site.now.inst c.args.id d.place q (λ h. false_true (sym c.if-is_out_of_range.false ∙ c.is_out_of_range.ensures.1 h)) d.there o b,
+      λ q b. least_scope s.bound (insts_of s) c.args.site.now.inst c.args.id d.place q
+          (λ h. false_true (sym c.if-is_out_of_range.false ∙ c.is_out_of_range.ensures.1 h)) d.there o b,
     )
 
 pub returns : goal.returns
@@ -51,4 +55,5 @@ returns c = λ q b.
     let d = defined_by s c.args.id c.requires.survey e' in
     let o = match_true _ _ c.is_in_order.result c.if-not-is_in_order.false c.is_in_order.ensures in
     let p = match_true _ _ c.is_in_scope.result c.if-not-is_in_scope.false c.is_in_scope.ensures in
-    no_bad s.bound (insts_of s) c.args.site.now.inst c.args.id (λ h. false_true (sym c.if-is_out_of_range.false ∙ c.is_out_of_range.ensures.1 h)) d.place d.there o p q b
+    no_bad s.bound (insts_of s) c.args.site.now.inst c.args.id
+    (λ h. false_true (sym c.if-is_out_of_range.false ∙ c.is_out_of_range.ensures.1 h)) d.place d.there o p q b

@@ -6,4 +6,6 @@ pub site_fault-requires-clause-announced : goal.site_fault-requires-clause-annou
 site_fault-requires-clause-announced c = rw c.site-site.ensures.inst c.requires.announced
 
 pub returns : goal.returns
-returns c = least_use_at c.args.self.now.bound (insts_of c.args.self.now) c.site-site.result.inst c.args.inst c.args.id c.site_fault.result c.site-site.ensures.inst c.site_fault.ensures
+returns c = least_use_at c.args.self.now.bound
+    (insts_of c.args.self.now) c.site-site.result.inst c.args.inst c.args.id c.site_fault.result
+    c.site-site.ensures.inst c.site_fault.ensures

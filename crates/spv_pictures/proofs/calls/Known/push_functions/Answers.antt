@@ -9,4 +9,5 @@ pub loop-at-preserved : goal.loop-at-preserved
 loop-at-preserved c =
     let insts = c.args.self.now.insts.now in
     let r = rw take_rest at c.in_ok-push_first.ensures in
-    ap (λ z. string_bytes c.push_first.new.out ++ flat_map (function_text (map plain_inst insts)) (functions z)) (sym (left_one plain_inst insts c.loop-at.at)) ∙ (r ∙ c.loop-at.invariant)
+    ap (λ z. string_bytes c.push_first.new.out ++ flat_map (function_text (map plain_inst insts)) (functions z))
+    (sym (left_one plain_inst insts c.loop-at.at)) ∙ (r ∙ c.loop-at.invariant)

@@ -17,8 +17,10 @@ invariant-loop-number l = record {
   first : l.known.first ≡ first_id (plain_operands (take l.number l.operands));
   has_result : l.has_result ≡ is_some (result_in (plain_operands (take l.number l.operands)));
   shown : (before : List PlainInst) (r : Option ℕ) (us t : List ℕ) → KnowsFor l.fn.self.definitions before l.operands
-      → Written (Shown l.table) l.table r (start before l.opcode) (map due (items_of l.pattern)) (plain_operands l.operands) us t
-      → At (Shown l.table) l.table r before l.opcode l.operands (pending_due l.table l.self.pending) (string_bytes l.fn.out) (string_bytes l.out) t l.number;
+      → Written (Shown l.table) l.table r (start before l.opcode) (map due (items_of l.pattern))
+      (plain_operands l.operands) us t
+      → At (Shown l.table) l.table r before l.opcode l.operands (pending_due l.table l.self.pending)
+      (string_bytes l.fn.out) (string_bytes l.out) t l.number;
   ready : IsReady l.table l.self;
   same : l.self.definitions ≡ l.fn.self.definitions;
 }

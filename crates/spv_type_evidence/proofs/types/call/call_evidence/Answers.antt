@@ -9,8 +9,10 @@ unreachable-requires-in_default-call_difference c =
     let is = c.args.definitions.now in
     let i = plain_inst c.args.inst.now in
     let o = c.call_of-call.result in
-    let e : i.operands ≡ OfType o.result_type ∷ Result o.result ∷ Id o.callee ∷ plain_operands o.arguments.now = ap plain_operands (sym c.as_slice.ensures.value) ∙ c.call_of-call.ensures in
-    let one = found_call is i c.requires.shape o.result_type o.result o.callee (plain_operands o.arguments.now) (plain_inst c.in-Some.callee.now) e c.in-Some.ensures in
+    let e : i.operands ≡ OfType o.result_type ∷ Result o.result ∷ Id o.callee
+    ∷ plain_operands o.arguments.now = ap plain_operands (sym c.as_slice.ensures.value) ∙ c.call_of-call.ensures in
+    let one = found_call is i c.requires.shape o.result_type o.result o.callee (plain_operands o.arguments.now)
+    (plain_inst c.in-Some.callee.now) e c.in-Some.ensures in
     c.requires.broken (callable_sound is i one c.in_default-call_difference.ensures)
 
 pub returns : goal.returns
@@ -18,7 +20,10 @@ returns c = λ G n.
     let is = c.args.definitions.now in
     let i = plain_inst c.args.inst.now in
     let o = c.call_of-call.result in
-    let e : i.operands ≡ OfType o.result_type ∷ Result o.result ∷ Id o.callee ∷ plain_operands o.arguments.now = ap plain_operands (sym c.as_slice.ensures.value) ∙ c.call_of-call.ensures in
-    let one = found_call is i c.requires.shape o.result_type o.result o.callee (plain_operands o.arguments.now) (plain_inst c.in-Some.callee.now) e c.in-Some.ensures in
+    let e : i.operands ≡ OfType o.result_type ∷ Result o.result ∷ Id o.callee
+    ∷ plain_operands o.arguments.now = ap plain_operands (sym c.as_slice.ensures.value) ∙ c.call_of-call.ensures in
+    let one = found_call is i c.requires.shape o.result_type o.result o.callee (plain_operands o.arguments.now)
+    (plain_inst c.in-Some.callee.now) e c.in-Some.ensures in
     let d = c.in-Some-call_difference.difference in
-    rw (c.evidence.ensures, c.function_type.ensures) (call_shows G is n i one d.side d.wanted d.found c.requires.call c.in-Some-call_difference.ensures)
+    rw (c.evidence.ensures, c.function_type.ensures)
+    (call_shows G is n i one d.side d.wanted d.found c.requires.call c.in-Some-call_difference.ensures)

@@ -19,7 +19,8 @@ pub returns-then-found-wanted : goal.returns-then-found-wanted
 returns-then-found-wanted c = λ t x u taken there typed.
     let wanted = same_id _ _ t c.in-Some.ensures taken in
     let same = same_id _ _ x c.in-Some-id_at.ensures there in
-    let found : Some c.in-Some-type_of.found ≡ Some u = c.in-Some-type_of.ensures ∙ ap (type_of c.args.definitions.now) same ∙ typed in
+    let found : Some c.in-Some-type_of.found ≡ Some u = c.in-Some-type_of.ensures
+    ∙ ap (type_of c.args.definitions.now) same ∙ typed in
     let equal = c.if-found-wanted.true in
     cc
 

@@ -12,7 +12,8 @@ returns-then-are_alike c = λ G.
     let w = slice_get_within (map plain_inst xs) c.args.number i c.requires.there in
     let l = length-map xs plain_inst in
     let within : c.loop-m.m < length xs = let t = c.loop-m-test.true in omega arith in
-    alike_shows G xs c.args.number c.loop-m.m i c.index-insts-m.result c.are_alike.result c.loop-m-test.true within c.index-insts-m.is c.if-are_alike.true c.are_alike.ensures c.requires.broken
+    alike_shows G xs c.args.number c.loop-m.m i c.index-insts-m.result c.are_alike.result c.loop-m-test.true within
+    c.index-insts-m.is c.if-are_alike.true c.are_alike.ensures c.requires.broken
 
 pub loop-m-preserved : goal.loop-m-preserved
 loop-m-preserved c =
@@ -21,4 +22,5 @@ loop-m-preserved c =
     let w = slice_get_within (map plain_inst xs) c.args.number i c.requires.there in
     let l = length-map xs plain_inst in
     let within : c.loop-m.m < length xs = let t = c.loop-m-test.true in omega arith in
-    not_before xs c.loop-m.m i c.index-insts-m.result c.are_alike.result within c.index-insts-m.is c.if-are_alike.false c.are_alike.ensures c.loop-m.invariant
+    not_before xs c.loop-m.m i c.index-insts-m.result c.are_alike.result within c.index-insts-m.is c.if-are_alike.false
+    c.are_alike.ensures c.loop-m.invariant

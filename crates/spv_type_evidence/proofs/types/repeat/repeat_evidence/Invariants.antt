@@ -6,4 +6,5 @@ use Rattle.spv_type_rules.specs.inner.Repeat.{AreAlike}
 use Rattle.spv_type_evidence.proofs.types.repeat.repeat_evidence.Given as goal
 
 abbrev pub invariant-loop-m : goal.invariant-loop-m
-invariant-loop-m l = (k : ℕ) (j : PlainInst) → k < l.m → slice_get (map plain_inst l.insts) k ≡ Some j → ¬ (AreAlike (plain_inst l.inst) j)
+invariant-loop-m l = (k : ℕ) (j : PlainInst) → k < l.m → slice_get (map plain_inst l.insts) k ≡ Some j
+    → ¬ (AreAlike (plain_inst l.inst) j)

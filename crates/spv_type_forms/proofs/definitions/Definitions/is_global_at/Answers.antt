@@ -4,5 +4,6 @@ use Rattle.spv_type_forms.proofs.definitions.Definitions.is_global_at.Goals as g
 
 pub returns : goal.returns
 returns c = λ x one.
-    let d = global_told c.args.self.now x c.args.number (plain_inst c.inst.result.now) c.place.result one c.inst.ensures c.place.ensures in
+    let d = global_told c.args.self.now x c.args.number
+    (plain_inst c.inst.result.now) c.place.result one c.inst.ensures c.place.ensures in
     (λ y. d.0 (c.is_global_variable.ensures.0 y), λ r. c.is_global_variable.ensures.1 (d.1 r))

@@ -21,7 +21,9 @@ returns-then-place-meanings c =
     let k = length-map xs plain_inst in
     let w = c.requires.number in
     let l : n < length xs = omega (arith, v, k, w) in
-    let at = subst (λ j. slice_get is n ≡ Some (plain_inst j)) c.index-self-number.is (inst_there xs n r l c.index-self-number.is) in
-    let d = defined_by is x n (plain_inst i) (definition_in c.self.inside.ids.now x) (c.self.invariant.each x) at c.in-Some.ensures.0 in
+    let at = subst (λ j. slice_get is n ≡ Some (plain_inst j)) c.index-self-number.is
+    (inst_there xs n r l c.index-self-number.is) in
+    let d = defined_by is x n (plain_inst i) (definition_in c.self.inside.ids.now x)
+    (c.self.invariant.each x) at c.in-Some.ensures.0 in
     meant_set c.args.self.now c.args.meanings.now x m c.if-place-meanings.true c.requires.meanings
     (subst (λ js. IsMeant js x m) c.self.view_is (said_means is x (plain_inst i) m d c.in-Some.ensures.1))

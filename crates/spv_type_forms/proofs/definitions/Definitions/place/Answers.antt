@@ -4,4 +4,5 @@ use Rattle.spv_type_forms.proofs.definitions.Definitions.place.Goals as goal
 
 pub returns : goal.returns
 returns c =
-    subst (λ is. IsPlaceOf is c.args.number c.in-Some.place) c.self.view_is (c.self.invariant.place c.args.number c.in-Some.place (sym c.at.ensures ∙ c.in-Some.is))
+    subst (λ is. IsPlaceOf is c.args.number c.in-Some.place) c.self.view_is
+    (c.self.invariant.place c.args.number c.in-Some.place (sym c.at.ensures ∙ c.in-Some.is))

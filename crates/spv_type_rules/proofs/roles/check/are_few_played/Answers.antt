@@ -15,5 +15,6 @@ returns-in-OfType-2 c =
     let p2 : plain_operand (get_or c.args.operands.now 2 (code.OfType 0)) ≡ Id c.in-OfType-2.a = search rules in
     let p3 : is_mask (plain_operand (get_or c.args.operands.now 3 (code.OfType 0))) ≡ true = search rules in
     let p4 : is_word (plain_operand (get_or c.args.operands.now 4 (code.OfType 0))) ≡ true = search rules in
-    accessed_played c.args.definitions.now a.first a.others a.masked c.are_type_and-in-OfType-2.result os d c.in-OfType-2.t c.in-OfType-2.a c.in-OfType-2.len_at_least c.in-OfType-2.len_below
+    accessed_played c.args.definitions.now a.first a.others a.masked c.are_type_and-in-OfType-2.result os d
+    c.in-OfType-2.t c.in-OfType-2.a c.in-OfType-2.len_at_least c.in-OfType-2.len_below
     p0 p1 p2 p3 p4 c.are_type_and-in-OfType-2.ensures

@@ -6,7 +6,8 @@ use Rattle.spv_type_rules.proofs.roles.check.each_in_role.Goals as goal
 
 pub loop-k-preserved : goal.loop-k-preserved
 loop-k-preserved c = λ G f.
-    one_before G c.args.definitions.now (plain_inst c.args.inst.now) c.loop-k.k (c.if-not-is_in_role.ensures G f) (c.loop-k.invariant G f)
+    one_before G c.args.definitions.now (plain_inst c.args.inst.now) c.loop-k.k (c.if-not-is_in_role.ensures G f)
+    (c.loop-k.invariant G f)
 
 pub returns : goal.returns
 returns c = λ G f.

@@ -5,4 +5,5 @@ use Rattle.spv_type_rules.specs.roles.inner.Known.{AreInRoleBefore}
 use Rattle.spv_type_rules.proofs.roles.check.each_in_role.Given as goal
 
 abbrev pub invariant-loop-k : goal.invariant-loop-k
-invariant-loop-k l = (G : Table) → FitsShape G (plain_inst l.inst) → AreInRoleBefore G l.definitions (plain_inst l.inst) l.k
+invariant-loop-k l = (G : Table) → FitsShape G (plain_inst l.inst)
+    → AreInRoleBefore G l.definitions (plain_inst l.inst) l.k

@@ -53,7 +53,8 @@ loop-n-preserved c = λ G ps p.
     let same : c.args.definitions.now ≡ is = c.requires.definitions in
     let there = inst_there xs n c.index-insts-n.result c.loop-n-test.true c.index-insts-n.is in
     let at : slice_get is n ≡ Some i = rw (← v) there in
-    let a = subst (λ js. AreInRoleBefore G js i (length x.operands)) same (c.if-not-are_in_role.ensures G (p.fits n i at)) in
+    let a = subst (λ js. AreInRoleBefore G js i (length x.operands)) same
+    (c.if-not-are_in_role.ensures G (p.fits n i at)) in
     one_up_to G is n (length x.operands) i at (sym (length-map x.operands plain_operand)) a (c.loop-n.invariant G ps p)
 
 pub returns-clause-roles : goal.returns-clause-roles
@@ -70,4 +71,5 @@ returns-clause-unbroken c = λ G ps p.
     let l = length-map c.args.module.now.insts.items plain_inst in
     let a = c.loop-n.auto.n-end in
     let t = c.loop-n-test.false in
-    unbroken G (plain_insts c.args.module.now) (all_in_role G (plain_insts c.args.module.now) c.loop-n.n (omega arith) (c.loop-n.invariant G ps p))
+    unbroken G (plain_insts c.args.module.now)
+    (all_in_role G (plain_insts c.args.module.now) c.loop-n.n (omega arith) (c.loop-n.invariant G ps p))

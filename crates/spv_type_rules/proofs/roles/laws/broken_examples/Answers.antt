@@ -1,4 +1,5 @@
-use Rattle.spv_type_rules.proofs.lemmas.roles.Worked.{stray_broken, unused_unbroken, argument_broken, argument_unbroken, unseen_unbroken, mention_unbroken}
+use Rattle.spv_type_rules.proofs.lemmas.roles.Worked.{stray_broken, unused_unbroken, argument_broken, argument_unbroken}
+use Rattle.spv_type_rules.proofs.lemmas.roles.Worked.{unseen_unbroken, mention_unbroken}
 use Rattle.spv_type_rules.proofs.roles.laws.broken_examples.Goals as goal
 
 pub returns-clause-stray : goal.returns-clause-stray

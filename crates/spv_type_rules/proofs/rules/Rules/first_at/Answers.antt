@@ -9,38 +9,47 @@ use Rattle.spv_type_rules.proofs.rules.Rules.first_at.Goals as goal
 
 pub keeps_functions-requires-clause-parameters : goal.keeps_functions-requires-clause-parameters
 keeps_functions-requires-clause-parameters c = λ e f o.
-    counted_at c.args.self.now.definitions c.args.number c.args.known.parameters f (plain_inst c.args.inst.now) c.requires.inst e c.requires.parameters o
+    counted_at c.args.self.now.definitions c.args.number c.args.known.parameters f
+    (plain_inst c.args.inst.now) c.requires.inst e c.requires.parameters o
 
 pub returns-in-Constant : goal.returns-in-Constant
 returns-in-Constant c =
     let is = c.args.self.now.definitions in
     let n = c.args.number in
     let i = plain_inst c.args.inst.now in
-    subst (λ o. IsFirstHere is n i o) (sym c.unless.ensures) (told_y4 is n i c.is_sound_constant.result (sym c.concern_of.ensures ∙ c.in-Constant.is) c.is_sound_constant.ensures)
+    subst (λ o. IsFirstHere is n i o) (sym c.unless.ensures)
+    (told_y4 is n i c.is_sound_constant.result
+    (sym c.concern_of.ensures ∙ c.in-Constant.is) c.is_sound_constant.ensures)
 
 pub returns-in-Nothing : goal.returns-in-Nothing
-returns-in-Nothing c = told_nothing c.args.self.now.definitions c.args.number (plain_inst c.args.inst.now) (sym c.concern_of.ensures ∙ c.in-Nothing.is)
+returns-in-Nothing c =
+    told_nothing c.args.self.now.definitions c.args.number (plain_inst c.args.inst.now)
+    (sym c.concern_of.ensures ∙ c.in-Nothing.is)
 
 pub returns-in-Function : goal.returns-in-Function
 returns-in-Function c =
     let is = c.args.self.now.definitions in
     let n = c.args.number in
     let i = plain_inst c.args.inst.now in
-    subst (λ o. IsFirstHere is n i o) (sym c.unless-in-Function.ensures) (told_y6 is n i c.keeps_functions.result (sym c.concern_of.ensures ∙ c.in-Function.is) c.keeps_functions.ensures)
+    subst (λ o. IsFirstHere is n i o) (sym c.unless-in-Function.ensures)
+    (told_y6 is n i c.keeps_functions.result
+    (sym c.concern_of.ensures ∙ c.in-Function.is) c.keeps_functions.ensures)
 
 pub returns-in-Return : goal.returns-in-Return
 returns-in-Return c =
     let is = c.args.self.now.definitions in
     let n = c.args.number in
     let i = plain_inst c.args.inst.now in
-    subst (λ o. IsFirstHere is n i o) (sym c.unless-in-Return.ensures) (told_y7 is n i c.keeps_returns.result (sym c.concern_of.ensures ∙ c.in-Return.is) c.keeps_returns.ensures)
+    subst (λ o. IsFirstHere is n i o) (sym c.unless-in-Return.ensures)
+    (told_y7 is n i c.keeps_returns.result (sym c.concern_of.ensures ∙ c.in-Return.is) c.keeps_returns.ensures)
 
 pub returns-in-Call : goal.returns-in-Call
 returns-in-Call c =
     let is = c.args.self.now.definitions in
     let n = c.args.number in
     let i = plain_inst c.args.inst.now in
-    subst (λ o. IsFirstHere is n i o) (sym c.unless-in-Call.ensures) (told_y8 is n i c.keeps_calls.result (sym c.concern_of.ensures ∙ c.in-Call.is) c.keeps_calls.ensures)
+    subst (λ o. IsFirstHere is n i o) (sym c.unless-in-Call.ensures)
+    (told_y8 is n i c.keeps_calls.result (sym c.concern_of.ensures ∙ c.in-Call.is) c.keeps_calls.ensures)
 
 pub returns-else-known : goal.returns-else-known
 returns-else-known c =
@@ -48,4 +57,5 @@ returns-else-known c =
     let n = c.args.number in
     let i = plain_inst c.args.inst.now in
     let never = subst (λ b. IsTrue b ↔ Repeats is n i) c.if-known.false c.requires.repeats in
-    told_y3 is n i false (sym c.concern_of.ensures ∙ c.in-Declaration.is) (c.is_sound_declaration.ensures.0 c.if-not-is_sound_declaration.false) never
+    told_y3 is n i false (sym c.concern_of.ensures ∙ c.in-Declaration.is)
+    (c.is_sound_declaration.ensures.0 c.if-not-is_sound_declaration.false) never

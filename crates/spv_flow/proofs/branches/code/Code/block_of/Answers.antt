@@ -6,4 +6,5 @@ use Rattle.spv_flow.proofs.branches.code.Code.block_of.Goals as goal
 
 pub returns-clause-within : goal.returns-clause-within
 returns-clause-within c = λ G is lt.
-    block_within (insts_of c.args.self.now) c.args.inst (length c.args.self.now.insts.now) c.in-Some.place.block lt (is.plan.place c.args.inst c.in-Some.place (sym c.at.ensures ∙ c.in-Some.is)).block
+    block_within (insts_of c.args.self.now) c.args.inst (length c.args.self.now.insts.now) c.in-Some.place.block lt
+    (is.plan.place c.args.inst c.in-Some.place (sym c.at.ensures ∙ c.in-Some.is)).block

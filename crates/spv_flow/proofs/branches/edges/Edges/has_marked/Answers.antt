@@ -11,8 +11,10 @@ returns-then-marks-link c =
     let h = c.loop-head.head in
     let bound = c.loop-head.invariant.within in
     let lt : h - 1 < length links = omega arith in
-    let at : slice_get links (h - 1) ≡ Some c.index-link.result.now = slice_get_read links (length links) (h - 1) c.index-link.result.now refl lt c.index-link.ensures in
-    seeking_found links s.heads.items c.args.target c.args.marks.now h c.index-link.result.now (omega arith) at c.if-marks-link.true c.loop-head.invariant
+    let at : slice_get links (h - 1) ≡ Some c.index-link.result.now = slice_get_read links (length links)
+    (h - 1) c.index-link.result.now refl lt c.index-link.ensures in
+    seeking_found links s.heads.items c.args.target c.args.marks.now h c.index-link.result.now
+    (omega arith) at c.if-marks-link.true c.loop-head.invariant
 
 pub loop-head-smaller : goal.loop-head-smaller
 loop-head-smaller c =
@@ -21,7 +23,8 @@ loop-head-smaller c =
     let h = c.loop-head.head in
     let bound = c.loop-head.invariant.within in
     let lt : h - 1 < length links = omega arith in
-    let at : slice_get links (h - 1) ≡ Some c.index-link.result.now = slice_get_read links (length links) (h - 1) c.index-link.result.now refl lt c.index-link.ensures in
+    let at : slice_get links (h - 1) ≡ Some c.index-link.result.now = slice_get_read links (length links)
+    (h - 1) c.index-link.result.now refl lt c.index-link.ensures in
     let below = c.requires.edges.next (h - 1) c.index-link.result.now at in
     omega arith
 
@@ -32,5 +35,7 @@ loop-head-preserved c =
     let h = c.loop-head.head in
     let bound = c.loop-head.invariant.within in
     let lt : h - 1 < length links = omega arith in
-    let at : slice_get links (h - 1) ≡ Some c.index-link.result.now = slice_get_read links (length links) (h - 1) c.index-link.result.now refl lt c.index-link.ensures in
-    seeking_more links s.heads.items c.args.target c.args.marks.now h c.index-link.result.now c.requires.edges (omega arith) at c.if-marks-link.false c.loop-head.invariant
+    let at : slice_get links (h - 1) ≡ Some c.index-link.result.now = slice_get_read links (length links)
+    (h - 1) c.index-link.result.now refl lt c.index-link.ensures in
+    seeking_more links s.heads.items c.args.target c.args.marks.now h c.index-link.result.now c.requires.edges
+    (omega arith) at c.if-marks-link.false c.loop-head.invariant

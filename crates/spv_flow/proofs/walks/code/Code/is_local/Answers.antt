@@ -28,13 +28,17 @@ returns-then-function-place c = λ G x is at.
     let insts = code.insts.now in
     let i = plain_inst (get_or insts c.args.place c.index-self-place.result) in
     let there = inst_get insts c.args.place c.index-self-place.result c.requires in
-    let e = subst (λ (os : List Operand). c.has_type.result ≡ is_some (type_in (plain_operands os))) c.as_slice.ensures.value c.has_type.ensures in
+    let e = subst (λ (os : List Operand). c.has_type.result ≡ is_some (type_in (plain_operands os)))
+    c.as_slice.ensures.value c.has_type.ensures in
     by_type (is_some (type_in i.operands)) c.has_type.result (IsLocalValue (insts_of code) x) e
-    (λ typed. value_here G code x c.args.place c.in-Some.function i is at there (c.in-Some.ensures G is c.requires) c.if-function-place.true typed)
+    (λ typed. value_here G code x c.args.place c.in-Some.function i is at there
+    (c.in-Some.ensures G is c.requires) c.if-function-place.true typed)
     (λ v. value_typed G code x c.args.place i is at there v)
 
 pub returns-else-function-place : goal.returns-else-function-place
 returns-else-function-place c = λ G x is at.
     let code = c.args.self.now in
     let f = c.if-function-place.false in
-    by_order c.in-Some.function c.args.place (IsLocalValue (insts_of code) x) (omega (arith, f)) (value_not G code x c.args.place c.in-Some.function is at (c.in-Some.ensures G is c.requires) (omega (arith, f)))
+    by_order c.in-Some.function c.args.place (IsLocalValue (insts_of code) x) (omega (arith, f))
+    (value_not G code x c.args.place c.in-Some.function is at (c.in-Some.ensures G is c.requires)
+    (omega (arith, f)))

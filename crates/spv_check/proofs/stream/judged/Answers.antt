@@ -1,0 +1,12 @@
+use Rattle.spv_check.proofs.Checks.{fault_judged, valid_judged}
+use Rattle.spv_check.proofs.stream.judged.Goals as goal
+
+pub returns-in-Ok-Valid-clause-verdict : goal.returns-in-Ok-Valid-clause-verdict
+returns-in-Ok-Valid-clause-verdict c = λ bytes order h.
+    valid_judged c.args.table.now c.args.reach bytes c.args.image.now order c.in-Ok-Valid.field-0
+    c.in-Ok-Valid.field-0-0 c.in-Ok-Valid.field-0-is h c.in-Ok-Valid.ensures.verdict
+
+pub returns-in-Ok-Fault-clause-verdict : goal.returns-in-Ok-Fault-clause-verdict
+returns-in-Ok-Fault-clause-verdict c = λ bytes order h.
+    fault_judged c.args.table.now c.args.reach bytes c.args.image.now order c.in-Ok-Fault.field-0 c.in-Ok-Fault.fault
+    c.in-Ok-Fault.field-0-is h c.in-Ok-Fault.ensures.verdict

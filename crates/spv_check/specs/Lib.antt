@@ -1,0 +1,17 @@
+pub mod Answer
+pub mod Broken
+pub mod Checked
+pub mod Kernel
+pub mod Example
+pub mod Judged
+pub mod Program
+pub mod Reading
+pub mod Outcome
+pub mod Stream
+pub mod Text
+pub mod Valid
+pub mod Verdict
+pub mod types
+pub mod flow
+pub mod extended
+pub mod inner

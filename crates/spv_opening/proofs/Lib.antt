@@ -1,0 +1,11 @@
+pub mod Alike
+pub mod Spots
+pub mod Uses
+pub mod Ids
+pub mod Layouts
+pub mod Flow
+pub mod Calls
+pub mod Capable
+pub mod Types
+pub mod Conditions
+pub mod Rules

@@ -1,0 +1,15 @@
+pub mod Act
+pub mod At
+pub mod Head
+pub mod Row
+pub mod State
+pub mod Machine
+pub mod Run
+pub mod Definitions
+pub mod Sound
+pub mod Promise
+pub mod Trace
+pub mod Entry
+pub mod Example
+pub mod Tracing
+pub mod inner

@@ -1,0 +1,4 @@
+-- Definitions that serve the code alone.
+pub mod Bodies
+pub mod At
+pub mod Trace

@@ -1,0 +1,88 @@
+-- What breaks a rule of the profile breaks it where extended instructions are looked at, too.
+use Rattle.std.proofs.Common.{◌≡◌, ◌++◌, inl, inr, ℕ, List, [], ◌∷◌, refl, sym, subst, arith}
+use Rattle.std.specs.Prelude.{slice_index}
+use Rattle.spv_table.specs.Table.{Table}
+use Rattle.spv_module.specs.Operand.{Argument, Id, PlainInst}
+use Rattle.spv_module.specs.declared.fault.Rule.{Rule}
+use Rattle.spv_module.specs.declared.fault.Rule.TheVariants.{Y9}
+use Rattle.spv_extended.specs.declared.reach.Reach.TheVariants.{Profile, Extended}
+use Rattle.spv_extended.specs.Broken as extended
+use Rattle.spv_extended.specs.Example.{call, imports}
+use Rattle.spv_extended.specs.Facts.{facts_of}
+use Rattle.spv_extended.specs.Opened.{opened, opened_inst}
+use Rattle.spv_extended.specs.Sets.{set_in}
+use Rattle.spv_extended.proofs.Brokens.{of_reach}
+use Rattle.spv_layout.specs.First.{stage_of}
+use Rattle.spv_layout.specs.Stage as stages
+use Rattle.spv_check.proofs.Firsts.{calls_stage, flow_stage, ids_stage, layout_stage}
+use Rattle.spv_check.proofs.Miscalls.{not_asked}
+use Rattle.spv_check.proofs.Stages.{types_stage}
+use Rattle.spv_check.specs.Broken.{Broken}
+use Rattle.spv_check.specs.Valid.{IsValid}
+use Rattle.spv_check.specs.types.Broken as types
+use Rattle.spv_opening.proofs.Alike.{alike_opened}
+use Rattle.spv_opening.proofs.Calls.{calls_broken}
+use Rattle.spv_opening.proofs.Capable.{capabilities_kept}
+use Rattle.spv_opening.proofs.Flow.{flow_broken}
+use Rattle.spv_opening.proofs.Ids.{ids_broken}
+use Rattle.spv_opening.proofs.Layouts.{layout_broken}
+use Rattle.spv_opening.proofs.Rules.{roles_broken, rules_kept}
+use Rattle.spv_opening.proofs.Uses.{opened_at}
+
+types_broken : (G : Table) (is : List PlainInst) (r : Rule) (n : ℕ) → types.Broken G is r n
+    → types.Broken G (opened is) r n
+types_broken G is _ _ (types.of_roles r n b) = types.of_roles r n (roles_broken G (set_in is) is r n b)
+types_broken G is _ _ (types.of_capabilities r n i e never) =
+    let f = opened_inst (set_in is) in
+    types.of_capabilities r n (f i) (opened_at f is n i e) (λ k. never (capabilities_kept G (set_in is) is r n i k))
+types_broken G is _ _ (types.of_types r n i e never) =
+    let f = opened_inst (set_in is) in
+    types.of_types r n (f i) (opened_at f is n i e) (λ k. never (rules_kept G (set_in is) is r n i k))
+
+pub broken_too : (G : Table) (bound : ℕ) (is : List PlainInst) (r : Rule) (n : ℕ) → Broken G Profile bound is r n
+    → Broken G Extended bound (opened is) r n
+broken_too G bound is _ _ (Broken.of_layout r n b) = Broken.of_layout r n (layout_broken G (set_in is) is r n b)
+broken_too G bound is _ _ (Broken.of_ids r n b) = Broken.of_ids r n (ids_broken G bound (set_in is) is r n b)
+broken_too G bound is _ _ (Broken.of_types r n b) = Broken.of_types r n (types_broken G is r n b)
+broken_too G bound is _ _ (Broken.of_flow r n b) = Broken.of_flow r n (flow_broken G (set_in is) is r n b)
+broken_too G bound is _ _ (Broken.of_calls r n b) =
+    Broken.of_calls r n (calls_broken is (opened is) (alike_opened (set_in is) is) r n b)
+broken_too G bound is _ _ (Broken.of_extended r n b) = let e : Profile ≡ Extended = of_reach Profile is r n b in cc
+
+pub valid_too : (G : Table) (bytes : List ℕ) → IsValid G Extended bytes → IsValid G Profile bytes
+valid_too G bytes v = record {
+  words = v.words;
+  order = v.order;
+  is_module = v.is_module;
+  insts = v.reading.spelled;
+  reading = record { spelled = v.reading.spelled; listing = v.reading.listing; seen = refl };
+  sound = λ r n b. v.sound r n (subst (λ (is : List PlainInst). Broken G Extended (slice_index v.words 3) is r n)
+      (sym v.reading.seen) (broken_too G (slice_index v.words 3) v.reading.spelled r n b));
+}
+
+-- Y9 is of the stage that the profile does not ask.
+
+not_extended : (G : Table) (bound : ℕ) (is : List PlainInst) (r : Rule) (n : ℕ) → stage_of r ≡ stages.of_extended
+    → Broken G Profile bound is r n → ⊥
+not_extended G bound is _ _ s (Broken.of_layout r n b) =
+    elim (layout_stage G is r n b) [ inl e ↦ omega (arith, e, s) | inr e ↦ omega (arith, e, s) ]
+not_extended G bound is _ _ s (Broken.of_ids r n b) = let e = ids_stage G bound is r n b in omega (arith, e, s)
+not_extended G bound is _ _ s (Broken.of_types r n b) =
+    elim (types_stage G is r n b) [ inl e ↦ omega (arith, e, s) | inr e ↦ omega (arith, e, s) ]
+not_extended G bound is _ _ s (Broken.of_flow r n b) =
+    elim (flow_stage G is r n b) [ inl e ↦ omega (arith, e, s) | inr e ↦ omega (arith, e, s) ]
+not_extended G bound is _ _ s (Broken.of_calls r n b) = let e = calls_stage is r n b in omega (arith, e, s)
+not_extended G bound is _ _ s (Broken.of_extended r n b) = not_asked is r n b
+
+pub not_y9 : (G : Table) (bound : ℕ) (is : List PlainInst) (n : ℕ) → Broken G Profile bound is Y9 n → ⊥
+not_y9 G bound is n b = not_extended G bound is Y9 n refl b
+
+-- a call of OpenCL.std that has two operands, where three are taken
+abbrev pub short_call : List PlainInst
+short_call = imports ++ call 1 171 (Id 7 ∷ Id 8 ∷ []) ∷ []
+
+pub short_broken : (G : Table) (bound : ℕ) → Broken G Extended bound (opened short_call) Y9 2
+unfolding facts_of
+short_broken G bound =
+    Broken.of_extended Y9 2 (extended.miscalled 2 refl
+    (record { inst = call 1 171 (Argument 7 ∷ Argument 8 ∷ []); there = refl; missed = refl }))

@@ -1,6 +1,0 @@
-use Rattle.std.proofs.Common.{length}
-use Rattle.spv_verdict.proofs.Flowing.Counts.{one_count}
-use Rattle.spv_verdict.proofs.flow.laws.one_count.Goals as goal
-
-pub returns : goal.returns
-returns c = λ is m n h k. one_count is (length is) m n h k

@@ -1,5 +1,0 @@
-use Rattle.spv_verdict.proofs.Runs.{sound_run}
-use Rattle.spv_verdict.proofs.laws.never_stuck.Goals as goal
-
-pub returns : goal.returns
-returns c = λ G p k g entry choices. c.run_never_gets_stuck.ensures G p.bound p.insts (sound_run G p k) g entry choices

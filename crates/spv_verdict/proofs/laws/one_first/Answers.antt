@@ -1,5 +1,0 @@
-use Rattle.spv_verdict.proofs.Firsts.{one_first}
-use Rattle.spv_verdict.proofs.laws.one_first.Goals as goal
-
-pub returns : goal.returns
-returns c = λ G reach bound is q r m n f g. let s = one_first G reach bound is q r m n f g in (s.rule, s.inst)

@@ -1,6 +1,0 @@
-use Rattle.spv_verdict.proofs.Running.Sound.{checked}
-use Rattle.spv_verdict.proofs.Running.Once.{one_outcome}
-use Rattle.spv_verdict.proofs.run.laws.one_outcome.Goals as goal
-
-pub returns : goal.returns
-returns c = λ G H bound is sound s o p d e. let ok = checked G bound is sound in one_outcome G H is ok.fits ok.laying ok.layout ok.once s o p d e

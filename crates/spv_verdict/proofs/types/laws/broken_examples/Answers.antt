@@ -1,8 +1,0 @@
-use Rattle.spv_verdict.proofs.Typing.Worked.{logical_broken, physical_unbroken}
-use Rattle.spv_verdict.proofs.types.laws.broken_examples.Goals as goal
-
-pub returns-clause-logical : goal.returns-clause-logical
-returns-clause-logical c = logical_broken
-
-pub returns-clause-physical : goal.returns-clause-physical
-returns-clause-physical c = physical_unbroken
