@@ -70,7 +70,9 @@ def standing(text):
 def whose(told, whole):
     """The operands that are of a type."""
     found = standing(whole["at"]["text"])
-    return "".join(f", of operand {it} {found[it]}" for it in told.get("operands", ()))
+    operands = told.get("operands", ())
+    more = f", and {len(operands) - 8} more" if len(operands) > 8 else ""
+    return "".join(f", of operand {it} {found[it]}" for it in operands[:8]) + more
 
 
 def typed(key):

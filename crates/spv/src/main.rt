@@ -10,9 +10,11 @@ mod writing;
 
 use files::{STANDARD, is_same_file, make_if_absent, module_bytes, open, open_file, text_bytes};
 use several::{judge_several, judging_of};
-use spv_commands::{Command, Trouble, Unread, UseError, answer, arguments_in, is_verbose, report};
+use spv_commands::{
+    Command, Trouble, Unread, UseError, answer, arguments_in, is_verbose, refusal_help, report,
+};
 use spv_words::FromWrite;
-use std::io::IsTerminal;
+use std::io::{IsTerminal, Write};
 use std::process::ExitCode;
 use why::{AtHand, Why};
 use words::{
@@ -95,6 +97,19 @@ fn kept_of(
     }
 }
 
+/// What helps where the file of a command is no module: nothing where nothing is told, or memory is short.
+fn help_of(
+    rt: &HostRuntime,
+    why: &Why<'_>,
+    command: &Command<'_>,
+    file: &Result<Vec<u8>, Unread>,
+) -> Option<String> {
+    match file {
+        Ok(bytes) if why.is_told() => refusal_help(rt.alloc(), command, bytes).ok(),
+        _ => None,
+    }
+}
+
 /// The name of the text that a command reads, if it reads one.
 fn text_of<'a>(command: &Command<'a>) -> Option<&'a str> {
     match command {
@@ -121,6 +136,7 @@ fn answer_one<'a>(
 ) -> Result<u8, Trouble> {
     let file = file_of(rt, why, command)?;
     let kept = kept_of(rt, why, command, &file);
+    let help = help_of(rt, why, command, &file);
     let at_hand = AtHand {
         text: text_of(command),
         grammar,
@@ -137,6 +153,9 @@ fn answer_one<'a>(
         Ok(status) => status,
         Err(trouble) => report_why(rt, why, trouble, at_hand),
     };
+    if let (1, Some(help)) = (status, help) {
+        let _ = rt.stderr().write_all(help.as_bytes());
+    }
     leave_made(rt, why, command, status);
     Ok(status)
 }

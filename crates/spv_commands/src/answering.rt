@@ -8,7 +8,7 @@ ghost use Rattle.spv_check.specs.Stream.{TellsVerdict};
 ghost use Rattle.spv_check.specs.Text.{line_of};
 ghost use Rattle.spv_check.specs.Verdict.{IsVerdict, valid_line};
 ghost use Rattle.spv_explain.specs.Stream.{Explains, IsExplanation};
-ghost use Rattle.spv_views.specs.View.{LacksFunction, Views};
+ghost use Rattle.spv_views.specs.View.{LacksFunction, NamesSeveral, Views};
 ghost use Rattle.spv_command_line.specs.declared.command_line.Command.{Command};
 ghost use Rattle.spv_commands.specs.Answer.{Answers, IsRefusal};
 ghost use Rattle.spv_commands.specs.Assemble.{Assembles};
@@ -16,11 +16,12 @@ ghost use Rattle.spv_commands.specs.Output.{bytes_in, is_done, made_of, out_of, 
 ghost use Rattle.spv_commands.specs.Output.{written_out};
 ghost use Rattle.spv_commands.specs.Show.{Shows};
 ghost use Rattle.spv_commands.specs.Task.{DoesTask, WritesGrammar, WritesRules, taken_by};
-ghost use Rattle.spv_commands.specs.Trace.{HasNoEntry, Traces};
+ghost use Rattle.spv_commands.specs.Trace.{HasNoEntry, HasSeveral, Traces};
 ghost use Rattle.spv_commands.specs.Trouble.{grammar_text, trouble_text};
 ghost use Rattle.spv_commands.specs.inner.Assembly.{ComesTo};
 ghost use Rattle.spv_commands.specs.inner.Answered.{Gives, IsAnswerBy, IsUnreadAnswer, WhyNot};
 ghost use Rattle.spv_commands.specs.declared.trouble.Trouble.TheVariants.{Memory, NoEntry, NoFunction, NotText};
+ghost use Rattle.spv_commands.specs.declared.trouble.Trouble.TheVariants.{SeveralFunctions};
 
 use crate::asked::{detail_by, is_as_1_6, order_by, reach_by, rules_bytes, view_by};
 use crate::assembling::{Assembly, assembly_of};
@@ -35,6 +36,7 @@ use spv_command_line::{AnyCode, Command, Task};
 use spv_explain::{Detail, Explanation, Unread, explain_bytes, octets_told};
 use spv_extended::Reach;
 use spv_grammar::GrammarError;
+use spv_names::Chosen;
 use spv_table::Table;
 use spv_verdict::{Judgment, Verdict, check, line_for};
 use spv_views::{View, ViewError, Viewed, view_image};
@@ -182,14 +184,15 @@ fn traced(
     alloc: Global,
     table: &Table,
     reach: Reach,
-    function: u32,
+    function: Chosen<'_>,
     choices: &[u32],
     limit: u32,
     bytes: Vec<u8>,
 ) -> Result<Reply, Trouble>
-    ensures gives { IfOk result (Gives (Traces table.now reach function choices.now limit) bytes.items) }
+    ensures gives { IfOk result (Gives (Traces table.now reach function.entry choices.now limit) bytes.items) }
     ensures only { IfErr result (λ t.
-        ((t ≡ NoEntry) × HasNoEntry table.now reach bytes.items function) ⊎ (t ≡ Memory)) }
+        ((t ≡ NoEntry) × HasNoEntry table.now reach bytes.items function.entry)
+        ⊎ ((t ≡ SeveralFunctions) × HasSeveral table.now reach bytes.items function.entry) ⊎ (t ≡ Memory)) }
 {
     let image = match image_in(bytes) {
         Ok((image, _)) => image,
@@ -207,12 +210,13 @@ fn viewed(
     alloc: Global,
     table: &Table,
     how: View<'_>,
-    function: Option<u32>,
+    function: Option<Chosen<'_>>,
     bytes: Vec<u8>,
 ) -> Result<Reply, Trouble>
-    ensures gives { IfOk result (Gives (Views how.entry table.now function) bytes.items) }
+    ensures gives { IfOk result (Gives (Views how.entry table.now function.entry) bytes.items) }
     ensures only { IfErr result (λ t.
-        ((t ≡ NoFunction) × LacksFunction table.now bytes.items function) ⊎ (t ≡ Memory)) }
+        ((t ≡ NoFunction) × LacksFunction table.now bytes.items function.entry)
+        ⊎ ((t ≡ SeveralFunctions) × NamesSeveral table.now bytes.items function.entry) ⊎ (t ≡ Memory)) }
 {
     spv_words::laws::one_refusal();
     let image = match image_in(bytes) {
@@ -224,6 +228,7 @@ fn viewed(
         Ok(Viewed::Beginning(text)) => Ok(Reply::Fault(Output::Bytes(text.into_bytes()))),
         Ok(Viewed::Line(judgment)) => Ok(fault(judgment)),
         Err(ViewError::NoFunction) => Err(Trouble::NoFunction),
+        Err(ViewError::SeveralFunctions) => Err(Trouble::SeveralFunctions),
         Err(_) => Err(Trouble::Memory),
     }
 }

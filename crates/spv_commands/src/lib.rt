@@ -22,7 +22,7 @@ pub use assembling::{assemble_stream, read_all};
 pub use judging::{Judging, Part, Telling, judge_file, tell};
 pub use name::write_label;
 pub use outgoing::Output;
-pub use reasons::entry_points;
+pub use reasons::{entry_points, refusal_help};
 pub use showing::show_stream;
 pub use spv_builtin::grammar_reason;
 pub use spv_command_line::{

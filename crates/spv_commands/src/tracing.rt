@@ -1,21 +1,23 @@
 //! What `trace` writes of the bytes of a stream.
 ghost use Rattle.std.specs.Prelude.{◌≡◌, ◌⊎◌, ◌≤◌, ◌↔◌, ◌++◌, ℕ, List, Some};
-ghost use Rattle.std.specs.Prelude.{IfOk, IfErr, IfSome, IsErrOf, OnOk, length, take};
+ghost use Rattle.std.specs.Prelude.{Ok, IfOk, IfErr, IfSome, IsErrOf, OnOk, length, take};
 ghost use Rattle.std.specs.Io.KnownBytes.{Appends};
 ghost use Rattle.spv_words.specs.Header.{IsModule};
 ghost use Rattle.spv_words.specs.declared.words.Order.{Order};
 ghost use Rattle.spv_words.specs.declared.words.WordError.TheVariants.{W1};
 ghost use Rattle.spv_check.specs.Outcome.{HasFailed};
 ghost use Rattle.spv_commands.specs.Streams.{IsAnswered, reading, writing};
-ghost use Rattle.spv_commands.specs.Trace.{BeginsTracing, HasNoEntry, IsTracing, Traces};
-ghost use Rattle.spv_commands.specs.inner.Traced.{is_run, output_of, traced_refusal, traced_stop};
+ghost use Rattle.spv_names.specs.Chosen.{IsChosen};
+ghost use Rattle.spv_commands.specs.Trace.{BeginsTracing, HasNoEntry, HasSeveral, IsTracing, Traces};
+ghost use Rattle.spv_commands.specs.inner.Traced.{WhyNotChosen, is_run, output_of, traced_refusal, traced_stop};
 ghost use Rattle.spv_commands.specs.declared.trouble.Trouble.TheVariants as trouble;
 
 use crate::trace_lines::write_trace;
 use crate::trouble::Trouble;
 use spv_extended::Reach;
+use spv_names::{Chosen, NameError, function_of};
 use spv_table::Table;
-use spv_verdict::{Judgment, Trace, TraceError, Verdict, check, line_for, trace};
+use spv_verdict::{Checked, Judgment, Trace, TraceError, Verdict, check, line_for, trace};
 use spv_words::{Image, Sink, Source, WordError, read_image, write_all};
 use std::alloc::Global;
 
@@ -49,28 +51,47 @@ fn stopped(error: TraceError) -> Trouble
     }
 }
 
+/// The id of a function of a valid module.
+fn id_in(checked: &Checked<'_>, function: Chosen<'_>) -> Result<u32, Trouble>
+    ensures id { IfOk result (λ id. IsChosen checked.now.insts function.entry (Ok id)) }
+    ensures why { IfErr result (WhyNotChosen checked.now.insts function.entry) }
+{
+    let parts = checked.parts();
+    match function_of(parts.module.insts.as_slice(), function) {
+        Ok(id) => Ok(id),
+        Err(NameError::Absent) => Err(Trouble::NoEntry),
+        Err(NameError::Several) => Err(Trouble::SeveralFunctions),
+    }
+}
+
 /// What is written of the words of a module.
 pub fn traced_of(
     alloc: Global,
     table: &Table,
     reach: Reach,
     image: &Image,
-    function: u32,
+    function: Chosen<'_>,
     choices: &[u32],
     limit: u32,
 ) -> Result<Traced, Trouble>
     ensures traced { (bytes : List ℕ) (order : Order) → IsModule order bytes image.now
-        → IfOk result (λ t. IsTracing table.now reach function choices.now limit bytes (output_of t) (is_run t)) }
+        → IfOk result (λ t. IsTracing table.now reach function.entry choices.now limit bytes (output_of t) (is_run t)) }
     ensures stranger { (bytes : List ℕ) (order : Order) → IsModule order bytes image.now
-        → IsErrOf result trouble.NoEntry → HasNoEntry table.now reach bytes function }
-    ensures only { IfErr result (λ t. (t ≡ trouble.NoEntry) ⊎ (t ≡ trouble.Memory)) }
+        → IsErrOf result trouble.NoEntry → HasNoEntry table.now reach bytes function.entry }
+    ensures several { (bytes : List ℕ) (order : Order) → IsModule order bytes image.now
+        → IsErrOf result trouble.SeveralFunctions → HasSeveral table.now reach bytes function.entry }
+    ensures only { IfErr result (λ t. (t ≡ trouble.NoEntry) ⊎ (t ≡ trouble.SeveralFunctions) ⊎ (t ≡ trouble.Memory)) }
 {
     let checked = match check(alloc, table, reach, image) {
         Ok(Verdict::Valid(checked)) => checked,
         Ok(Verdict::Fault(fault)) => return Ok(Traced::Line(Judgment::Broken(fault))),
         Err(_) => return Err(Trouble::Memory),
     };
-    match trace(alloc, &checked, function, choices, limit) {
+    let id = match id_in(&checked, function) {
+        Ok(id) => id,
+        Err(trouble) => return Err(trouble),
+    };
+    match trace(alloc, &checked, id, choices, limit) {
         Ok(run) => Ok(Traced::Run(run)),
         Err(error) => Err(stopped(error)),
     }
@@ -81,16 +102,18 @@ fn traced_on<R: Source>(
     alloc: Global,
     table: &Table,
     reach: Reach,
-    function: u32,
+    function: Chosen<'_>,
     choices: &[u32],
     limit: u32,
     r: &mut R,
 ) -> Result<Traced, Trouble>
     ensures known { IfSome (R.remaining r.old)
         (λ bytes. IfOk result (λ t.
-        IsTracing table.now reach function choices.now limit bytes (output_of t) (is_run t))) }
+        IsTracing table.now reach function.entry choices.now limit bytes (output_of t) (is_run t))) }
     ensures only { IfErr result (λ t. (t ≡ trouble.File)
-        ⊎ ((t ≡ trouble.NoEntry) × IfSome (R.remaining r.old) (λ bytes. HasNoEntry table.now reach bytes function))
+        ⊎ ((t ≡ trouble.NoEntry) × IfSome (R.remaining r.old) (λ bytes. HasNoEntry table.now reach bytes function.entry))
+        ⊎ ((t ≡ trouble.SeveralFunctions)
+        × IfSome (R.remaining r.old) (λ bytes. HasSeveral table.now reach bytes function.entry))
         ⊎ (t ≡ trouble.Memory)) }
     ensures count { HasFailed R.failures r.old r.new ↔ IsErrOf result trouble.File }
 {
@@ -136,7 +159,7 @@ impl Traced {
 /// where they are no valid module, their verdict line, and answers false. `reach` says whether the operands of extended
 /// instructions are looked at too.
 ///
-/// `function` is the id of an entry point's function; `choices` are the places of the targets that are taken, from 0,
+/// `function` is an entry point's function; `choices` are the places of the targets that are taken, from 0,
 /// one for each OpBranchConditional and OpSwitch that is executed; `limit` is the greatest number of steps. The run has
 /// a line for each instruction that is executed, and one for its end. Nothing is written before it is whole: it is
 /// kept, eight bytes a step, and no limit is too great for the call, but only for the memory.
@@ -144,24 +167,27 @@ impl Traced {
 /// # Errors
 ///
 /// `File`: a read or a write failed. After a failed read nothing was written, after a failed write a beginning of the
-/// output. `NoEntry`: the bytes are a valid module, and the id is the function of no OpEntryPoint. `Memory`: a growth
-/// of memory was refused. Nothing was written with these two.
+/// output. The bytes are a valid module with the next two. `NoEntry`: the id is the function of no OpEntryPoint, or the
+/// name that of no function. `SeveralFunctions`: the name is that of several. `Memory`: a growth of memory was refused.
+/// Nothing was written with these three.
 pub fn trace_stream<R: Source, W: Sink>(
     alloc: Global,
     table: &Table,
     reach: Reach,
-    function: u32,
+    function: Chosen<'_>,
     choices: &[u32],
     limit: u32,
     r: &mut R,
     w: &mut W,
 ) -> Result<bool, Trouble>
     // The writer has got what is written of all the bytes that the reader still gave.
-    ensures ends { IsAnswered (Traces table.now reach function choices.now limit)
-        (BeginsTracing table.now reach function choices.now limit) trouble.File
+    ensures ends { IsAnswered (Traces table.now reach function.entry choices.now limit)
+        (BeginsTracing table.now reach function.entry choices.now limit) trouble.File
         (reading R.remaining R.failures r.old r.new) (writing W.contents W.failures w.old w.new) result }
     ensures only { IfErr result (λ t. (t ≡ trouble.File)
-        ⊎ ((t ≡ trouble.NoEntry) × IfSome (R.remaining r.old) (λ bytes. HasNoEntry table.now reach bytes function))
+        ⊎ ((t ≡ trouble.NoEntry) × IfSome (R.remaining r.old) (λ bytes. HasNoEntry table.now reach bytes function.entry))
+        ⊎ ((t ≡ trouble.SeveralFunctions)
+        × IfSome (R.remaining r.old) (λ bytes. HasSeveral table.now reach bytes function.entry))
         ⊎ (t ≡ trouble.Memory)) }
 {
     let traced = traced_on(alloc, table, reach, function, choices, limit, r)?;

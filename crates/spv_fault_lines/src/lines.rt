@@ -1,9 +1,10 @@
 //! The lines of facts.
 ghost use Rattle.std.specs.Prelude.{◌≡◌, ◌++◌, ℕ, List, [], Some, codes, decimal, flat_map, option_map, slice_get};
-ghost use Rattle.std.specs.Prelude.{string_bytes, Option, OnOk};
+ghost use Rattle.std.specs.Prelude.{string_bytes, take, Option, OnOk};
 ghost use Rattle.spv_table.specs.Table.{entry_of};
 ghost use Rattle.spv_module.specs.Module.{plain_inst, plain_insts, plain_operand};
 ghost use Rattle.spv_lines.specs.Text.{ShownLines};
+ghost use Rattle.spv_lines.specs.Operand.{quoted};
 ghost use Rattle.spv_fault_lines.specs.Lines as lines;
 ghost use Rattle.spv_fault_lines.specs.Keys.{line_name};
 ghost use Rattle.spv_fault_lines.specs.Lines.{bit_name, keyed, key_of, line_of, name_part, needed_part, number_part};
@@ -23,10 +24,12 @@ use crate::key::Key;
 use crate::needs::needs_of;
 use crate::owners::Owners;
 use crate::shapes::{push_row_of, role_name};
+use itoa::Buffer;
 use spv_evidence::{EntryPart, Lister, Side};
 use spv_lines::{push_hex, push_plain};
 use spv_module::{Inst, Operand};
 use spv_names::function_name;
+use spv_printer::push_quoted;
 use spv_table::{NameList, Table};
 use std::alloc::AllocError;
 
@@ -36,6 +39,37 @@ fn push_name(out: &mut String, text: &str) -> Result<(), AllocError>
 {
     out.push_str(" ")?;
     out.push_str(text)
+}
+
+/// The first eight operands, or all of fewer.
+fn first_eight(operands: &[u32]) -> &[u32]
+    ensures { result.now ≡ take 8 operands.now }
+{
+    if operands.len() > 8 {
+        return &operands[..8];
+    }
+    operands
+}
+
+/// Adds how many operands there are beyond eight, if there are more.
+fn push_more(out: &mut String, count: usize) -> Result<(), AllocError>
+    ensures { OnOk result (string_bytes out.new ≡ string_bytes out.old ++ lines.more_part count) }
+{
+    if count <= 8 {
+        return Ok(());
+    }
+    let mut buffer = Buffer::new();
+    out.push_str(", and ")?;
+    out.push_str(buffer.format(count - 8))?;
+    out.push_str(" more")
+}
+
+/// Adds a space and a text in quotes.
+fn push_quoted_name(out: &mut String, text: &str) -> Result<(), AllocError>
+    ensures { OnOk result (string_bytes out.new ≡ string_bytes out.old ++ name_part (quoted text.now)) }
+{
+    out.push_str(" ")?;
+    push_quoted(out, text)
 }
 
 /// Adds the number of an opcode, and its name if the grammar has one.
@@ -196,13 +230,13 @@ impl<'m, 'a> About<'m, 'a> {
         function_name(self.module.insts.as_slice(), id)
     }
 
-    /// Adds a space and the name of a function, if it has one.
+    /// Adds a space and the name of a function in quotes, if it has one.
     fn push_function_name(&self, out: &mut String, inst: Option<u32>) -> Result<(), AllocError>
         ensures { OnOk result (string_bytes out.new ≡ string_bytes out.old ++ lines.named_part (lines.name_at
             (plain_insts self.now.«module».now) inst)) }
     {
         match self.name_at(inst) {
-            Some(name) => push_name(out, name),
+            Some(name) => push_quoted_name(out, name),
             None => Ok(()),
         }
     }
@@ -338,15 +372,29 @@ impl<'m, 'a> About<'m, 'a> {
         self.push_operand_text(out, inst, operand)
     }
 
-    /// Adds the operands of an instruction that are of a type.
-    fn push_owners(&self, out: &mut String, inst: u32, operands: &[u32]) -> Result<(), AllocError>
-        ensures { OnOk result (string_bytes out.new ≡ string_bytes out.old ++ lines.owners_part self.now.table.now
-            (plain_insts self.now.«module».now) inst operands.now) }
+    /// Adds each of these operands of an instruction, which are of a type.
+    fn push_each_owner(
+        &self,
+        out: &mut String,
+        inst: u32,
+        operands: &[u32],
+    ) -> Result<(), AllocError>
+        ensures { OnOk result (string_bytes out.new ≡ string_bytes out.old ++ flat_map (lines.owner_part
+            self.now.table.now (plain_insts self.now.«module».now) inst) operands.now) }
     {
         for operand in operands {
             self.push_owner(out, inst, *operand)?;
         }
         Ok(())
+    }
+
+    /// Adds the operands of an instruction that are of a type: the first eight, and how many more there are.
+    fn push_owners(&self, out: &mut String, inst: u32, operands: &[u32]) -> Result<(), AllocError>
+        ensures { OnOk result (string_bytes out.new ≡ string_bytes out.old ++ lines.owners_part self.now.table.now
+            (plain_insts self.now.«module».now) inst operands.now) }
+    {
+        self.push_each_owner(out, inst, first_eight(operands))?;
+        push_more(out, operands.len())
     }
 
     /// Adds a space and a type, and the operands of an instruction that are of it.

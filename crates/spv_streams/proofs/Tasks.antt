@@ -7,6 +7,7 @@ use Rattle.spv_words.specs.declared.words.WordError.{WordError}
 use Rattle.spv_words.specs.declared.words.WordError.TheVariants.{W2}
 use Rattle.spv_table.specs.Table.{Table}
 use Rattle.spv_extended.specs.declared.reach.Reach.{Reach}
+use Rattle.spv_names.specs.declared.chosen.Chosen.{Chosen}
 use Rattle.spv_command_line.specs.declared.command_line.Command.{Command}
 use Rattle.spv_command_line.specs.declared.command_line.Command.TheVariants.{Judge, Show, Asm, Trace, Rules, Grammar}
 use Rattle.spv_command_line.specs.declared.command_line.Command.TheVariants.{Annotate, Graph}
@@ -36,9 +37,9 @@ pub begins_short : (c : Command) (G : Table) → ¬ (ReadsNoFile c) → MakesNot
     → ((reach : Reach) (detail : Detail)
     → BeginsExplaining detail G reach (1 ∷ 2 ∷ 3 ∷ []) (9 ∷ []) (Some (9 ∷ codes "fault")))
     → BeginsShowing G (1 ∷ 2 ∷ 3 ∷ []) (9 ∷ []) (Some (9 ∷ codes "fault"))
-    → ((reach : Reach) (function : ℕ) (choices : List ℕ) (limit : ℕ)
+    → ((reach : Reach) (function : Chosen) (choices : List ℕ) (limit : ℕ)
     → BeginsTracing G reach function choices limit (1 ∷ 2 ∷ 3 ∷ []) (9 ∷ []) (Some (9 ∷ codes "fault")))
-    → ((how : View) (function : Option ℕ)
+    → ((how : View) (function : Option Chosen)
     → BeginsViewing how G function (1 ∷ 2 ∷ 3 ∷ []) (9 ∷ []) (Some (9 ∷ codes "fault")))
     → BeginsByText c (Some empty_grammar) (1 ∷ 2 ∷ 3 ∷ []) (Some (9 ∷ [])) (Some (9 ∷ codes "fault")) None None
 begins_short (Judge tasks.Check g fs v e p q j) G r n given begins explained shown traced viewed =

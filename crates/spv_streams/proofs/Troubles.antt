@@ -6,26 +6,29 @@ use Rattle.spv_grammar.specs.declared.error.GrammarError.{GrammarError}
 use Rattle.spv_grammar.specs.declared.error.GrammarError.TheVariants.{J1, J2, J3, J4, J5, J6, J7, J8}
 use Rattle.spv_table.specs.Table.{Table}
 use Rattle.spv_commands.specs.Streams.{AnyFailed, IsAnswered, IsDone, Reading, Writing}
-use Rattle.spv_commands.specs.Task.{Does, DoesByText, IsNoText, LacksAsked, LacksAskedByText, LacksEntry}
-use Rattle.spv_commands.specs.Task.{LacksEntryByText, taken_by}
+use Rattle.spv_commands.specs.Task.{Does, DoesByText, IsAmbiguous, IsAmbiguousByText, IsNoText, LacksAsked}
+use Rattle.spv_commands.specs.Task.{LacksAskedByText, LacksEntry, LacksEntryByText, taken_by}
 use Rattle.spv_command_line.specs.declared.command_line.Command.{Command}
 use Rattle.spv_commands.specs.Trouble.{grammar_text, trouble_text}
 use Rattle.spv_commands.proofs.Answerings.{same_text}
 use Rattle.spv_streams.specs.Begin.{BeginsToDo}
-use Rattle.spv_streams.specs.Run.{IsErrorLine, refused, file, entry, function, memory}
+use Rattle.spv_streams.specs.Run.{IsErrorLine, refused, file, entry, function, memory, several}
 use Rattle.spv_streams.specs.inner.Ending.{EndsByTable, EndsByText, EndsUnread, reading_by}
 use Rattle.spv_commands.specs.declared.trouble.Trouble.{Trouble}
 use Rattle.spv_commands.specs.declared.trouble.Trouble.TheVariants.{File, Grammar, Memory, NoEntry, NoFunction, NotText}
+use Rattle.spv_commands.specs.declared.trouble.Trouble.TheVariants.{SeveralFunctions}
 
 -- a trouble of a command has its reason
 line_of : (command : Command) (text : Option (List ℕ)) (G : Table) (f : Reading) (out made : Writing)
     (r : Result Bool Trouble) → IsTableOf text G
     → IfErr r (λ t. (t ≡ File) ⊎ ((t ≡ NotText) × IsNoText command (option_map (taken_by command) f.left))
     ⊎ ((t ≡ NoEntry) × LacksEntry command G (option_map (taken_by command) f.left))
-    ⊎ ((t ≡ NoFunction) × LacksAsked command G (option_map (taken_by command) f.left)) ⊎ (t ≡ Memory))
+    ⊎ ((t ≡ NoFunction) × LacksAsked command G (option_map (taken_by command) f.left))
+    ⊎ ((t ≡ SeveralFunctions) × IsAmbiguous command G (option_map (taken_by command) f.left)) ⊎ (t ≡ Memory))
     → (IsErrOf r File → AnyFailed f out made)
     → IfErr r (λ t. IsErrorLine text (AnyFailed f out made ⊎ IsNoText command f.left)
-    (LacksEntryByText command text f.left) (LacksAskedByText command text f.left) (trouble_text t))
+    (LacksEntryByText command text f.left) (LacksAskedByText command text f.left)
+    (IsAmbiguousByText command text f.left) (trouble_text t))
 line_of command text G f out made (Ok v) h o w = tt
 line_of command text G f out made (Err t) h (inl e) w = rw e (file (inl (w (ap Err e))))
 line_of command text G f out made (Err t) h (inr (inl e)) w = rw (e.0) (file (inr (same_text command f.left e.1)))
@@ -33,7 +36,9 @@ line_of command text G f out made (Err t) h (inr (inr (inl e))) w =
     rw (e.0) (entry (record { table = G; given = h; lacks = e.1 }))
 line_of command text G f out made (Err t) h (inr (inr (inr (inl e)))) w =
     rw (e.0) (function (record { table = G; given = h; lacks = e.1 }))
-line_of command text G f out made (Err t) h (inr (inr (inr (inr e)))) w = rw e memory
+line_of command text G f out made (Err t) h (inr (inr (inr (inr (inl e))))) w =
+    rw (e.0) (several (record { table = G; given = h; ambiguous = e.1 }))
+line_of command text G f out made (Err t) h (inr (inr (inr (inr (inr e))))) w = rw e memory
 
 some_by : {X : Type 0} (o : Option X) (P Q : X → Type 0) → ((x : X) → P x → Q x) → IfSome o P → IfSome o Q
 some_by None P Q f h = tt
@@ -121,48 +126,54 @@ unread Whole Begun f out made r read whole untouched e = record {
 }
 
 -- of two troubles there is no third
-pub of_two : (N L M : Type 0) (r : Result Bool Trouble) → IfErr r (λ t. (t ≡ File) ⊎ (t ≡ Memory))
-    → IfErr r (λ t. (t ≡ File) ⊎ ((t ≡ NotText) × N) ⊎ ((t ≡ NoEntry) × L) ⊎ ((t ≡ NoFunction) × M) ⊎ (t ≡ Memory))
-of_two N L M (Ok v) o = tt
-of_two N L M (Err t) (inl e) = inl e
-of_two N L M (Err t) (inr e) = inr (inr (inr (inr e)))
+pub of_two : (N L M S : Type 0) (r : Result Bool Trouble) → IfErr r (λ t. (t ≡ File) ⊎ (t ≡ Memory))
+    → IfErr r (λ t. (t ≡ File) ⊎ ((t ≡ NotText) × N) ⊎ ((t ≡ NoEntry) × L) ⊎ ((t ≡ NoFunction) × M)
+    ⊎ ((t ≡ SeveralFunctions) × S) ⊎ (t ≡ Memory))
+of_two N L M S (Ok v) o = tt
+of_two N L M S (Err t) (inl e) = inl e
+of_two N L M S (Err t) (inr e) = inr (inr (inr (inr (inr e))))
 
--- of three there is no fourth
-pub of_texts : (N L M : Type 0) (r : Result Bool Trouble)
+-- of some there is no other
+pub of_texts : (N L M S : Type 0) (r : Result Bool Trouble)
     → IfErr r (λ t. (t ≡ File) ⊎ ((t ≡ NotText) × N) ⊎ (t ≡ Memory))
-    → IfErr r (λ t. (t ≡ File) ⊎ ((t ≡ NotText) × N) ⊎ ((t ≡ NoEntry) × L) ⊎ ((t ≡ NoFunction) × M) ⊎ (t ≡ Memory))
-of_texts N L M (Ok v) o = tt
-of_texts N L M (Err t) (inl e) = inl e
-of_texts N L M (Err t) (inr (inl e)) = inr (inl e)
-of_texts N L M (Err t) (inr (inr e)) = inr (inr (inr (inr e)))
+    → IfErr r (λ t. (t ≡ File) ⊎ ((t ≡ NotText) × N) ⊎ ((t ≡ NoEntry) × L) ⊎ ((t ≡ NoFunction) × M)
+    ⊎ ((t ≡ SeveralFunctions) × S) ⊎ (t ≡ Memory))
+of_texts N L M S (Ok v) o = tt
+of_texts N L M S (Err t) (inl e) = inl e
+of_texts N L M S (Err t) (inr (inl e)) = inr (inl e)
+of_texts N L M S (Err t) (inr (inr e)) = inr (inr (inr (inr (inr e))))
 
-pub of_entries : (N L M : Type 0) (r : Result Bool Trouble)
-    → IfErr r (λ t. (t ≡ File) ⊎ ((t ≡ NoEntry) × L) ⊎ (t ≡ Memory))
-    → IfErr r (λ t. (t ≡ File) ⊎ ((t ≡ NotText) × N) ⊎ ((t ≡ NoEntry) × L) ⊎ ((t ≡ NoFunction) × M) ⊎ (t ≡ Memory))
-of_entries N L M (Ok v) o = tt
-of_entries N L M (Err t) (inl e) = inl e
-of_entries N L M (Err t) (inr (inl e)) = inr (inr (inl e))
-of_entries N L M (Err t) (inr (inr e)) = inr (inr (inr (inr e)))
+pub of_entries : (N L M S : Type 0) (r : Result Bool Trouble)
+    → IfErr r (λ t. (t ≡ File) ⊎ ((t ≡ NoEntry) × L) ⊎ ((t ≡ SeveralFunctions) × S) ⊎ (t ≡ Memory))
+    → IfErr r (λ t. (t ≡ File) ⊎ ((t ≡ NotText) × N) ⊎ ((t ≡ NoEntry) × L) ⊎ ((t ≡ NoFunction) × M)
+    ⊎ ((t ≡ SeveralFunctions) × S) ⊎ (t ≡ Memory))
+of_entries N L M S (Ok v) o = tt
+of_entries N L M S (Err t) (inl e) = inl e
+of_entries N L M S (Err t) (inr (inl e)) = inr (inr (inl e))
+of_entries N L M S (Err t) (inr (inr (inl e))) = inr (inr (inr (inr (inl e))))
+of_entries N L M S (Err t) (inr (inr (inr e))) = inr (inr (inr (inr (inr e))))
 
-pub of_functions : (N L M : Type 0) (r : Result Bool Trouble)
-    → IfErr r (λ t. (t ≡ File) ⊎ ((t ≡ NoFunction) × M) ⊎ (t ≡ Memory))
-    → IfErr r (λ t. (t ≡ File) ⊎ ((t ≡ NotText) × N) ⊎ ((t ≡ NoEntry) × L) ⊎ ((t ≡ NoFunction) × M) ⊎ (t ≡ Memory))
-of_functions N L M (Ok v) o = tt
-of_functions N L M (Err t) (inl e) = inl e
-of_functions N L M (Err t) (inr (inl e)) = inr (inr (inr (inl e)))
-of_functions N L M (Err t) (inr (inr e)) = inr (inr (inr (inr e)))
+pub of_functions : (N L M S : Type 0) (r : Result Bool Trouble)
+    → IfErr r (λ t. (t ≡ File) ⊎ ((t ≡ NoFunction) × M) ⊎ ((t ≡ SeveralFunctions) × S) ⊎ (t ≡ Memory))
+    → IfErr r (λ t. (t ≡ File) ⊎ ((t ≡ NotText) × N) ⊎ ((t ≡ NoEntry) × L) ⊎ ((t ≡ NoFunction) × M)
+    ⊎ ((t ≡ SeveralFunctions) × S) ⊎ (t ≡ Memory))
+of_functions N L M S (Ok v) o = tt
+of_functions N L M S (Err t) (inl e) = inl e
+of_functions N L M S (Err t) (inr (inl e)) = inr (inr (inr (inl e)))
+of_functions N L M S (Err t) (inr (inr (inl e))) = inr (inr (inr (inr (inl e))))
+of_functions N L M S (Err t) (inr (inr (inr e))) = inr (inr (inr (inr (inr e))))
 
 -- so have those of the grammar file
-pub grammar_reason : (text : Option (List ℕ)) (failed strange absent : Type 0) (e : GrammarError)
-    → (e ≢ J8 → breaks text e) → IsErrorLine text failed strange absent (grammar_text e)
-grammar_reason text failed strange absent J8 h = memory
-grammar_reason text failed strange absent J1 h = refused J1 (h (λ q. cc))
-grammar_reason text failed strange absent J2 h = refused J2 (h (λ q. cc))
-grammar_reason text failed strange absent J3 h = refused J3 (h (λ q. cc))
-grammar_reason text failed strange absent J4 h = refused J4 (h (λ q. cc))
-grammar_reason text failed strange absent J5 h = refused J5 (h (λ q. cc))
-grammar_reason text failed strange absent J6 h = refused J6 (h (λ q. cc))
-grammar_reason text failed strange absent J7 h = refused J7 (h (λ q. cc))
+pub grammar_reason : (text : Option (List ℕ)) (failed strange absent ambiguous : Type 0) (e : GrammarError)
+    → (e ≢ J8 → breaks text e) → IsErrorLine text failed strange absent ambiguous (grammar_text e)
+grammar_reason text failed strange absent ambiguous J8 h = memory
+grammar_reason text failed strange absent ambiguous J1 h = refused J1 (h (λ q. cc))
+grammar_reason text failed strange absent ambiguous J2 h = refused J2 (h (λ q. cc))
+grammar_reason text failed strange absent ambiguous J3 h = refused J3 (h (λ q. cc))
+grammar_reason text failed strange absent ambiguous J4 h = refused J4 (h (λ q. cc))
+grammar_reason text failed strange absent ambiguous J5 h = refused J5 (h (λ q. cc))
+grammar_reason text failed strange absent ambiguous J6 h = refused J6 (h (λ q. cc))
+grammar_reason text failed strange absent ambiguous J7 h = refused J7 (h (λ q. cc))
 
 -- a refused grammar file, before anything is read or written
 pub grammar_ends : (command : Command) (text : Option (List ℕ)) (f : Reading) (out made : Writing) (e : GrammarError)
@@ -180,7 +191,7 @@ grammar_ends command text f out made e h x y z o m = record {
     unmade = λ q. m;
     begun = λ t. elim t [ inl a ↦ absurd (y a) | inr c ↦ absurd (z c) ];
   };
-  reason = grammar_reason text _ _ _ e h;
+  reason = grammar_reason text _ _ _ _ e h;
 }
   where
     any_known : (o : Option (List ℕ)) → IfSome o (λ bytes. Unit {0})

@@ -9,7 +9,8 @@ ghost use Rattle.spv_commands.specs.Task.{DoesTask, MakesNothing, ReadsGrammar, 
 ghost use Rattle.spv_commands.specs.Task.{WritesRules, WritesRulesOf, taken};
 ghost use Rattle.spv_commands.specs.Trouble.{Gets, grammar_text, memory_line};
 ghost use Rattle.spv_commands.specs.declared.trouble.Trouble.TheVariants.{File, Grammar, Memory, NoFunction};
-ghost use Rattle.spv_views.specs.View.{BeginsViewing, LacksFunction, Views};
+ghost use Rattle.spv_commands.specs.declared.trouble.Trouble.TheVariants.{SeveralFunctions};
+ghost use Rattle.spv_views.specs.View.{BeginsViewing, LacksFunction, NamesSeveral, Views};
 ghost use Rattle.spv_streams.specs.Begin.{BeginsGrammar, BeginsRules, BeginsRulesOf, BeginsTask};
 ghost use Rattle.spv_streams.specs.Run.{Runs, RunsRules};
 ghost use Rattle.spv_streams.specs.inner.Ending.{EndsByTable, EndsByText, EndsUnread, reading_by, trouble_from};
@@ -21,6 +22,7 @@ use spv_commands::asked::{detail_by, is_as_1_6, order_by, reach_by, rules_bytes,
 use spv_commands::{Trouble, assemble_stream, report, show_stream, trace_stream};
 use spv_explain::explain_stream;
 use spv_extended::Reach;
+use spv_names::Chosen;
 use spv_table::Table;
 use spv_verdict::check_stream;
 use spv_views::{View, ViewError, view_stream};
@@ -78,20 +80,22 @@ fn viewed<S: Source, W: Sink>(
     alloc: Global,
     table: &Table,
     how: View<'_>,
-    function: Option<u32>,
+    function: Option<Chosen<'_>>,
     file: &mut S,
     out: &mut W,
 ) -> Result<bool, Trouble>
-    ensures ends { IsAnswered (Views how.entry table.now function) (BeginsViewing how.entry table.now function) File
+    ensures ends { IsAnswered (Views how.entry table.now function.entry) (BeginsViewing how.entry table.now function.entry) File
         (reading S.remaining S.failures file.old file.new) (writing W.contents W.failures out.old out.new) result }
     ensures only { IfErr result (λ t. (t ≡ File)
-        ⊎ ((t ≡ NoFunction) × IfSome (S.remaining file.old) (λ bytes. LacksFunction table.now bytes function))
+        ⊎ ((t ≡ NoFunction) × IfSome (S.remaining file.old) (λ bytes. LacksFunction table.now bytes function.entry))
+        ⊎ ((t ≡ SeveralFunctions) × IfSome (S.remaining file.old) (λ bytes. NamesSeveral table.now bytes function.entry))
         ⊎ (t ≡ Memory)) }
 {
     match view_stream(alloc, table, how, function, file, out) {
         Ok(answer) => Ok(answer),
         Err(ViewError::Failed) => Err(Trouble::File),
         Err(ViewError::NoFunction) => Err(Trouble::NoFunction),
+        Err(ViewError::SeveralFunctions) => Err(Trouble::SeveralFunctions),
         Err(ViewError::Memory) => Err(Trouble::Memory),
     }
 }
@@ -284,9 +288,9 @@ fn done<S: VersionSource, W: Sink, O: Sink>(
 /// written only where it is asked for in any case. 0: the module is valid, or its text, the module of a text, a run,
 /// what people look at, a grammar file or what codes say was written. 1: a fault line was written. 2: one line was
 /// written to `err`: `error J1` to `error J7` where the grammar file is refused, which is told first, `error file`
-/// where a read or a write failed or a text is not UTF-8, `error X1` where the id whose run is asked for is no entry
-/// point's function, `error X2` where the function that is asked for is none of the module, `error memory` where a
-/// growth of memory was refused. Where the write to `err` fails too, it has got a beginning of that line, and the
+/// where a read or a write failed or a text is not UTF-8, `error X1` where the function whose run is asked for is no
+/// entry point's, `error X2` where the function that is asked for is none of the module, `error use` where its name is
+/// that of several, `error memory` where a growth of memory was refused. Where the write to `err` fails too, it has got a beginning of that line, and the
 /// status is 2 all the same.
 pub fn run<S: VersionSource, W: Sink, O: Sink, E: Sink>(
     alloc: Global,

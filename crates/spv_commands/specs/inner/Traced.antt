@@ -2,6 +2,10 @@
 use Rattle.std.specs.Prelude.{ℕ, List, Bool, true, false, Result, Ok, Err}
 use Rattle.spv_words.specs.declared.words.WordError.{WordError}
 use Rattle.spv_words.specs.declared.words.WordError.TheVariants.{W1, W9}
+use Rattle.spv_module.specs.Operand.{PlainInst}
+use Rattle.spv_names.specs.Chosen.{IsChosen}
+use Rattle.spv_names.specs.declared.chosen.Chosen.{Chosen}
+use Rattle.spv_names.specs.declared.chosen.NameError.TheVariants.{Absent, Several}
 use Rattle.spv_run.specs.declared.parts.TraceError.{TraceError}
 use Rattle.spv_run.specs.declared.parts.TraceError.TheVariants.{NoEntry, Memory}
 use Rattle.spv_check.specs.declared.verdict_line.Judgment.TheVariants.{Refused}
@@ -32,3 +36,9 @@ traced_refusal code = Ok (Line (Refused code))
 abbrev pub traced_stop : TraceError → Trouble
 traced_stop NoEntry = trouble.NoEntry
 traced_stop Memory = trouble.Memory
+
+-- why a function has no id
+abbrev pub WhyNotChosen : List PlainInst → Chosen → Trouble → Type 0
+WhyNotChosen is function trouble.NoEntry = IsChosen is function (Err Absent)
+WhyNotChosen is function trouble.SeveralFunctions = IsChosen is function (Err Several)
+WhyNotChosen is function t = ⊥

@@ -4,7 +4,7 @@ use Rattle.std.specs.Prelude.{option_map}
 use Rattle.spv_table.specs.Table.{Table}
 use Rattle.spv_command_line.specs.declared.command_line.Command.{Command}
 use Rattle.spv_commands.specs.Streams.{AnyFailed, IsDone, Reading, Writing}
-use Rattle.spv_commands.specs.Task.{Does, DoesByText, IsNoText, LacksEntry}
+use Rattle.spv_commands.specs.Task.{Does, DoesByText, IsAmbiguous, IsAmbiguousByText, IsNoText, LacksEntry}
 use Rattle.spv_commands.specs.Task.{LacksAsked, LacksAskedByText, LacksEntryByText, taken_by}
 use Rattle.spv_commands.specs.Trouble.{trouble_text}
 use Rattle.spv_streams.specs.Begin.{BeginsByText, BeginsToDo}
@@ -12,14 +12,15 @@ use Rattle.spv_streams.specs.Run.{IsErrorLine}
 use Rattle.spv_words.specs.declared.words.WordError.{WordError}
 use Rattle.spv_words.specs.declared.words.WordError.TheVariants.{W9}
 use Rattle.spv_commands.specs.declared.trouble.Trouble.{Trouble}
-use Rattle.spv_commands.specs.declared.trouble.Trouble.TheVariants.{File, Memory, NoEntry, NoFunction, NotText}
+use Rattle.spv_commands.specs.declared.trouble.Trouble.TheVariants.{File, Memory, NoEntry, NoFunction, NotText, SeveralFunctions}
 
 -- By a table.
 pub record EndsByTable (command : Command) (G : Table) (file : Reading) (out made : Writing)
     (result : Result Bool Trouble) : Type 0 where
   pub ends : IsDone (Does command G) (BeginsToDo command G) File file out made result
   pub only : IfErr result (λ t. (t ≡ File) ⊎ ((t ≡ NotText) × IsNoText command file.left) ⊎ ((t ≡ NoEntry) × LacksEntry command G file.left)
-      ⊎ ((t ≡ NoFunction) × LacksAsked command G file.left) ⊎ (t ≡ Memory))
+      ⊎ ((t ≡ NoFunction) × LacksAsked command G file.left)
+      ⊎ ((t ≡ SeveralFunctions) × IsAmbiguous command G file.left) ⊎ (t ≡ Memory))
 
 -- the file as the command takes its bytes
 abbrev pub reading_by : Command → Reading → Reading
@@ -30,7 +31,8 @@ pub record EndsByText (command : Command) (text : Option (List ℕ)) (file : Rea
     (result : Result Bool Trouble) : Type 0 where
   pub ends : IsDone (DoesByText command text) (BeginsByText command text) File file out made result
   pub reason : IfErr result (λ t. IsErrorLine text (AnyFailed file out made ⊎ IsNoText command file.left)
-      (LacksEntryByText command text file.left) (LacksAskedByText command text file.left) (trouble_text t))
+      (LacksEntryByText command text file.left) (LacksAskedByText command text file.left)
+      (IsAmbiguousByText command text file.left) (trouble_text t))
 
 -- With what is written of no file: `Whole` says of the standard output what it held and what it then holds, and `Begun`
 -- the same where a write failed.

@@ -35,4 +35,8 @@ returns-in-Ok-Line-clause-gives c =
 pub returns-clause-only : goal.returns-clause-only
 returns-clause-only c =
     let stranger = c.in-Err-traced_of.ensures.stranger c.args.bytes.items c.in-Ok.field-0-1 c.in-Ok.ensures.gives in
-    elim c.in-Err-traced_of.ensures.only [ inl e ↦ inl (e, stranger (ap Err e)) | inr e ↦ inr e ]
+    let several = c.in-Err-traced_of.ensures.several c.args.bytes.items c.in-Ok.field-0-1 c.in-Ok.ensures.gives in
+    elim c.in-Err-traced_of.ensures.only [
+      | inl e ↦ inl (e, stranger (ap Err e))
+      | inr o ↦ elim o [ inl e ↦ inr (inl (e, several (ap Err e))) | inr e ↦ inr (inr e) ]
+    ]

@@ -1,4 +1,4 @@
-use Rattle.std.proofs.Common.{Err, ap, false, inl, refl}
+use Rattle.std.proofs.Common.{Err, ap, false, inl, inr, refl}
 use Rattle.spv_check.specs.Text.{line_of}
 use Rattle.spv_check.specs.Verdict.{refused_line}
 use Rattle.spv_views.specs.View.{Views}
@@ -45,3 +45,11 @@ returns-in-Err-NoFunction-clause-only c =
       c.in-Err-NoFunction.ensures.stranger c.args.bytes.items c.in-Ok.field-0-1 c.in-Ok.ensures.gives
           (ap Err c.in-Err-NoFunction.field-0-is),
     )
+
+pub returns-in-Err-SeveralFunctions-clause-only : goal.returns-in-Err-SeveralFunctions-clause-only
+returns-in-Err-SeveralFunctions-clause-only c =
+    inr (inl (
+      refl,
+      c.in-Err-SeveralFunctions.ensures.several c.args.bytes.items c.in-Ok.field-0-1 c.in-Ok.ensures.gives
+          (ap Err c.in-Err-SeveralFunctions.field-0-is),
+    ))

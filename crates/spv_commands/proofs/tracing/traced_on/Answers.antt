@@ -8,7 +8,7 @@ returns-in-Err-clause-known g c =
     c.in-Err.code c.in-Err.ensures.refuses)
 
 pub returns-in-Err-clause-only : goal.returns-in-Err-clause-only
-returns-in-Err-clause-only g c = rw c.refused.ensures (refused_only _ c.in-Err.code)
+returns-in-Err-clause-only g c = rw c.refused.ensures (refused_only _ _ c.in-Err.code)
 
 pub returns-in-Err-clause-count : goal.returns-in-Err-clause-count
 returns-in-Err-clause-count g c = rw c.refused.ensures (refused_count _ c.in-Err.code _ refl c.in-Err.ensures.count)
@@ -21,4 +21,4 @@ returns-clause-known g c =
 pub returns-clause-only : goal.returns-clause-only
 returns-clause-only g c =
     known_only c.args.table.now c.args.reach c.args.function _ _ c.in-Ok.field-0-1 _ c.in-Ok.ensures.gives
-    c.traced_of.ensures.stranger c.traced_of.ensures.only
+    c.traced_of.ensures.stranger c.traced_of.ensures.several c.traced_of.ensures.only

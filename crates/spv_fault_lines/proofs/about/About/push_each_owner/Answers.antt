@@ -3,7 +3,7 @@ use Rattle.spv_module.specs.Module.{plain_insts}
 use Rattle.spv_lines.proofs.Steps.{got}
 use Rattle.spv_fault_lines.specs.Lines.{owner_part}
 use Rattle.spv_fault_lines.proofs.Steps.{piece_step}
-use Rattle.spv_fault_lines.proofs.about.About.push_owners.Goals as goal
+use Rattle.spv_fault_lines.proofs.about.About.push_each_owner.Goals as goal
 
 pub loop-operand-preserved : goal.loop-operand-preserved
 loop-operand-preserved c =

@@ -1,7 +1,7 @@
 use Rattle.std.proofs.Common.{◌≡◌, ◌++◌, string_bytes, flat_map, drop}
 use Rattle.spv_module.specs.Module.{plain_insts}
 use Rattle.spv_fault_lines.specs.Lines.{owner_part}
-use Rattle.spv_fault_lines.proofs.about.About.push_owners.Given as goal
+use Rattle.spv_fault_lines.proofs.about.About.push_each_owner.Given as goal
 
 abbrev pub invariant-loop-operand : goal.invariant-loop-operand
 invariant-loop-operand l =
