@@ -19,7 +19,7 @@ use Rattle.spv_grammar.specs.declared.error.GrammarError.{GrammarError}
 use Rattle.spv_grammar.specs.declared.error.GrammarError.TheVariants.{J1, J2, J3, J4, J5, J6, J7, J8}
 use Rattle.spv_commands.specs.Trouble.{BeginsWith, Writes, file_line, grammar_text, memory_line}
 use Rattle.spv_commands.specs.declared.judging.Judging.{Judging}
-use Rattle.spv_commands.specs.Part.{IsPart, IsUnread, Known, told_line, unread_line, unread_text}
+use Rattle.spv_commands.specs.Part.{IsPart, IsUnread, Known, told_line, unread_text}
 use Rattle.spv_commands.specs.Name.{label, shown_byte}
 use Rattle.spv_commands.specs.inner.Progress.{HasGot, WritesOn}
 use Rattle.spv_commands.specs.declared.judging.Part.{Part}

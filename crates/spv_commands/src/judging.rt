@@ -2,14 +2,14 @@
 ghost use Rattle.std.specs.Prelude.{◌≡◌, ◌⊎◌, ◌↔◌, ◌≤◌, [], Some, None, IfErr, IfOk, IsErrOf, IsTrue};
 ghost use Rattle.spv_check.specs.declared.verdict_line.Judgment.TheVariants.{Valid};
 ghost use Rattle.spv_commands.specs.Task.{DoesTask, reach_of, taken};
-ghost use Rattle.spv_commands.specs.Part.{IsAnswerOf, IsPart, IsUnread, Judges, heading, told_line, unread_line};
-ghost use Rattle.spv_commands.specs.Part.{unread_text};
+ghost use Rattle.spv_commands.specs.Part.{IsAnswerOf, IsPart, IsUnread, Judges, heading, told_line, unread_text};
 ghost use Rattle.spv_commands.specs.Name.{label};
 ghost use Rattle.spv_commands.specs.inner.Progress.{Adds};
 ghost use Rattle.spv_explain.specs.declared.answers.Unread.TheVariants.{File, Memory};
 
 use crate::asked::{detail_by, reach_by};
 use crate::name::write_label;
+use crate::trouble::{Trouble, trouble_line};
 use crate::writing::write_on;
 use spv_command_line::Task;
 use spv_explain::{Answer, Detail, Unread, check_json, error_json, explain_json, explain_stream};
@@ -257,16 +257,6 @@ pub fn judge_file(
     }
 }
 
-/// Why a file was not judged, as a line.
-fn line_of(why: Unread) -> &'static [u8]
-    ensures { result.now ≡ unread_line why }
-{
-    match why {
-        Unread::File => b"error file\n",
-        Unread::Memory => b"error memory\n",
-    }
-}
-
 /// Tells why a file was not judged, if it was not, where no write failed before: whether none has. It takes no memory.
 pub fn tell<E: Sink>(name: &str, unread: Option<Unread>, sound: bool, err: &mut E) -> bool
     ensures { Adds E.contents E.failures err.old err.new sound (told_line name.now unread) result }
@@ -274,7 +264,7 @@ pub fn tell<E: Sink>(name: &str, unread: Option<Unread>, sound: bool, err: &mut 
     match unread {
         Some(why) => {
             let heard = write_label(name, sound, err);
-            write_on(line_of(why), heard, err)
+            write_on(trouble_line(Trouble::from(why)), heard, err)
         }
         None => sound,
     }
