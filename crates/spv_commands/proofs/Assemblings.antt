@@ -1,10 +1,8 @@
 -- What a text is assembled to.
-use Rattle.std.proofs.Common.{◌≡◌, ◌<◌, ◌*◌, ◌≤◌, ◌++◌, ℕ, List, [], ◌∷◌, Option, Some, None, Bool, true, false, IfSome}
-use Rattle.std.proofs.Common.{◌≢◌, IsUtf8, codes, length, slice_get, take, ap, sym, subst, refl, inr, arith, lit≤}
+use Rattle.std.proofs.Common.{◌≡◌, ◌<◌, ◌++◌, ℕ, List, [], ◌∷◌, Option, Some, Bool, true, false, IfSome}
+use Rattle.std.proofs.Common.{◌≢◌, IsUtf8, codes, slice_get, ap, sym, refl, inr, arith, lit≤}
 use Rattle.std.proofs.lemmas.Fmt.{decimal_digit}
-use Rattle.std.specs.Io.KnownBytes.{Appends, Consumes, IsAtEnd}
-use Rattle.std.proofs.KnownBytes.{Keeps-refl}
-use Rattle.spv_words.specs.Streams.{HoldsBytes}
+use Rattle.std.specs.Io.KnownBytes.{Consumes, IsAtEnd}
 use Rattle.spv_words.proofs.Gathered.{ends}
 use Rattle.spv_words.specs.declared.words.Order.{Order}
 use Rattle.spv_table.specs.Table.{Table}
@@ -16,7 +14,6 @@ use Rattle.spv_lines.specs.declared.asm_error.AsmCode.TheVariants.{S1, S2, S3, S
 use Rattle.spv_lines.specs.Fault.{IsAsmFailure}
 use Rattle.spv_commands.specs.Assemble.{Assembles, BeginsAssembling, IsFaultOf, IsImageOf, TellsFault, alone}
 use Rattle.spv_commands.specs.Assemble.{text_fault_line}
-use Rattle.spv_commands.specs.Trouble.{BeginsWith}
 use Rattle.spv_check.specs.Verdict.{line_end}
 
 -- a fault that is no want of memory is one of the text

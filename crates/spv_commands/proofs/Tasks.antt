@@ -15,16 +15,16 @@ use Rattle.spv_commands.specs.Example.{answer_of, empty_grammar}
 use Rattle.spv_commands.specs.Show.{BeginsShowing, IsShowing, Shows}
 use Rattle.spv_explain.specs.Lines.{refused_text}
 use Rattle.spv_explain.specs.Stream.{BeginsExplaining, Explains}
-use Rattle.spv_check.specs.Stream.{Begins, TellsVerdict}
+use Rattle.spv_check.specs.Stream.{TellsVerdict}
 use Rattle.spv_check.specs.Verdict.{IsVerdict}
 use Rattle.spv_check.proofs.Verdicts.{refused_is_not_valid}
 use Rattle.spv_commands.specs.Task.{DoesByText, MakesNothing, ReadsNoFile, WritesGrammar, detail_of, reach_of, taken}
 use Rattle.spv_commands.specs.Task.{view_of}
-use Rattle.spv_views.specs.View.{BeginsViewing, Views}
+use Rattle.spv_views.specs.View.{Views}
 use Rattle.spv_views.specs.declared.view.View.{View}
 use Rattle.spv_views.specs.declared.view.View.TheVariants as view
 use Rattle.spv_fault_lines.specs.declared.fact.Detail.{Detail}
-use Rattle.spv_commands.specs.Trace.{BeginsTracing, Traces}
+use Rattle.spv_commands.specs.Trace.{Traces}
 use Rattle.spv_builtin.specs.Source.{IsTableOf}
 use Rattle.spv_builtin.specs.Text.{IsGrammarText}
 use Rattle.spv_check.specs.Verdict.{line_end, refused_line}

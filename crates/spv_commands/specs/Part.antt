@@ -15,7 +15,7 @@ use Rattle.spv_explain.specs.declared.answers.Unread.TheVariants.{File, Memory}
 use Rattle.spv_commands.specs.declared.judging.Judging.{Judging}
 use Rattle.spv_commands.specs.declared.judging.Part.{Part}
 use Rattle.spv_commands.specs.declared.judging.Telling.{Telling}
-use Rattle.spv_commands.specs.declared.judging.Telling.TheVariants.{Bare, Named, Json}
+use Rattle.spv_commands.specs.declared.judging.Telling.TheVariants.{Named, Json}
 use Rattle.spv_commands.specs.Name.{label}
 
 -- what a file holds, where it is known: its bytes, or none where it does not open or a read of it fails

@@ -1,5 +1,5 @@
 -- What a command does, by the text of its grammar file, or by the built-in grammar (own).
-use Rattle.std.specs.Prelude.{◌≡◌, ℕ, List, Option, Some, None, Bool, true, false, IfSome, IsUtf8, option_map, if◌then◌else◌}
+use Rattle.std.specs.Prelude.{◌≡◌, ℕ, List, Option, Bool, true, false, IfSome, IsUtf8, option_map, if◌then◌else◌}
 use Rattle.std.specs.Borrow.{Bor}
 use Rattle.std.specs.Io.KnownBytes.{Appends}
 use Rattle.spv_table.specs.Table.{Table}

@@ -23,14 +23,10 @@ use Rattle.spv_commands.specs.Show.{BeginsShowing, Shows}
 use Rattle.spv_commands.specs.Task.{Does, detail_of, reach_of, view_of}
 use Rattle.spv_commands.specs.Trace.{BeginsTracing, Traces}
 use Rattle.spv_commands.specs.Trouble.{BeginsWith}
+use Rattle.spv_commands.proofs.Carried.{CarriesOne, carry_explained, carry_verdict, grown, held_by}
 use Rattle.spv_streams.specs.Begin.{BeginsToDo}
 
--- What a writer that held nothing gets, one that held something gets behind that; and after a failed write it has got a
--- beginning.
-abbrev pub CarriesOne : (List ℕ → List ℕ → Option (List ℕ) → Bool → Type 0) → Type 0
-CarriesOne W = (bytes o old : List ℕ) (new : Option (List ℕ)) (b : Bool) → W bytes [] (Some o) b
-    → new ≡ Some (old ++ o) → W bytes old new b
-
+-- After a failed write a writer has got a beginning of what one that held nothing would get.
 abbrev pub BeginsOne : (List ℕ → List ℕ → Option (List ℕ) → Bool → Type 0)
     → (List ℕ → List ℕ → Option (List ℕ) → Type 0) → Type 0
 BeginsOne W B = (bytes o old : List ℕ) (new : Option (List ℕ)) (b : Bool) → W bytes [] (Some o) b
@@ -52,27 +48,11 @@ BeginsBoth W B = (bytes o m : List ℕ) (b : Bool) (old new held kept : Option (
 
 -- ---- what is known
 
-abbrev held_by : Option (List ℕ) → List ℕ
-held_by None = []
-held_by (Some xs) = xs
-
-grown : (o line old : List ℕ) (new : Option (List ℕ)) → Some o ≡ Some line → new ≡ Some (old ++ o)
-    → new ≡ Some (old ++ line)
-grown o line old new e w = w ∙ ap (λ (s : Option (List ℕ)). Some (old ++ held_by s)) e
-
 begun : (o line old : List ℕ) (new : Option (List ℕ)) → Some o ≡ Some line → BeginsWith o old new
     → BeginsWith line old new
 begun o line old new e b = subst (λ (l : List ℕ). BeginsWith l old new) (ap held_by e) b
 
 -- ---- one writer
-
-carry_verdict : (G : Table) (reach : Reach) → CarriesOne (TellsVerdict G reach)
-carry_verdict G reach bytes o old new b h w = record {
-  line = h.line;
-  verdict = h.verdict;
-  written = grown o h.line old new h.written w;
-  answered = h.answered;
-}
 
 begin_verdict : (G : Table) (reach : Reach) → BeginsOne (TellsVerdict G reach) (Begins G reach)
 begin_verdict G reach bytes o old new b h w =
@@ -84,18 +64,6 @@ begin_verdict G reach bytes o old new b h w =
       fits = front.fits;
       written = front.written;
     }
-
-carry_explained : (d : Detail) (G : Table) (reach : Reach) → CarriesOne (Explains d G reach)
-carry_explained d G reach bytes o old new b h w = record {
-  line = h.line;
-  lines = h.lines;
-  verdict = h.verdict;
-  explain = h.explain;
-  dead = h.dead;
-  others = h.others;
-  written = grown o (h.line ++ h.lines) old new h.written w;
-  answered = h.answered;
-}
 
 begin_explained : (d : Detail) (G : Table) (reach : Reach) → BeginsOne (Explains d G reach) (BeginsExplaining d G reach)
 begin_explained d G reach bytes o old new b h w =

@@ -18,7 +18,8 @@ use Rattle.spv_commands.specs.declared.trouble.Trouble.TheVariants.{File}
 use Rattle.spv_streams.specs.Begin.{BeginsToDo}
 use Rattle.spv_streams.specs.inner.Ending.{EndsByTable, IsReason}
 use Rattle.spv_streams.specs.inner.Put.{GivesBoth, IsPut, IsWritten}
-use Rattle.spv_streams.proofs.Carries.{BeginsBoth, BeginsOne, CarriesBoth, CarriesOne, begin_does, carry_does}
+use Rattle.spv_commands.proofs.Carried.{CarriesOne}
+use Rattle.spv_streams.proofs.Carries.{BeginsBoth, BeginsOne, CarriesBoth, begin_does, carry_does}
 use Rattle.spv_streams.proofs.Replies.{any_bytes, some_by}
 
 begun_as : (old new : Option (List ℕ)) (text : List ℕ)
