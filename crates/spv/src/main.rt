@@ -19,7 +19,7 @@ use std::process::ExitCode;
 use why::{AtHand, Why};
 use words::{
     grammar_of_environment, is_verbose_by_environment, push_texts, push_words, settle_color,
-    show_text, tell_use,
+    settle_task, show_text, tell_use,
 };
 use writing::{report_why, write_answer};
 
@@ -199,6 +199,7 @@ fn with_texts<'a>(
                 }
             }
             settle_color(rt, &mut command);
+            settle_task(&mut command);
             with_command(rt, why, &command)
         }
         Err(UseError::NoCommand) => Err(Trouble::Use),

@@ -5,6 +5,7 @@ use Rattle.std.specs.Prelude.{string_bytes}
 use Rattle.spv_words.specs.Header.{IsFirstBroken, IsModule}
 use Rattle.spv_words.specs.declared.words.Order.{Order}
 use Rattle.spv_words.specs.declared.words.WordError.{WordError}
+use Rattle.spv_words.specs.declared.words.WordError.TheVariants.{W8}
 use Rattle.spv_table.specs.Table.{Table}
 use Rattle.spv_extended.specs.declared.reach.Reach.{Reach}
 use Rattle.spv_builtin.specs.Source.{IsTableOf, breaks}
@@ -20,6 +21,7 @@ use Rattle.spv_explain.specs.Stream.{Explains, IsExplanation}
 use Rattle.spv_explain.specs.declared.stream.Explanation.{Explanation}
 use Rattle.spv_views.specs.View.{IsViewing, Views}
 use Rattle.spv_views.specs.declared.view.View.{View}
+use Rattle.spv_views.specs.declared.view.View.TheVariants as views
 use Rattle.spv_views.proofs.Viewings.{no_words}
 use Rattle.spv_command_line.specs.declared.command_line.Command.{Command}
 use Rattle.spv_commands.specs.Answer.{Answers, IsRefusal, grammar, done, told, refused, no_text, no_entry, no_function}
@@ -28,16 +30,20 @@ use Rattle.spv_commands.specs.Answer.{memory, several, unread}
 use Rattle.spv_rules.specs.declared.errors.AnyCode.{AnyCode}
 use Rattle.spv_command_line.specs.declared.command_line.Command.TheVariants.{Judge, Show, Asm, Trace, Rules}
 use Rattle.spv_command_line.specs.declared.command_line.Command.TheVariants.{Grammar as GrammarOf, Annotate, Graph}
+use Rattle.spv_command_line.specs.declared.command_line.Task.TheVariants as tasks
 use Rattle.spv_words.specs.Streams.{HoldsBytes}
 use Rattle.spv_commands.specs.Assemble.{Assembles, IsFaultOf, IsImageOf}
 use Rattle.spv_commands.specs.Output.{is_done, made_of, out_of, status_of, written_err, written_made, written_out}
 use Rattle.spv_commands.specs.Show.{IsShowing, Shows}
-use Rattle.spv_commands.specs.Task.{IsAmbiguous, IsNoText, LacksAsked, LacksEntry, WritesRules, taken_by}
+use Rattle.spv_commands.specs.Task.{IsAmbiguous, IsNoText, LacksAsked, LacksEntry, WritesRules, detail_of, reach_of}
+use Rattle.spv_commands.specs.Task.{taken_by, view_of}
 use Rattle.spv_commands.specs.Trace.{IsTracing, Traces}
 use Rattle.spv_commands.specs.Trouble.{grammar_text, trouble_text, unread_trouble}
 use Rattle.spv_commands.specs.inner.Answered.{Gives, IsAnswerBy, IsUnreadAnswer, WhyNot}
-use Rattle.spv_commands.specs.declared.answering.Reply.{Reply}
-use Rattle.spv_commands.specs.declared.answering.Reply.TheVariants.{Done, Fault, Made}
+use Rattle.spv_commands.specs.inner.Asked.{is_explaining, reads_of}
+use Rattle.spv_commands.specs.declared.asked.Reads.TheVariants.{Module, Nothing, Text}
+use Rattle.spv_commands.specs.declared.replying.Reply.{Reply}
+use Rattle.spv_commands.specs.declared.replying.Reply.TheVariants.{Done, Fault, Made}
 use Rattle.spv_explain.specs.declared.answers.Unread.{Unread}
 use Rattle.spv_explain.specs.declared.answers.Unread.TheVariants as why
 use Rattle.spv_commands.specs.declared.trouble.Trouble.{Trouble}
@@ -121,6 +127,43 @@ pub views_refused : (how : View) (G : Table) (function : Option Chosen) (bytes :
 views_refused how G function bytes code never h =
     views_it how G function bytes (refused_line code) false
     (IsViewing.judged (refused_line code) (no_words how G bytes code function never h) (IsVerdict.refused code h))
+
+-- what is told of a module that is too long: the line of its code, or that line and those that explain it
+pub too_long_line : ((e : WordError) (o : Order) (bs ws : List ℕ) → IsModule o bs ws → ¬ IsFirstBroken e bs)
+    → (command : Command) (G : Table) (bytes : List ℕ) (a : Reply) → is_explaining command ≡ false
+    → reads_of command ≡ Module → IsFirstBroken W8 bytes
+    → out_of a ≡ refused_line W8 → made_of a ≡ [] → is_done a ≡ false → IsAnswerBy command G bytes a
+too_long_line never (Judge tasks.Check g fs v e p q j) G bytes a x r h o m d =
+    (rw (o, d) (tells_refused G (reach_of e) bytes W8 h), λ _. m)
+too_long_line never (Judge (tasks.Explain full) g fs v e p q j) G bytes a x r h o m d =
+    let never_explains : true ≡ false = x in cc
+too_long_line never (Show g f v) G bytes a x r h o m d =
+    (rw (o, d) (shows_it G bytes (refused_line W8) false (IsShowing.refused W8 h)), λ _. m)
+too_long_line never (Asm g f out b explain) G bytes a x r h o m d = let no_module : Text ≡ Module = r in cc
+too_long_line never (Trace g f id choices limit v e) G bytes a x r h o m d =
+    (rw (o, d) (traces_refused G (reach_of e) id choices.items limit bytes W8 h), λ _. m)
+too_long_line never (Annotate g f v id form color) G bytes a x r h o m d =
+    (rw (o, d) (views_refused (view_of form color f) G id bytes W8 never h), λ _. m)
+too_long_line never (Graph g f v id) G bytes a x r h o m d =
+    (rw (o, d) (views_refused views.Graph G id bytes W8 never h), λ _. m)
+too_long_line never (Rules code j) G bytes a x r h o m d = let no_module : Nothing ≡ Module = r in cc
+too_long_line never (GrammarOf f) G bytes a x r h o m d = let no_module : Nothing ≡ Module = r in cc
+
+pub too_long_explained : (command : Command) (G : Table) (bytes : List ℕ) (r : Result Reply Trouble)
+    → is_explaining command ≡ true
+    → ((detail : Detail) (reach : Reach) → IfOk r (Gives (Explains detail G reach) bytes))
+    → IfOk r (IsAnswerBy command G bytes)
+too_long_explained command G bytes (Err t) x w = tt
+too_long_explained (Judge tasks.Check g fs v e p q j) G bytes (Ok a) x w = let no : false ≡ true = x in cc
+too_long_explained (Judge (tasks.Explain full) g fs v e p q j) G bytes (Ok a) x w =
+    let given = w (detail_of full) (reach_of e) in (given.0, λ _. given.1)
+too_long_explained (Show g f v) G bytes (Ok a) x w = let no : false ≡ true = x in cc
+too_long_explained (Asm g f out b explain) G bytes (Ok a) x w = let no : false ≡ true = x in cc
+too_long_explained (Trace g f id choices limit v e) G bytes (Ok a) x w = let no : false ≡ true = x in cc
+too_long_explained (Annotate g f v id form color) G bytes (Ok a) x w = let no : false ≡ true = x in cc
+too_long_explained (Graph g f v id) G bytes (Ok a) x w = let no : false ≡ true = x in cc
+too_long_explained (Rules code j) G bytes (Ok a) x w = let no : false ≡ true = x in cc
+too_long_explained (GrammarOf f) G bytes (Ok a) x w = let no : false ≡ true = x in cc
 
 -- memory is a reason for every command
 pub for_memory : (command : Command) (G : Table) (bytes : List ℕ) (r : Result Reply Trouble) → IfErr r (λ t. t ≡ Memory)

@@ -1,9 +1,6 @@
 -- What is traced of bytes that were read.
-use Rattle.std.proofs.Common.{◌≡◌, ◌⊎◌, ◌↔◌, ◌≤◌, ◌++◌, ℕ, List, [], ◌∷◌, Option, Some, None, Result, Ok, Err}
-use Rattle.std.proofs.Common.{IfSome, IfOk, IfErr, IsErrOf, Bool, true, false, length, take, ap, refl, inl, inr, codes}
-use Rattle.std.proofs.Common.{lit≤}
-use Rattle.std.specs.Io.KnownBytes.{Appends}
-use Rattle.spv_words.specs.Header.{IsFirstBroken, IsModule, RefusesBytes}
+use Rattle.std.proofs.Common.{◌≡◌, ◌⊎◌, ◌++◌, ℕ, List, [], ◌∷◌, Some, Ok, Bool, true, false, refl, inl, inr, codes, lit≤}
+use Rattle.spv_words.specs.Header.{IsFirstBroken, IsModule}
 use Rattle.spv_words.specs.declared.words.Order.{Order}
 use Rattle.spv_words.specs.declared.words.WordError.{WordError}
 use Rattle.spv_words.specs.declared.words.WordError.TheVariants as word
@@ -31,59 +28,15 @@ use Rattle.spv_names.specs.Chosen.{IsChosen}
 use Rattle.spv_names.specs.declared.chosen.Chosen.{Chosen}
 use Rattle.spv_commands.specs.Trace.{BeginsTracing, HasNoEntry, HasSeveral, IsProgram, IsTracing, Traces, judged, traced}
 use Rattle.spv_commands.specs.Trace.{trace_text}
-use Rattle.spv_commands.specs.inner.Traced.{WhyNotChosen, is_run, output_of, traced_refusal, traced_stop}
+use Rattle.spv_commands.specs.inner.Traced.{WhyNotChosen, traced_stop}
 use Rattle.spv_commands.specs.declared.trouble.Trouble.{Trouble}
 use Rattle.spv_commands.specs.declared.trouble.Trouble.TheVariants as trouble
-use Rattle.spv_commands.specs.declared.tracing.Traced.{Traced}
 
 refused_line_written : (G : Table) (reach : Reach) (function : Chosen) (choices : List ℕ) (limit : ℕ) (bytes : List ℕ)
     (code : WordError) → IsFirstBroken code bytes
     → IsTracing G reach function choices limit bytes (refused_line code) false
 refused_line_written G reach function choices limit bytes code h =
     judged (refused_line code) (IsVerdict.refused code h) (λ e. refused_is_not_valid code e)
-
--- a code that was read
-pub refused_bytes : (G : Table) (reach : Reach) (function : Chosen) (choices : List ℕ) (limit : ℕ) (known : Option (List ℕ))
-    (code : WordError) → IfSome known (λ xs. RefusesBytes code xs)
-    → IfSome known (λ xs. IfOk (traced_refusal code)
-    (λ t. IsTracing G reach function choices limit xs (output_of t) (is_run t)))
-refused_bytes G reach function choices limit None code h = tt
-refused_bytes G reach function choices limit (Some xs) word.W1 h = tt
-refused_bytes G reach function choices limit (Some xs) word.W9 h = tt
-refused_bytes G reach function choices limit (Some xs) word.W2 h =
-    refused_line_written G reach function choices limit xs word.W2 h
-refused_bytes G reach function choices limit (Some xs) word.W3 h =
-    refused_line_written G reach function choices limit xs word.W3 h
-refused_bytes G reach function choices limit (Some xs) word.W4 h =
-    refused_line_written G reach function choices limit xs word.W4 h
-refused_bytes G reach function choices limit (Some xs) word.W5 h =
-    refused_line_written G reach function choices limit xs word.W5 h
-refused_bytes G reach function choices limit (Some xs) word.W6 h =
-    refused_line_written G reach function choices limit xs word.W6 h
-refused_bytes G reach function choices limit (Some xs) word.W7 h =
-    refused_line_written G reach function choices limit xs word.W7 h
-refused_bytes G reach function choices limit (Some xs) word.W8 h =
-    refused_line_written G reach function choices limit xs word.W8 h
-
-pub refused_only : (P Q : Type 0) (code : WordError)
-    → IfErr (traced_refusal code) (λ t. (t ≡ trouble.File) ⊎ ((t ≡ trouble.NoEntry) × P)
-    ⊎ ((t ≡ trouble.SeveralFunctions) × Q) ⊎ (t ≡ trouble.Memory))
-refused_only P Q word.W1 = inl refl
-refused_only P Q word.W9 = inr (inr (inr refl))
-refused_only P Q word.W2 = tt
-refused_only P Q word.W3 = tt
-refused_only P Q word.W4 = tt
-refused_only P Q word.W5 = tt
-refused_only P Q word.W6 = tt
-refused_only P Q word.W7 = tt
-refused_only P Q word.W8 = tt
-
--- W1 is told where it was read
-pub refused_count : {X : Type 0} (P : Type 0) (code : WordError) (r : Result X WordError) → r ≡ Err code
-    → (P ↔ IsErrOf r word.W1) → (P ↔ IsErrOf (traced_refusal code) trouble.File)
-refused_count P word.W1 r q h = (λ p. refl, λ e. h.1 q)
-refused_count P word.W9 r q h = (λ p. let e = h.0 p in cc, λ e. cc)
-refused_count P code r q h = (λ p. let e = h.0 p in cc, λ e. cc)
 
 -- the line of words that are no valid module
 pub fault_traced : (G : Table) (reach : Reach) (function : Chosen) (choices : List ℕ) (limit : ℕ) (bytes words : List ℕ)
@@ -166,74 +119,6 @@ only_two is function trouble.File k = absurd k
 only_two is function trouble.NotText k = absurd k
 only_two is function trouble.Memory k = absurd k
 only_two is function (trouble.Grammar e) k = absurd k
-
--- what is written of the words that were read
-pub known_tracing : (G : Table) (reach : Reach) (function : Chosen) (choices : List ℕ) (limit : ℕ) (known : Option (List ℕ))
-    (words : List ℕ) (order : Order) (r : Result Traced Trouble)
-    → IfSome known (λ xs. IsModule order xs words)
-    → ((bytes : List ℕ) (o : Order) → IsModule o bytes words
-    → IfOk r (λ t. IsTracing G reach function choices limit bytes (output_of t) (is_run t)))
-    → IfSome known (λ xs. IfOk r (λ t. IsTracing G reach function choices limit xs (output_of t) (is_run t)))
-known_tracing G reach function choices limit None words order r h v = tt
-known_tracing G reach function choices limit (Some xs) words order r h v = v xs order h
-
-known_reason : (Q : List ℕ → Type 0) (known : Option (List ℕ)) (words : List ℕ)
-    (order : Order) (P : Type 0) → IfSome known (λ xs. IsModule order xs words)
-    → ((bytes : List ℕ) (o : Order) → IsModule o bytes words → P → Q bytes) → P → IfSome known Q
-known_reason Q None words order P h v p = tt
-known_reason Q (Some xs) words order P h v p = v xs order h p
-
-abbrev failing : Trouble → Result Traced Trouble
-failing t = Err t
-
-pub known_only : (G : Table) (reach : Reach) (function : Chosen) (known : Option (List ℕ)) (words : List ℕ) (order : Order)
-    (r : Result Traced Trouble)
-    → IfSome known (λ xs. IsModule order xs words)
-    → ((bytes : List ℕ) (o : Order) → IsModule o bytes words → IsErrOf r trouble.NoEntry
-    → HasNoEntry G reach bytes function)
-    → ((bytes : List ℕ) (o : Order) → IsModule o bytes words → IsErrOf r trouble.SeveralFunctions
-    → HasSeveral G reach bytes function)
-    → IfErr r (λ t. (t ≡ trouble.NoEntry) ⊎ (t ≡ trouble.SeveralFunctions) ⊎ (t ≡ trouble.Memory))
-    → IfErr r (λ t. (t ≡ trouble.File) ⊎ ((t ≡ trouble.NoEntry)
-    × IfSome known (λ bytes. HasNoEntry G reach bytes function)) ⊎ ((t ≡ trouble.SeveralFunctions)
-    × IfSome known (λ bytes. HasSeveral G reach bytes function)) ⊎ (t ≡ trouble.Memory))
-known_only G reach function known words order (Ok t) h v w o = tt
-known_only G reach function known words order (Err t) h v w (inl e) =
-    inr (inl (
-      e,
-      known_reason (λ bytes. HasNoEntry G reach bytes function) known words order
-          (IsErrOf (failing t) trouble.NoEntry) h v (ap failing e),
-    ))
-known_only G reach function known words order (Err t) h v w (inr (inl e)) =
-    inr (inr (inl (
-      e,
-      known_reason (λ bytes. HasSeveral G reach bytes function) known words order
-          (IsErrOf (failing t) trouble.SeveralFunctions) h w (ap failing e),
-    )))
-known_only G reach function known words order (Err t) h v w (inr (inr e)) = inr (inr (inr e))
-
--- it was written whole
-pub traces : (G : Table) (reach : Reach) (function : Chosen) (choices : List ℕ) (limit : ℕ)
-    (known kept new : Option (List ℕ)) (t : Traced) (answer : Bool)
-    → IfSome known (λ bs. IsTracing G reach function choices limit bs (output_of t) (is_run t)) → answer ≡ is_run t
-    → Appends kept new (output_of t)
-    → IfSome known (λ bs. IfSome kept (λ old. Traces G reach function choices limit bs old new answer))
-traces G reach function choices limit None kept new t answer h e w = tt
-traces G reach function choices limit (Some bs) None new t answer h e w = tt
-traces G reach function choices limit (Some bs) (Some old) None t answer h e w = absurd w
-traces G reach function choices limit (Some bs) (Some old) (Some xs) t answer h e w =
-    record { output = output_of t; tracing = rw e h; written = ap Some w }
-
--- a beginning of it was
-pub begins_tracing : (G : Table) (reach : Reach) (function : Chosen) (choices : List ℕ) (limit : ℕ)
-    (known kept new : Option (List ℕ)) (t : Traced)
-    → IfSome known (λ bs. IsTracing G reach function choices limit bs (output_of t) (is_run t))
-    → IfSome kept (λ xs. (n : ℕ) × (n ≤ length (output_of t)) × (new ≡ Some (xs ++ take n (output_of t))))
-    → IfSome known (λ bs. IfSome kept (λ old. BeginsTracing G reach function choices limit bs old new))
-begins_tracing G reach function choices limit None kept new t h w = tt
-begins_tracing G reach function choices limit (Some bs) None new t h w = tt
-begins_tracing G reach function choices limit (Some bs) (Some old) new t h w =
-    record { output = output_of t; answer = is_run t; tracing = h; count = w.0; fits = w.1; written = w.2 }
 
 -- three bytes are no module, and have no run
 pub short_traced : (G : Table) (reach : Reach) (function : Chosen) (choices : List ℕ) (limit : ℕ)

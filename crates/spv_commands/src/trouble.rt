@@ -74,8 +74,8 @@ impl From<Unread> for Trouble {
     }
 }
 
-/// The line that tells a trouble.
-fn trouble_line(trouble: Trouble) -> &'static [u8]
+/// The line that tells a trouble, its line feed included.
+pub fn trouble_line(trouble: Trouble) -> &'static [u8]
     ensures { result.now ≡ trouble_text trouble }
 {
     match trouble {

@@ -4,7 +4,7 @@ use Rattle.spv_table.specs.Table.{Table}
 use Rattle.spv_command_line.specs.declared.command_line.Command.{Command}
 use Rattle.spv_commands.specs.Output.{is_done, made_of, out_of}
 use Rattle.spv_commands.specs.Task.{Does, IsAmbiguous, IsNoText, LacksAsked, LacksEntry, MakesNothing}
-use Rattle.spv_commands.specs.declared.answering.Reply.{Reply}
+use Rattle.spv_commands.specs.declared.replying.Reply.{Reply}
 use Rattle.spv_commands.specs.declared.trouble.Trouble.{Trouble}
 use Rattle.spv_commands.specs.declared.trouble.Trouble.TheVariants.{Memory, NoEntry, NoFunction, NotText, SeveralFunctions}
 

@@ -9,18 +9,21 @@ use Rattle.spv_commands.specs.Task.{LacksAsked, LacksAskedByText, LacksEntryByTe
 use Rattle.spv_commands.specs.Trouble.{trouble_text}
 use Rattle.spv_streams.specs.Begin.{BeginsByText, BeginsToDo}
 use Rattle.spv_streams.specs.Run.{IsErrorLine}
-use Rattle.spv_words.specs.declared.words.WordError.{WordError}
-use Rattle.spv_words.specs.declared.words.WordError.TheVariants.{W9}
 use Rattle.spv_commands.specs.declared.trouble.Trouble.{Trouble}
-use Rattle.spv_commands.specs.declared.trouble.Trouble.TheVariants.{File, Memory, NoEntry, NoFunction, NotText, SeveralFunctions}
+use Rattle.spv_commands.specs.declared.trouble.Trouble.TheVariants.{File, Memory, NoEntry, NoFunction, NotText}
+use Rattle.spv_commands.specs.declared.trouble.Trouble.TheVariants.{SeveralFunctions}
+
+-- why a command does nothing by a table, of a file that has these bytes, if they are known
+abbrev pub IsReason : Command → Table → Option (List ℕ) → Trouble → Type 0
+IsReason command G left t = (t ≡ File) ⊎ ((t ≡ NotText) × IsNoText command left)
+    ⊎ ((t ≡ NoEntry) × LacksEntry command G left) ⊎ ((t ≡ NoFunction) × LacksAsked command G left)
+    ⊎ ((t ≡ SeveralFunctions) × IsAmbiguous command G left) ⊎ (t ≡ Memory)
 
 -- By a table.
 pub record EndsByTable (command : Command) (G : Table) (file : Reading) (out made : Writing)
     (result : Result Bool Trouble) : Type 0 where
   pub ends : IsDone (Does command G) (BeginsToDo command G) File file out made result
-  pub only : IfErr result (λ t. (t ≡ File) ⊎ ((t ≡ NotText) × IsNoText command file.left) ⊎ ((t ≡ NoEntry) × LacksEntry command G file.left)
-      ⊎ ((t ≡ NoFunction) × LacksAsked command G file.left)
-      ⊎ ((t ≡ SeveralFunctions) × IsAmbiguous command G file.left) ⊎ (t ≡ Memory))
+  pub only : IfErr result (IsReason command G file.left)
 
 -- the file as the command takes its bytes
 abbrev pub reading_by : Command → Reading → Reading
@@ -43,8 +46,3 @@ pub record EndsUnread (Whole Begun : Option (List ℕ) → Option (List ℕ) →
   pub only : IfErr result (λ t. (t ≡ File) ⊎ (t ≡ Memory))
   pub unwritten : IsErr result → out.untouched
   pub begun : out.failed → Begun out.held out.holds
-
--- what an error of a check of a stream is told as
-abbrev pub trouble_from : WordError → Trouble
-trouble_from W9 = Memory
-trouble_from _ = File
