@@ -112,6 +112,22 @@ fn leave_made(rt: &HostRuntime, why: &Why<'_>, command: &Command<'_>, status: u8
     }
 }
 
+/// Tells a trouble, where there was one, and leaves the file that was to be made: the exit status.
+fn status_after(
+    rt: &HostRuntime,
+    why: &Why<'_>,
+    command: &Command<'_>,
+    written: Result<u8, Trouble>,
+    at_hand: AtHand<'_, '_>,
+) -> u8 {
+    let status = match written {
+        Ok(status) => status,
+        Err(trouble) => report_why(rt, why, trouble, at_hand),
+    };
+    leave_made(rt, why, command, status);
+    status
+}
+
 /// Reads the file of a command, answers it, and writes that: the exit status.
 fn answer_one<'a>(
     rt: &HostRuntime,
@@ -130,15 +146,10 @@ fn answer_one<'a>(
         },
     };
     let written = match answer(rt.alloc(), command, grammar, file) {
-        Ok(answer) => write_answer(rt, why, command, &answer),
+        Ok(reply) => write_answer(rt, why, command, &reply),
         Err(trouble) => Err(trouble),
     };
-    let status = match written {
-        Ok(status) => status,
-        Err(trouble) => report_why(rt, why, trouble, at_hand),
-    };
-    leave_made(rt, why, command, status);
-    Ok(status)
+    Ok(status_after(rt, why, command, written, at_hand))
 }
 
 /// Whether a command would write the file that it reads.
