@@ -127,6 +127,29 @@ fn leave_made(rt: &HostRuntime, why: &Why<'_>, command: &Command<'_>, status: u8
     }
 }
 
+/// Tells a trouble, where there was one, and leaves the file that was to be made: the exit status.
+fn status_after(
+    rt: &HostRuntime,
+    why: &Why<'_>,
+    command: &Command<'_>,
+    written: Result<u8, Trouble>,
+    at_hand: AtHand<'_, '_>,
+) -> u8 {
+    let status = match written {
+        Ok(status) => status,
+        Err(trouble) => report_why(rt, why, trouble, at_hand),
+    };
+    leave_made(rt, why, command, status);
+    status
+}
+
+/// Tells what helps behind a fault.
+fn tell_help(rt: &HostRuntime, status: u8, help: Option<String>) {
+    if let (1, Some(help)) = (status, help) {
+        let _ = rt.stderr().write_all(help.as_bytes());
+    }
+}
+
 /// Reads the file of a command, answers it, and writes that: the exit status.
 fn answer_one<'a>(
     rt: &HostRuntime,
@@ -146,17 +169,11 @@ fn answer_one<'a>(
         },
     };
     let written = match answer(rt.alloc(), command, grammar, file) {
-        Ok(answer) => write_answer(rt, why, command, &answer),
+        Ok(reply) => write_answer(rt, why, command, &reply),
         Err(trouble) => Err(trouble),
     };
-    let status = match written {
-        Ok(status) => status,
-        Err(trouble) => report_why(rt, why, trouble, at_hand),
-    };
-    if let (1, Some(help)) = (status, help) {
-        let _ = rt.stderr().write_all(help.as_bytes());
-    }
-    leave_made(rt, why, command, status);
+    let status = status_after(rt, why, command, written, at_hand);
+    tell_help(rt, status, help);
     Ok(status)
 }
 

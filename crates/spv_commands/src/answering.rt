@@ -56,7 +56,8 @@ fn grammar_trouble(error: GrammarError) -> Trouble
 /// `Grammar`: the text is refused. `Memory`: a growth of memory was refused. There is no other.
 pub fn table_in(alloc: Global, grammar: Option<&[u8]>) -> Result<Table, Trouble>
     ensures table { IfOk result (IsTableOf (option_map (λ g. g.now) grammar.entry)) }
-    ensures refused { (command : Command) (file : Option (List ℕ)) → IfErr result (λ t. IsRefusal command (option_map (λ g. g.now) grammar.entry) file (trouble_text t)) }
+    ensures refused { (command : Command) (file : Option (List ℕ)) → IfErr result
+        (λ t. IsRefusal command (option_map (λ g. g.now) grammar.entry) file (trouble_text t)) }
 {
     match table_of(alloc, grammar) {
         Ok(table) => Ok(table),

@@ -58,7 +58,7 @@ fn is_in_color(color: Color) -> bool
 }
 
 /// What `annotate` writes of the file of a name.
-pub fn view_by(form: Form, color: Color, file: &str) -> View<'_>
+fn view_by(form: Form, color: Color, file: &str) -> View<'_>
     ensures { result ≡ view_of form color file.entry }
 {
     match form {
@@ -66,6 +66,21 @@ pub fn view_by(form: Form, color: Color, file: &str) -> View<'_>
             color: is_in_color(color),
         },
         Form::Page => View::Page { title: file },
+    }
+}
+
+/// What a command shows people of its file: a picture, where it is not `annotate`.
+pub fn how_by<'a>(command: &Command<'a>) -> View<'a>
+    ensures { result ≡ asked.how_of command.now }
+{
+    match command {
+        Command::Annotate {
+            file,
+            form,
+            color,
+            ..
+        } => view_by(*form, *color, *file),
+        _ => View::Graph,
     }
 }
 

@@ -24,7 +24,7 @@ ghost use Rattle.spv_commands.specs.declared.asked.Reads.TheVariants.{Module};
 ghost use Rattle.spv_commands.specs.declared.trouble.Trouble.TheVariants.{Memory, NoEntry, NoFunction, NotText};
 ghost use Rattle.spv_commands.specs.declared.trouble.Trouble.TheVariants.{SeveralFunctions};
 
-use crate::asked::{detail_by, is_explaining, order_by, reach_by, rules_bytes, view_by};
+use crate::asked::{detail_by, how_by, is_explaining, order_by, reach_by, rules_bytes};
 use crate::assembling::{Assembly, assembly_of};
 use crate::outgoing::Output;
 use crate::showing::{Shown, shown_of};
@@ -377,15 +377,8 @@ pub fn reply_to(
             let reach = reach_by(*extended);
             traced(alloc, table, reach, *function, choices, *limit, bytes)
         }
-        Command::Annotate {
-            file,
-            function,
-            form,
-            color,
-            ..
-        } => {
-            let how = view_by(*form, *color, *file);
-            viewed(alloc, table, how, *function, bytes)
+        Command::Annotate { function, .. } => {
+            viewed(alloc, table, how_by(command), *function, bytes)
         }
         Command::Graph { function, .. } => viewed(alloc, table, View::Graph, *function, bytes),
         Command::Rules { code, json } => ruled(alloc, *code, *json),

@@ -1,5 +1,5 @@
-//! The commands of `spv` over readers and writers: the run of one, that on several files, which are told by a trait, and
-//! `show`, `trace` and `asm` alone.
+//! The commands of `spv` over readers and writers: the run of one, that on several files, which are told by a trait,
+//! and `show`, `trace` and `asm` alone.
 #![tactic(auto)]
 
 mod assembling;
