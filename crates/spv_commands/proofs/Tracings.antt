@@ -1,5 +1,6 @@
 -- What is traced of bytes that were read.
-use Rattle.std.proofs.Common.{◌≡◌, ◌⊎◌, ◌++◌, ℕ, List, [], ◌∷◌, Some, Ok, Bool, true, false, refl, inl, inr, codes, lit≤}
+use Rattle.std.proofs.Common.{◌≡◌, ◌⊎◌, ◌++◌, ℕ, List, [], ◌∷◌, Some, Ok, Bool, true, false, refl, inl, inr, codes}
+use Rattle.std.proofs.Common.{lit≤}
 use Rattle.spv_words.specs.Header.{IsFirstBroken, IsModule}
 use Rattle.spv_words.specs.declared.words.Order.{Order}
 use Rattle.spv_words.specs.declared.words.WordError.{WordError}
