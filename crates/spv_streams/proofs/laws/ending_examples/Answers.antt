@@ -1,4 +1,4 @@
-use Rattle.std.proofs.Common.{[], refl, inl, inr, arith}
+use Rattle.std.proofs.Common.{refl, inl, inr, arith}
 use Rattle.spv_commands.specs.Trouble.{memory_line}
 use Rattle.spv_streams.specs.Run.{entry, function, memory, several}
 use Rattle.spv_streams.proofs.Worked.{nothing_breaks}
