@@ -10,6 +10,7 @@ import struct
 from functools import lru_cache
 
 from reading.assemble import assembled
+from reading.owners import quoted as in_quotes
 from reading.text import visible
 from reading.verdict import grammar_in
 
@@ -112,12 +113,12 @@ def inst(key):
 
 
 def place(told, whole):
-    """The function, its name if it has one, and the block if it is of one."""
+    """The function, its name in quotes if it has one, and the block if it is of one."""
     key, block = "open" if whole["code"] == "L2" else "in", whole.get("block")
     return [
         f"{key}: function"
         + (f" %{told}" if told is not None else "")
-        + (f" {whole['functionName']}" if "functionName" in whole else "")
+        + (f" {in_quotes(whole['functionName'])}" if "functionName" in whole else "")
         + (f", block %{block}" if block is not None else "")
     ]
 

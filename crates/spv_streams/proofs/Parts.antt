@@ -11,8 +11,7 @@ use Rattle.std.specs.Global.{Global}
 use Rattle.spv_builtin.specs.Source.{IsTableOf, breaks}
 use Rattle.spv_grammar.specs.declared.error.GrammarError.{GrammarError}
 use Rattle.spv_grammar.specs.declared.error.GrammarError.TheVariants.{J1, J2, J3, J4, J5, J6, J7, J8}
-use Rattle.spv_commands.specs.Trouble.{Writes, file_line, grammar_text, trouble_text}
-use Rattle.spv_commands.specs.Trouble.{unread_trouble}
+use Rattle.spv_commands.specs.Trouble.{Writes, file_line, grammar_text, trouble_text, unread_trouble}
 use Rattle.spv_commands.specs.declared.judging.Judging.{Judging}
 use Rattle.spv_commands.specs.Part.{IsPart, IsUnread, Known, told_line, unread_text}
 use Rattle.spv_commands.specs.Name.{label}
