@@ -1,5 +1,5 @@
 -- What is traced, as the code keeps it. (For the code alone.)
-use Rattle.std.specs.Prelude.{ℕ, List, Bool, true, false, Ok, Err}
+use Rattle.std.specs.Prelude.{ℕ, List, Bool, true, false, Err}
 use Rattle.spv_module.specs.Operand.{PlainInst}
 use Rattle.spv_names.specs.Chosen.{IsChosen}
 use Rattle.spv_names.specs.declared.chosen.Chosen.{Chosen}
