@@ -5,6 +5,7 @@ use Rattle.spv_words.specs.declared.words.Order.{Order}
 use Rattle.spv_table.specs.Table.{Table}
 use Rattle.spv_table.specs.declared.error.Memory.{Memory as OutOfMemory}
 use Rattle.spv_module.specs.Operand.{PlainInst}
+use Rattle.spv_module.specs.declared.profile.Profile.TheVariants.{Own}
 use Rattle.spv_extended.specs.declared.reach.Reach.{Reach}
 use Rattle.spv_extended.specs.declared.reach.Reach.TheVariants.{Profile}
 use Rattle.spv_inst.specs.Outcome.{IsDecodeFault, IsHeaderOf}
@@ -23,7 +24,8 @@ use Rattle.spv_check.specs.declared.checked.Verdict.TheVariants.{Valid, Fault}
 use Rattle.spv_module.specs.declared.fault.Rule.{Rule}
 use Rattle.spv_layout.specs.Broken as layout_rules
 use Rattle.spv_layout.specs.First.{IsUnbroken}
-use Rattle.spv_layout.specs.Plan.{IsPlan}
+use Rattle.spv_layout.specs.Plan.{IsPlan, IsLaidOut}
+use Rattle.spv_layout.proofs.Seen.{seen_layout}
 use Rattle.spv_ids.specs.Outcome.{AreIds}
 use Rattle.spv_check.specs.types.Broken as type_rules
 use Rattle.spv_type_rules.specs.roles.Outcome.{AreInRole}
@@ -43,18 +45,17 @@ use Rattle.spv_ids.specs.declared.ids.Ids.{Ids}
 use Rattle.spv_check.specs.declared.flow.Flow.{Flow}
 
 -- what all layers answered of a module
-pub kept_of : (G : Table) (p : Program) (places : List Place) (ids : Ids) (flow : Flow) → IsShort p.insts
-    → IsPlan G p.insts places → AreIds G p.bound p.insts ids
+pub kept_of : (G : Table) (p : Program) (ids : Ids) (flow : Flow) → IsShort p.insts
+    → IsLaidOut Own G p.insts → AreIds G p.bound p.insts ids
     → AreInRole G p.insts
     → ((r : Rule) (n : ℕ) (i : PlainInst) → slice_get p.insts n ≡ Some i → capability_rules.Keeps G p.insts r n i)
     → ((r : Rule) (n : ℕ) (i : PlainInst) → slice_get p.insts n ≡ Some i
     → typing_rules.Keeps (IsTyped G p.insts) p.insts r n i)
     → IsUnbroken (type_rules.Broken G p.insts) stages.of_roles
     × IsUnbroken (type_rules.Broken G p.insts) stages.of_types → IsFlow G p.insts flow → IsKept G p
-kept_of G p places ids flow w a b r c t u f = record {
+kept_of G p ids flow w a b r c t u f = record {
   few = w;
-  fits = a.fits;
-  layout = a.layout;
+  laid_out = a;
   ids = b.unbroken;
   roles = r;
   capabilities = c;
@@ -72,11 +73,11 @@ pub parts_of : (G : Table) (m : Module) (places : List Place) (ids : Ids) (flow 
 parts_of G m places ids flow k a b f =
     record { bound = refl; insts = refl; kept = k; plan = a; numbered = b; flowing = f }
 
-pub before_of : (G : Table) (p : Program) → ((q : Rule) (m : ℕ) → ¬ (layout_rules.Broken G p.insts q m)) → IsKept G p
+pub before_of : (G : Table) (p : Program) → ((q : Rule) (m : ℕ) → ¬ (layout_rules.Broken Own G p.insts q m)) → IsKept G p
     → IsBefore G p.bound p.insts
 before_of G p u k = record { of_layout = u; of_ids = k.ids; of_roles = k.types.0; of_types = k.types.1 }
 
-pub sound_of : (G : Table) (p : Program) → ((q : Rule) (m : ℕ) → ¬ (layout_rules.Broken G p.insts q m)) → IsKept G p
+pub sound_of : (G : Table) (p : Program) → ((q : Rule) (m : ℕ) → ¬ (layout_rules.Broken Own G p.insts q m)) → IsKept G p
     → IsSound G Profile p.bound p.insts
 sound_of G p u k = sound G p.bound p.insts (before_of G p u k) k.branches k.values k.calls
 
@@ -92,7 +93,12 @@ parts_under G H p m places ids flow k a = record {
   bound = a.bound;
   insts = a.insts;
   kept = k;
-  plan = record { fits = k.fits; layout = k.layout; count = a.plan.count; place = a.plan.place };
+  plan = record {
+    fits = λ n i h. (k.laid_out.fits n i h).shape;
+    layout = seen_layout Own p.insts k.laid_out.layout;
+    count = a.plan.count;
+    place = a.plan.place;
+  };
   numbered = record { unbroken = k.ids; each = a.numbered.each };
   flowing = record { branches = k.branches; values = k.values; calls = k.calls; definitions = a.flowing.definitions };
 }

@@ -2,6 +2,7 @@
 use Rattle.std.proofs.Common.{◌≡◌, ◌<◌, ◌≤◌, ◌⊎◌, ℕ, List, refl, inl, inr, arith}
 use Rattle.spv_table.specs.Table.{Table}
 use Rattle.spv_module.specs.Operand.{PlainInst}
+use Rattle.spv_module.specs.declared.profile.Profile.TheVariants.{Own}
 use Rattle.spv_module.specs.declared.fault.Rule.{Rule}
 use Rattle.spv_extended.specs.Broken as extended
 use Rattle.spv_extended.specs.declared.reach.Reach.{Reach}
@@ -9,11 +10,11 @@ use Rattle.spv_extended.specs.declared.reach.Reach.TheVariants.{Profile, Extende
 use Rattle.spv_extended.proofs.Brokens.{of_reach}
 use Rattle.spv_layout.specs.declared.place.Place.{Place}
 use Rattle.spv_layout.specs.DeadPlace.{IsDeadPlace}
-use Rattle.spv_layout.specs.Layout.{IsLayout, classes}
+use Rattle.spv_layout.specs.Layout.{IsLayout, seen_classes}
 use Rattle.spv_layout.specs.First as stage
 use Rattle.spv_layout.specs.First.{stage_of, rank_of, IsUnbroken}
 use Rattle.spv_layout.specs.Broken as layout
-use Rattle.spv_layout.specs.Plan.{IsPlan}
+use Rattle.spv_layout.specs.Plan.{IsLaidOut}
 use Rattle.spv_layout.specs.Plan as plan
 use Rattle.spv_layout.specs.Stage as stages
 use Rattle.spv_ids.specs.Outcome as outcome
@@ -34,10 +35,10 @@ use Rattle.spv_check.proofs.Stages.{types_stage}
 use Rattle.spv_check.specs.Broken.{Broken, Precedes, IsFirstOfAll, IsSound, IsTold}
 
 -- the stages of the rules
-pub layout_stage : (G : Table) (is : List PlainInst) (r : Rule) (n : ℕ) → layout.Broken G is r n
+pub layout_stage : (G : Table) (is : List PlainInst) (r : Rule) (n : ℕ) → layout.Broken Own G is r n
     → (stage_of r ≡ stages.of_profile) ⊎ (stage_of r ≡ stages.of_layout)
 layout_stage G is _ _ (layout.misfit i n h f) = inl refl
-layout_stage G is _ _ (layout.dead r n d) = inr (dead_stage is r n d)
+layout_stage G is _ _ (layout.dead r n d) = inr (dead_stage Own is r n d)
 
 pub ids_stage : (G : Table) (bound : ℕ) (is : List PlainInst) (r : Rule) (n : ℕ) → ids.Broken G bound is r n
     → stage_of r ≡ stages.of_ids
@@ -69,7 +70,7 @@ within r q n m e (inr x) = Precedes.rule e x.0 x.1
 
 -- a rule of the profile
 pub profile_first : (G : Table) (reach : Reach) (bound : ℕ) (is : List PlainInst) (r : Rule) (n : ℕ)
-    → stage.IsFirst (layout.Broken G is) stages.of_profile r n → IsFirstOfAll G reach bound is r n
+    → stage.IsFirst (layout.Broken Own G is) stages.of_profile r n → IsFirstOfAll G reach bound is r n
 profile_first G reach bound is r n f = record { broken = Broken.of_layout r n f.broken; least = least } where
   least : (q : Rule) (m : ℕ) → Broken G reach bound is q m → Precedes r n q m
   least _ _ (Broken.of_layout q m b) =
@@ -93,7 +94,7 @@ profile_first G reach bound is r n f = record { broken = Broken.of_layout r n f.
 
 -- a rule of the layout, where each instruction fits the profile
 pub layout_first : (G : Table) (reach : Reach) (bound : ℕ) (is : List PlainInst) (r : Rule) (n : ℕ)
-    → IsUnbroken (layout.Broken G is) stages.of_profile → stage.IsFirst (layout.Broken G is) stages.of_layout r n
+    → IsUnbroken (layout.Broken Own G is) stages.of_profile → stage.IsFirst (layout.Broken Own G is) stages.of_layout r n
     → IsFirstOfAll G reach bound is r n
 layout_first G reach bound is r n u f = record { broken = Broken.of_layout r n f.broken; least = least } where
   least : (q : Rule) (m : ℕ) → Broken G reach bound is q m → Precedes r n q m
@@ -118,7 +119,7 @@ layout_first G reach bound is r n u f = record { broken = Broken.of_layout r n f
 
 -- a rule on ids, where no rule of the profile or the layout is broken
 pub ids_first : (G : Table) (reach : Reach) (bound : ℕ) (is : List PlainInst) (r : Rule) (n : ℕ)
-    → ((q : Rule) (m : ℕ) → ¬ (layout.Broken G is q m)) → stage.IsFirst (ids.Broken G bound is) stages.of_ids r n
+    → ((q : Rule) (m : ℕ) → ¬ (layout.Broken Own G is q m)) → stage.IsFirst (ids.Broken G bound is) stages.of_ids r n
     → IsFirstOfAll G reach bound is r n
 ids_first G reach bound is r n u f = record { broken = Broken.of_ids r n f.broken; least = least } where
   least : (q : Rule) (m : ℕ) → Broken G reach bound is q m → Precedes r n q m
@@ -137,7 +138,7 @@ ids_first G reach bound is r n u f = record { broken = Broken.of_ids r n f.broke
 
 -- a rule on roles, where no rule of the profile, the layout or on ids is broken
 pub roles_first : (G : Table) (reach : Reach) (bound : ℕ) (is : List PlainInst) (r : Rule) (n : ℕ)
-    → ((q : Rule) (m : ℕ) → ¬ (layout.Broken G is q m)) → IsUnbroken (ids.Broken G bound is) stages.of_ids
+    → ((q : Rule) (m : ℕ) → ¬ (layout.Broken Own G is q m)) → IsUnbroken (ids.Broken G bound is) stages.of_ids
     → stage.IsFirst (types.Broken G is) stages.of_roles r n → IsFirstOfAll G reach bound is r n
 roles_first G reach bound is r n u v f = record { broken = Broken.of_types r n f.broken; least = least } where
   least : (q : Rule) (m : ℕ) → Broken G reach bound is q m → Precedes r n q m
@@ -159,7 +160,7 @@ roles_first G reach bound is r n u v f = record { broken = Broken.of_types r n f
 
 -- a rule on capabilities, entry points or types, where no rule on roles is broken either
 pub types_first : (G : Table) (reach : Reach) (bound : ℕ) (is : List PlainInst) (r : Rule) (n : ℕ)
-    → ((q : Rule) (m : ℕ) → ¬ (layout.Broken G is q m)) → IsUnbroken (ids.Broken G bound is) stages.of_ids
+    → ((q : Rule) (m : ℕ) → ¬ (layout.Broken Own G is q m)) → IsUnbroken (ids.Broken G bound is) stages.of_ids
     → IsUnbroken (types.Broken G is) stages.of_roles → stage.IsFirst (types.Broken G is) stages.of_types r n
     → IsFirstOfAll G reach bound is r n
 types_first G reach bound is r n u v w f = record { broken = Broken.of_types r n f.broken; least = least } where
@@ -182,7 +183,7 @@ types_first G reach bound is r n u v w f = record { broken = Broken.of_types r n
 
 -- no rule of the profile, the layout, on ids or on types is broken
 pub record IsBefore (G : Table) (bound : ℕ) (is : List PlainInst) : Type 0 where
-  pub of_layout : (q : Rule) (m : ℕ) → ¬ (layout.Broken G is q m)
+  pub of_layout : (q : Rule) (m : ℕ) → ¬ (layout.Broken Own G is q m)
   pub of_ids : IsUnbroken (ids.Broken G bound is) stages.of_ids
   pub of_roles : IsUnbroken (types.Broken G is) stages.of_roles
   pub of_types : IsUnbroken (types.Broken G is) stages.of_types
@@ -248,12 +249,13 @@ calls_first G reach bound is r n u v w f = record { broken = Broken.of_calls r n
   least _ _ (Broken.of_extended q m b) = let s = f.of_stage in let e = extended_stage reach is q m b in
       Precedes.stage (omega arith)
 
--- a module with a plan breaks no rule of the profile or the layout
-pub planned : (G : Table) (is : List PlainInst) (places : List Place)
-    → ((is : List PlainInst) (a : Rule) (k : ℕ) → IsLayout (classes is) → ¬ (IsDeadPlace is a k)) → IsPlan G is places
-    → (r : Rule) (n : ℕ) → ¬ (layout.Broken G is r n)
-planned G is places law plan _ _ (layout.misfit i n h f) = f (plan.fits n i h)
-planned G is places law plan _ _ (layout.dead r n d) = law is r n plan.layout d
+-- a module that is laid out breaks no rule of the profile or the layout
+pub planned : (G : Table) (is : List PlainInst)
+    → ((is : List PlainInst) (a : Rule) (k : ℕ) → IsLayout (seen_classes Own is) → ¬ (IsDeadPlace Own is a k))
+    → IsLaidOut Own G is
+    → (r : Rule) (n : ℕ) → ¬ (layout.Broken Own G is r n)
+planned G is law laid _ _ (layout.misfit i n h f) = f (laid.fits n i h)
+planned G is law laid _ _ (layout.dead r n d) = law is r n laid.layout d
 
 -- no rule of any stage of the profile is broken
 pub sound : (G : Table) (bound : ℕ) (is : List PlainInst) → IsBefore G bound is
@@ -294,7 +296,7 @@ extended_first G reach bound is r n u f = record { broken = Broken.of_extended r
       within r q n m (omega arith) (f.least q m e b)
 
 -- what the layers refuse is told
-pub told_layout : (G : Table) (reach : Reach) (bound : ℕ) (is : List PlainInst) (s : Stop) → plan.IsRefusal G is s
+pub told_layout : (G : Table) (reach : Reach) (bound : ℕ) (is : List PlainInst) (s : Stop) → plan.IsRefusal Own G is s
     → IsTold G reach bound is s
 told_layout G reach bound is Memory h = tt
 told_layout G reach bound is (Fault f) h = (
@@ -307,12 +309,12 @@ told_layout G reach bound is (Fault f) h = (
 )
 
 pub told_ids : (G : Table) (reach : Reach) (bound : ℕ) (is : List PlainInst) (s : Stop)
-    → ((r : Rule) (n : ℕ) → ¬ (layout.Broken G is r n)) → outcome.IsRefusal G bound is s → IsTold G reach bound is s
+    → ((r : Rule) (n : ℕ) → ¬ (layout.Broken Own G is r n)) → outcome.IsRefusal G bound is s → IsTold G reach bound is s
 told_ids G reach bound is Memory u h = tt
 told_ids G reach bound is (Fault f) u h = (ids_first G reach bound is f.rule f.inst u h.0, h.1)
 
 pub told_types : (G : Table) (reach : Reach) (bound : ℕ) (is : List PlainInst) (s : Stop)
-    → ((r : Rule) (n : ℕ) → ¬ (layout.Broken G is r n)) → IsUnbroken (ids.Broken G bound is) stages.of_ids
+    → ((r : Rule) (n : ℕ) → ¬ (layout.Broken Own G is r n)) → IsUnbroken (ids.Broken G bound is) stages.of_ids
     → types_outcome.IsRefusal G is s → IsTold G reach bound is s
 told_types G reach bound is Memory u v h = tt
 told_types G reach bound is (Fault f) u v h = (

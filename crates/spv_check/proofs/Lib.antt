@@ -14,6 +14,9 @@ pub mod Verdicts
 pub mod Worked
 pub mod Decided
 pub mod Standing
+pub mod Forms
+pub mod Objects
+pub mod Outside
 pub mod Rows
 pub mod Capable
 pub mod RulesDecided

@@ -7,6 +7,7 @@ use Rattle.spv_words.specs.declared.words.Order.TheVariants.{Big}
 use Rattle.spv_words.specs.declared.words.WordError.TheVariants.{W2}
 use Rattle.spv_table.specs.Table.{Table}
 use Rattle.spv_module.specs.Instruction.{end}
+use Rattle.spv_module.specs.declared.profile.Profile.TheVariants.{Own}
 use Rattle.spv_module.specs.declared.fault.Rule.TheVariants.{I7, L2}
 use Rattle.spv_module.specs.Operand.{PlainInst}
 use Rattle.spv_extended.specs.declared.reach.Reach.{Reach}
@@ -50,7 +51,7 @@ pub never_valid : (G : Table) (reach : Reach) (bytes line : List ℕ) → (line 
 never_valid G reach bytes line e h law v = let w = refused W2 h in refused_is_not_valid W2 (rw e at (law _ line w v))
 
 -- a list without instructions begins a module and is none
-no_instructions : IsDeadPlace [] L2 0
+no_instructions : IsDeadPlace Own [] L2 0
 no_instructions = IsDeadPlace.unfinished [] (leads_begin [] at.Capabilities leads_first)
     (leads_no_end [] at.Capabilities refl leads_first)
 
@@ -59,8 +60,8 @@ none_there n i h = let l = slice_get_within [] n i h in absurd (omega arith)
 
 unfinished_first : (G : Table) (reach : Reach) (bound : ℕ) → IsFirstOfAll G reach bound [] L2 0
 unfinished_first G reach bound =
-    layout_first G reach bound [] L2 0 (fit_unbroken G [] (λ n i h. absurd (none_there n i h)))
-    (dead_first G [] L2 0 no_instructions)
+    layout_first G reach bound [] L2 0 (fit_unbroken Own G [] (λ n i h. absurd (none_there n i h)))
+    (dead_first Own G [] L2 0 no_instructions)
 
 -- no words are the reading of no instructions
 nothing_read : (G : Table) (reach : Reach) → IsReading G reach [] []

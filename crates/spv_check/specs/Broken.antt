@@ -2,6 +2,7 @@
 use Rattle.std.specs.Prelude.{◌≡◌, ◌<◌, ◌≤◌, ℕ, List}
 use Rattle.spv_table.specs.Table.{Table}
 use Rattle.spv_module.specs.Operand.{PlainInst}
+use Rattle.spv_module.specs.declared.profile.Profile.TheVariants.{Own}
 use Rattle.spv_module.specs.declared.fault.Rule.{Rule}
 use Rattle.spv_module.specs.declared.fault.Stop.{Stop}
 use Rattle.spv_module.specs.declared.fault.Stop.TheVariants.{Fault, Memory}
@@ -19,7 +20,7 @@ use Rattle.spv_flow.specs.calls.Broken as calls
 -- on ids; on roles, capabilities, entry points or types; on where branches lead, or on values that are defined on every
 -- walk; on cycles of calls; or, where extended instructions are looked at, on what they take. [own]
 pub data Broken (G : Table) (reach : Reach) (bound : ℕ) (is : List PlainInst) : Rule → ℕ → Type 0 where
-  of_layout : (r : Rule) (n : ℕ) → layout.Broken G is r n → Broken G reach bound is r n
+  of_layout : (r : Rule) (n : ℕ) → layout.Broken Own G is r n → Broken G reach bound is r n
   of_ids : (r : Rule) (n : ℕ) → ids.Broken G bound is r n → Broken G reach bound is r n
   of_types : (r : Rule) (n : ℕ) → types.Broken G is r n → Broken G reach bound is r n
   of_flow : (r : Rule) (n : ℕ) → flow.Broken G is r n → Broken G reach bound is r n

@@ -2,15 +2,14 @@
 use Rattle.std.specs.Prelude.{◌≡◌, ℕ, List, Some, drop, slice_get, slice_index}
 use Rattle.spv_table.specs.Table.{Table}
 use Rattle.spv_module.specs.Operand.{PlainInst}
+use Rattle.spv_module.specs.declared.profile.Profile.TheVariants.{Own}
 use Rattle.spv_module.specs.Module.{plain_insts}
 use Rattle.spv_module.specs.declared.fault.Rule.{Rule}
 use Rattle.spv_module.specs.declared.module.Module.{Module}
 use Rattle.spv_extended.specs.declared.reach.Reach.{Reach}
 use Rattle.spv_layout.specs.First.{IsUnbroken}
-use Rattle.spv_layout.specs.Layout.{IsLayout, classes}
 use Rattle.spv_layout.specs.Place.{IsShort}
-use Rattle.spv_layout.specs.Plan.{IsPlan}
-use Rattle.spv_layout.specs.Shape.{FitsShape}
+use Rattle.spv_layout.specs.Plan.{IsPlan, IsLaidOut}
 use Rattle.spv_layout.specs.Stage.{of_branches, of_calls, of_ids, of_roles, of_types, of_values}
 use Rattle.spv_layout.specs.declared.place.Place.{Place}
 use Rattle.spv_ids.specs.Broken as id_rules
@@ -33,9 +32,8 @@ use Rattle.spv_check.specs.Reading.{IsReading}
 pub record IsKept (G : Table) (p : Program) : Type 0 where
   -- it has few enough words
   pub few : IsShort p.insts
-  -- each instruction fits its row, and all together are laid out as a module
-  pub fits : (n : ℕ) (i : PlainInst) → slice_get p.insts n ≡ Some i → FitsShape G i
-  pub layout : IsLayout (classes p.insts)
+  -- each instruction fits its row, which the profile has, and all together are laid out as a module
+  pub laid_out : IsLaidOut Own G p.insts
   -- D
   pub ids : IsUnbroken (id_rules.Broken G p.bound p.insts) of_ids
   -- Y1; C, M and E; and the other rules Y

@@ -3,6 +3,7 @@ use Rattle.std.specs.Prelude.{◌≡◌, ℕ, List, Result, Ok, IfOk, drop, slic
 use Rattle.spv_table.specs.Table.{Table}
 use Rattle.spv_table.specs.declared.error.Memory as table
 use Rattle.spv_module.specs.Operand.{PlainInst}
+use Rattle.spv_module.specs.declared.profile.Profile.TheVariants.{Own}
 use Rattle.spv_module.specs.Module.{plain_insts}
 use Rattle.spv_module.specs.declared.fault.Fault as declared
 use Rattle.spv_module.specs.declared.fault.Stop.{Stop}
@@ -33,7 +34,7 @@ pub record AreWordsOf (G : Table) (reach : Reach) (m : Module) (words : List ℕ
 
 -- The stages that were passed made these of the module, and the next one refused it so.
 abbrev pub IsRefusedAt : Table → Reach → ℕ → List PlainInst → Reached → Stop → Type 0
-IsRefusedAt G reach bound is Decoded s = layout.IsRefusal G is s
+IsRefusedAt G reach bound is Decoded s = layout.IsRefusal Own G is s
 IsRefusedAt G reach bound is (Placed places) s = IsPlan G is places × ids.IsRefusal G bound is s
 IsRefusedAt G reach bound is (Numbered places numbers) s =
     IsPlan G is places × AreIds G bound is numbers × types.IsRefusal G is s

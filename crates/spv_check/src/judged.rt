@@ -13,7 +13,7 @@ use spv_extended::Reach;
 use spv_ids::{Ids, number};
 use spv_layout::laws::member_or_dead;
 use spv_layout::{Plan, lay_out};
-use spv_module::{Fault, Module, Stop};
+use spv_module::{Fault, Module, Profile, Stop};
 use spv_table::{Memory, Table};
 use std::alloc::Global;
 
@@ -80,7 +80,7 @@ pub fn judge<'a>(
     ensures { IfOk result (λ j. IsJudged table.now reach «module».entry.header.bound (plain_insts «module».entry) j) }
 {
     member_or_dead();
-    let plan = match lay_out(alloc, table, &module) {
+    let plan = match lay_out(alloc, Profile::Own, table, &module) {
         Ok(plan) => plan,
         Err(stop) => return refused(stop, module, Reached::Decoded),
     };

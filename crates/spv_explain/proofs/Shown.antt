@@ -4,6 +4,7 @@ use Rattle.std.specs.Prelude.{IfOk, Ok, Err}
 use Rattle.std.specs.Prelude.{Result as Answer}
 use Rattle.spv_table.specs.Table.{Table}
 use Rattle.spv_module.specs.Operand.{PlainInst}
+use Rattle.spv_module.specs.declared.profile.Profile.TheVariants.{Own}
 use Rattle.spv_module.specs.declared.fault.Fault.{Fault}
 use Rattle.spv_module.specs.declared.fault.Rule.{Rule}
 use Rattle.spv_module.specs.declared.fault.Rule.TheVariants as rule
@@ -67,14 +68,14 @@ pub id_shown : (G : Table) (reach : Reach) (bound : ℕ) (is : List PlainInst) (
 id_shown G reach bound is f e h = λ s. IsEvidence.of_ids f.rule f.inst e h
 
 -- a refusal of the shapes or of the layout
-pub refused_broken : (G : Table) (is : List PlainInst) (s : Stop) (f : Fault) → s ≡ stop.Fault f → plan.IsRefusal G is s
-    → broken.Broken G is f.rule f.inst
+pub refused_broken : (G : Table) (is : List PlainInst) (s : Stop) (f : Fault) → s ≡ stop.Fault f → plan.IsRefusal Own G is s
+    → broken.Broken Own G is f.rule f.inst
 refused_broken G is s f e h =
-    let r : plan.IsRefusal G is (stop.Fault f) = rw e at h in
+    let r : plan.IsRefusal Own G is (stop.Fault f) = rw e at h in
     elim r.0 [ inl a ↦ a.broken | inr b ↦ b.1.broken ]
 
 pub layout_shown : (G : Table) (reach : Reach) (bound : ℕ) (is : List PlainInst) (f : Fault) (e : Evidence)
-    → layout.IsEvidence G is f.rule f.inst e → IsShownAt G reach bound is f e
+    → layout.IsEvidence Own G is f.rule f.inst e → IsShownAt G reach bound is f e
 layout_shown G reach bound is f e h = λ s. IsEvidence.of_layout f.rule f.inst e h
 
 -- a call of what a set does not have

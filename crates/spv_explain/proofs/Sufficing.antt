@@ -3,6 +3,7 @@ use Rattle.std.proofs.Common.{◌≡◌, ◌<◌, ◌≤◌, ◌⊎◌, inl, inr
 use Rattle.std.specs.Prelude.{slice_get}
 use Rattle.spv_table.specs.Table.{Table}
 use Rattle.spv_module.specs.Operand.{PlainInst}
+use Rattle.spv_module.specs.declared.profile.Profile.TheVariants.{Own}
 use Rattle.spv_module.specs.declared.fault.Rule.{Rule}
 use Rattle.spv_module.specs.declared.fault.Rule.TheVariants as rule
 use Rattle.spv_ops.specs.Typed.{IsTyped}
@@ -88,7 +89,7 @@ operations_broken G is r n e h =
 
 pub suffices : (G : Table) (reach : Reach) (bound : ℕ) (is : List PlainInst) (r : Rule) (n : ℕ) (e : Evidence)
     → IsEvidence G reach bound is r n e → Broken G reach bound is r n
-suffices G reach bound is _ _ _ (IsEvidence.of_layout r n e h) = Broken.of_layout r n (layout_law.suffices G is r n e h)
+suffices G reach bound is _ _ _ (IsEvidence.of_layout r n e h) = Broken.of_layout r n (layout_law.suffices Own G is r n e h)
 suffices G reach bound is _ _ _ (IsEvidence.of_ids r n e h) = Broken.of_ids r n (ids_suffice G bound is r n e h)
 suffices G reach bound is _ _ _ (IsEvidence.of_roles r n e h) = Broken.of_types r n (roles_broken G is r n e h)
 suffices G reach bound is _ _ _ (IsEvidence.of_capabilities r n e h) =
@@ -109,7 +110,7 @@ apart r a b s (inl e) l m = omega (arith, s, e, l)
 apart r a b s (inr e) l m = omega (arith, s, e, m)
 
 pub of_layout_alone : (G : Table) (reach : Reach) (bound : ℕ) (is : List PlainInst) (r : Rule) (n : ℕ) (e : Evidence)
-    → IsEvidence G reach bound is r n e → stage_of r < stages.of_ids → by_layout.IsEvidence G is r n e
+    → IsEvidence G reach bound is r n e → stage_of r < stages.of_ids → by_layout.IsEvidence Own G is r n e
 of_layout_alone G reach bound is _ _ _ (IsEvidence.of_layout r n e h) s = h
 of_layout_alone G reach bound is _ _ _ (IsEvidence.of_ids r n e h) s =
     absurd (apart r 3 3 s (inl (ids_stage G bound is r n (ids_suffice G bound is r n e h))) (omega arith) (omega arith))
@@ -143,7 +144,7 @@ pub record IsOfExtended (reach : Reach) (is : List PlainInst) (r : Rule) (n : �
 pub of_extended_alone : (G : Table) (reach : Reach) (bound : ℕ) (is : List PlainInst) (r : Rule) (n : ℕ) (e : Evidence)
     → IsEvidence G reach bound is r n e → stage_of r ≡ stages.of_extended → IsOfExtended reach is r n e
 of_extended_alone G reach bound is _ _ _ (IsEvidence.of_layout r n e h) s =
-    absurd (below r 1 2 s (layout_stage G is r n (layout_law.suffices G is r n e h)) (omega arith) (omega arith))
+    absurd (below r 1 2 s (layout_stage G is r n (layout_law.suffices Own G is r n e h)) (omega arith) (omega arith))
 of_extended_alone G reach bound is _ _ _ (IsEvidence.of_ids r n e h) s =
     absurd (below r 3 3 s (inl (ids_stage G bound is r n (ids_suffice G bound is r n e h))) (omega arith) (omega arith))
 of_extended_alone G reach bound is _ _ _ (IsEvidence.of_roles r n e h) s =

@@ -7,6 +7,7 @@ use Rattle.std.specs.List.{Contains}
 use Rattle.std.proofs.lemmas.Fmt.{decimal_digit}
 use Rattle.spv_table.specs.Table.{pattern_of}
 use Rattle.spv_module.specs.Example.{small, string, string_entry}
+use Rattle.spv_module.specs.declared.profile.Profile.TheVariants.{Own}
 use Rattle.spv_module.specs.Operand.{PlainInst, Result, Text, start}
 use Rattle.spv_module.specs.Shape.{shape_of}
 use Rattle.spv_module.specs.Spelling.{HoldsText, Takes}
@@ -36,7 +37,7 @@ use Rattle.spv_check.proofs.Stages.{types_stage}
 use Rattle.spv_evidence.specs.declared.evidence.Evidence.{Evidence}
 use Rattle.spv_evidence.specs.declared.evidence.Evidence.TheVariants.{MayCome, NoEntry}
 use Rattle.spv_form_evidence.specs.layout.Evidence as layout
-use Rattle.spv_form_evidence.specs.layout.inner.Automaton.{followers}
+use Rattle.spv_form_evidence.specs.layout.inner.Automaton.{followers, opcodes_of}
 use Rattle.spv_form_evidence.proofs.lemmas.layout.Opcodes.{to_come}
 use Rattle.spv_explain.specs.Evidence.{IsEvidence}
 use Rattle.spv_explain.specs.Example.{labels, many_opcodes, string_fault, string_words, twice_void}
@@ -195,12 +196,12 @@ pub no_first_lines : (lines : List ℕ) → ¬ (AreLinesOf Short small Profile 5
 no_first_lines lines l = no_broken D2 0 (suffices small Profile 5 twice_void D2 0 l.evidence l.shows) refl refl
 
 -- an OpString first
-first_opcodes : followers at.Capabilities 331 ≡ 10 ∷ 11 ∷ 14 ∷ 17 ∷ []
+first_opcodes : followers Own at.Capabilities (opcodes_of Own) ≡ 10 ∷ 11 ∷ 14 ∷ 17 ∷ []
 unfolding rows followers
 first_opcodes = refl
 
-first_to_come : layout.AreToCome [] (10 ∷ 11 ∷ 14 ∷ 17 ∷ []) false
-first_to_come = subst (λ l. layout.AreToCome [] l false) first_opcodes (to_come [] at.Capabilities leads_first)
+first_to_come : layout.AreToCome Own [] (10 ∷ 11 ∷ 14 ∷ 17 ∷ []) false
+first_to_come = subst (λ l. layout.AreToCome Own [] l false) first_opcodes (to_come Own [] at.Capabilities leads_first)
 
 not_string : ¬ (Contains {X = ℕ} (10 ∷ 11 ∷ 14 ∷ 17 ∷ []) 7)
 not_string c = by c.0 c.1 c.2
@@ -276,7 +277,7 @@ string_shown is l s =
     subst (λ js. IsEvidence small Profile 9 js L1 0 (MayCome (10 ∷ 11 ∷ 14 ∷ 17 ∷ []) false))
     (the_string is l) string_shows
 
-no_entry_shows : (r : Rule) (n : ℕ) (e : Evidence) → layout.IsEvidence small (string ∷ []) r n e → e ≡ NoEntry → ⊥
+no_entry_shows : (r : Rule) (n : ℕ) (e : Evidence) → layout.IsEvidence Own small (string ∷ []) r n e → e ≡ NoEntry → ⊥
 no_entry_shows _ _ _ (layout.IsEvidence.misfit i n known h k f) e = cc
 no_entry_shows _ _ _ (layout.IsEvidence.misplaced i n os end h a none) e = cc
 no_entry_shows _ _ _ (layout.IsEvidence.unfinished os a) e = cc

@@ -2,6 +2,7 @@
 use Rattle.std.specs.Prelude.{◌≡◌, ℕ, List}
 use Rattle.spv_table.specs.Table.{Table}
 use Rattle.spv_module.specs.Operand.{PlainInst}
+use Rattle.spv_module.specs.declared.profile.Profile.TheVariants.{Own}
 use Rattle.spv_module.specs.declared.fault.Rule.{Rule}
 use Rattle.spv_extended.specs.declared.reach.Reach.{Reach}
 use Rattle.spv_extended.specs.declared.reach.Reach.TheVariants.{Extended}
@@ -21,7 +22,7 @@ use Rattle.spv_operation_evidence.specs.Evidence as operations
 -- that number.
 pub data IsEvidence (G : Table) (reach : Reach) (bound : ℕ) (is : List PlainInst) : Rule → ℕ → Evidence → Type 0 where
   -- P and L
-  of_layout : (r : Rule) (n : ℕ) (e : Evidence) → layout.IsEvidence G is r n e → IsEvidence G reach bound is r n e
+  of_layout : (r : Rule) (n : ℕ) (e : Evidence) → layout.IsEvidence Own G is r n e → IsEvidence G reach bound is r n e
   -- D
   of_ids : (r : Rule) (n : ℕ) (e : Evidence) → ids.IsEvidence G bound is r n e → IsEvidence G reach bound is r n e
   -- Y1

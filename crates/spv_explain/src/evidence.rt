@@ -21,7 +21,7 @@ use spv_form_evidence::{
 };
 use spv_ids::Ids;
 use spv_layout::Plan;
-use spv_module::{Fault, Module};
+use spv_module::{Fault, Module, Profile};
 use spv_operation_evidence::operation_evidence;
 use spv_table::{Memory, Table};
 use spv_type_evidence::type_evidence;
@@ -100,7 +100,13 @@ pub fn evidence_of(
         → IfOk result (λ e. IsShownAt table.now reach «module».now.header.bound (plain_insts «module».now) fault e) }
 {
     match reached {
-        Reached::Decoded => Ok(layout_evidence(alloc, module, fault.rule, fault.inst)?),
+        Reached::Decoded => Ok(layout_evidence(
+            alloc,
+            Profile::Own,
+            module,
+            fault.rule,
+            fault.inst,
+        )?),
         Reached::Placed(plan) => Ok(id_evidence(alloc, module, plan, fault.rule, fault.inst)?),
         Reached::Numbered(plan, ids) => typing_evidence(alloc, table, module, plan, ids, fault),
         Reached::Typed(plan, ids) => flow_evidence(alloc, module, plan, ids, fault),

@@ -41,12 +41,12 @@ pub fn place_examples()
 
 /// The operands that rows ask for, in words. OpTypeMatrix has no row.
 pub fn row_examples()
-    ensures load { row_text opcode.LOAD
+    ensures load { row_text opcode.LOAD true
         ≡ codes "result type, result, value, MemoryAccess or nothing, any others" }
-    ensures phi { row_text opcode.PHI ≡ codes "result type, result, any number of: value, label" }
-    ensures bare { row_text opcode.RETURN ≡ codes "no operands" }
-    ensures unknown { row_text 24 ≡ codes "none" }
-    ensures not_other { ¬ (row_text opcode.RETURN ≡ codes "value") }
+    ensures phi { row_text opcode.PHI true ≡ codes "result type, result, any number of: value, label" }
+    ensures bare { row_text opcode.RETURN true ≡ codes "no operands" }
+    ensures unknown { row_text 24 true ≡ codes "none" }
+    ensures not_other { ¬ (row_text opcode.RETURN true ≡ codes "value") }
 {}
 
 /// Keys as they are written: with spaces in lines, and as one word in JSON.
@@ -63,12 +63,15 @@ pub fn key_examples()
     ensures not_nothing { ¬ (raw_of Short small [] [] (fact.Least None) ≡ codes "least:") }
 {}
 
-/// What lists capabilities at an OpTypeInt or an OpTypeVector: its width, operand 1, or its count, operand 2.
+/// What lists capabilities at an OpTypeInt, an OpTypeVector or an OpTypeImage: its width, operand 1, its count, operand
+/// 2, or its access qualifier, operand 8.
 pub fn lister_examples()
     ensures width { lister_facts (bare opcode.TYPE_INT ∷ []) 0 lister.Width ≡ fact.Operand 0 1 ∷ [] }
     ensures count { lister_facts (bare opcode.TYPE_VECTOR ∷ []) 0 lister.Width ≡ fact.Operand 0 2 ∷ [] }
     ensures not_width { ¬ (lister_facts (bare opcode.TYPE_VECTOR ∷ []) 0 lister.Width ≡ fact.Operand 0 1 ∷ []) }
-    // The entry of an opcode is no operand.
+    ensures access { lister_facts (bare opcode.TYPE_IMAGE ∷ []) 0 lister.Access ≡ fact.Operand 0 8 ∷ [] }
+    // An image type itself is no operand, nor is the entry of an opcode.
+    ensures image { lister_facts (bare opcode.TYPE_IMAGE ∷ []) 0 lister.Type ≡ [] }
     ensures entry { lister_facts (bare opcode.TYPE_INT ∷ []) 0 lister.Entry ≡ [] }
 {}
 

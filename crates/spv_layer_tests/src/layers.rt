@@ -7,7 +7,7 @@ use spv_flow::walks::check_values;
 use spv_ids::number;
 use spv_inst::{Stop, decode};
 use spv_layout::laws::word_counts;
-use spv_layout::lay_out;
+use spv_layout::{Profile, lay_out};
 use spv_samples::{CALL_OF_LATER_FUNCTION, PROFILE, image_of};
 use spv_verdict::{flow_check, type_check};
 use spv_words::Image;
@@ -19,7 +19,7 @@ pub fn flow_of(alloc: Global, table: &Table, image: &Image) -> Result<u32, Stop>
     word_counts();
     let _words = image.len();
     let module = decode(alloc, table, image)?;
-    let plan = lay_out(alloc, table, &module)?;
+    let plan = lay_out(alloc, Profile::Own, table, &module)?;
     let ids = number(alloc, &module, &plan)?;
     let types = type_check(alloc, table, &module, &plan, &ids)?;
     let flow = flow_check(alloc, &module, &plan, &ids, &types)?;
@@ -31,7 +31,7 @@ fn cycle_of(alloc: Global, table: &Table, image: &Image) -> Result<Option<u32>, 
     word_counts();
     let _words = image.len();
     let module = decode(alloc, table, image)?;
-    let plan = lay_out(alloc, table, &module)?;
+    let plan = lay_out(alloc, Profile::Own, table, &module)?;
     let ids = number(alloc, &module, &plan)?;
     check_branches(alloc, &module, &plan, &ids)?;
     check_values(alloc, &module, &plan, &ids)?;

@@ -156,7 +156,11 @@ fn read_of(
             read_chosen(alloc, definitions, inst, types, element, index as usize)
         }
         Rest::Leads { element } => read_led(alloc, definitions, inst, r, types, element),
-        Rest::Component | Rest::Filled => all_types(alloc, r, types),
+        Rest::Component | Rest::Filled | Rest::ImageOperands(_) => all_types(alloc, r, types),
+        Rest::Packed => {
+            let found = type_at(r, types, Seat::Value(0));
+            reads_within(alloc, definitions, r, None, found)
+        }
         Rest::Share(k) => with_part(alloc, r, types, k, inner_of(definitions, r)),
         Rest::Part(k) => with_part(alloc, r, types, k, part_of(definitions, r, k)),
         Rest::Within { from } => path_from(alloc, definitions, inst, types, from),

@@ -2,18 +2,24 @@
 
 ghost use Rattle.std.specs.Prelude.{◌≡◌, ℕ, List, [], ◌∷◌, Some, slice_get};
 ghost use Rattle.spv_table.specs.Table.{Table};
-ghost use Rattle.spv_module.specs.Operand.{PlainInst, Word};
+ghost use Rattle.spv_module.specs.Operand.{PlainInst, Mask, Word};
 ghost use Rattle.spv_module.specs.declared.fault.Rule.{Rule};
 ghost use Rattle.spv_ops.specs.Typed.{IsTyped};
 ghost use Rattle.spv_type_rules.specs.Keeps.{Keeps};
 ghost use Rattle.spv_evidence.specs.declared.evidence.Evidence.{Evidence};
-ghost use Rattle.spv_operation_evidence.specs.Beside.{first_odd};
+ghost use Rattle.spv_operation_evidence.specs.Beside.{first_mask, first_odd};
 ghost use Rattle.spv_operation_evidence.specs.Evidence.{IsEvidence};
 
 /// What is evidence for Y5 shows that the instruction is not typed.
 pub fn suffices()
     ensures { (G : Table) (is : List PlainInst) (r : Rule) (n : ℕ) (e : Evidence) → IsEvidence G is r n e
         → (i : PlainInst) → slice_get is n ≡ Some i → ¬ (Keeps (IsTyped G is) is r n i) }
+{}
+
+/// Where the first mask stands.
+pub fn mask_examples()
+    ensures mask { first_mask 0 (Word 3 ∷ Mask 0 2 ∷ Mask 0 4 ∷ []) ≡ Some 1 }
+    ensures no_mask { ¬ (first_mask 0 (Word 3 ∷ []) ≡ Some 0) }
 {}
 
 /// Which literals name no component.

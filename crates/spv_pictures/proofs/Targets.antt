@@ -216,6 +216,8 @@ only_words G _ _ os x q Ends.no_other m = agree_nil os x
 only_words G _ _ os x q (Ends.other gs more) m = cc
 only_words G _ _ os x q (Ends.no_kind f) m = agree_nil os x
 only_words G _ _ os x q (Ends.kind f gs more) m = cc
+only_words G _ _ os x q (Ends.no_first f g) m = agree_nil os x
+only_words G _ _ os x q (Ends.first f g gs more) m = cc
 
 -- the cases of an OpSwitch
 cases : (G : Table) (e : RowEnding) (fs : List Form) (os : List Plain) (x : ℕ)
@@ -246,6 +248,8 @@ cases G _ _ os x q Ends.no_other m = cc
 cases G _ _ os x q (Ends.other gs more) m = cc
 cases G _ _ os x q (Ends.no_kind f) m = cc
 cases G _ _ os x q (Ends.kind f gs more) m = cc
+cases G _ _ os x q (Ends.no_first f g) m = cc
+cases G _ _ os x q (Ends.first f g gs more) m = cc
 
 closed_end : (e : RowEnding) (fs : List Form) → e ≡ closed → Ends e fs → fs ≡ []
 closed_end _ _ q Ends.nothing = refl
@@ -261,6 +265,8 @@ closed_end _ _ q Ends.no_other = refl
 closed_end _ _ q (Ends.other gs more) = cc
 closed_end _ _ q (Ends.no_kind f) = refl
 closed_end _ _ q (Ends.kind f gs more) = cc
+closed_end _ _ q (Ends.no_first f g) = refl
+closed_end _ _ q (Ends.first f g gs more) = cc
 
 -- the rows of the three
 row_branch : row_of BRANCH ≡ Some (record {

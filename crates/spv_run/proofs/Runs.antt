@@ -2,6 +2,7 @@
 use Rattle.std.proofs.Common.{◌≡◌, ◌≢◌, ℕ, List, Result, Ok, Err, IfOk, refl, subst}
 use Rattle.spv_table.specs.Table.{Table}
 use Rattle.spv_module.specs.Operand.{PlainInst}
+use Rattle.spv_module.specs.declared.profile.Profile.TheVariants.{Own}
 use Rattle.spv_ids.specs.declared.ids.Ids.{Ids}
 use Rattle.spv_ids.specs.Outcome.{AreIds}
 use Rattle.spv_ids.specs.Outcome.{AreNumbered}
@@ -19,6 +20,7 @@ use Rattle.spv_run.specs.declared.parts.TraceError.{TraceError}
 use Rattle.spv_run.proofs.Sound.{checked}
 use Rattle.spv_run.proofs.Theorem.{never_gets_stuck}
 use Rattle.spv_run.proofs.Entries.{entry_defined, entry_function}
+use Rattle.spv_layout.proofs.Seen.{seen_layout}
 use Rattle.spv_check.specs.Checked.{IsKept}
 use Rattle.spv_check.specs.Program.{Program}
 use Rattle.spv_run.specs.Tracing.{IsRunOf, IsTraceOf}
@@ -26,8 +28,8 @@ use Rattle.spv_run.specs.Tracing.{IsRunOf, IsTraceOf}
 -- what a run rests on is kept
 pub sound_run : (G : Table) (p : Program) → IsKept G p → KeepsRules G p.bound p.insts
 sound_run G p k = record {
-  fits = k.fits;
-  layout = k.layout;
+  fits = λ n i h. (k.laid_out.fits n i h).shape;
+  layout = seen_layout Own p.insts k.laid_out.layout;
   ids = k.ids;
   capabilities = k.capabilities;
   types = k.rules;

@@ -3,6 +3,7 @@ use Rattle.std.proofs.Common.{◌≡◌, ◌++◌, inl, inr, ℕ, List, [], ◌�
 use Rattle.std.specs.Prelude.{slice_index}
 use Rattle.spv_table.specs.Table.{Table}
 use Rattle.spv_module.specs.Operand.{Argument, Id, PlainInst}
+use Rattle.spv_module.specs.declared.profile.Profile.TheVariants.{Own}
 use Rattle.spv_module.specs.declared.fault.Rule.{Rule}
 use Rattle.spv_module.specs.declared.fault.Rule.TheVariants.{Y9}
 use Rattle.spv_extended.specs.declared.reach.Reach.TheVariants.{Profile, Extended}
@@ -41,7 +42,7 @@ types_broken G is _ _ (types.of_types r n i e never) =
 
 pub broken_too : (G : Table) (bound : ℕ) (is : List PlainInst) (r : Rule) (n : ℕ) → Broken G Profile bound is r n
     → Broken G Extended bound (opened is) r n
-broken_too G bound is _ _ (Broken.of_layout r n b) = Broken.of_layout r n (layout_broken G (set_in is) is r n b)
+broken_too G bound is _ _ (Broken.of_layout r n b) = Broken.of_layout r n (layout_broken Own G (set_in is) is r n b)
 broken_too G bound is _ _ (Broken.of_ids r n b) = Broken.of_ids r n (ids_broken G bound (set_in is) is r n b)
 broken_too G bound is _ _ (Broken.of_types r n b) = Broken.of_types r n (types_broken G is r n b)
 broken_too G bound is _ _ (Broken.of_flow r n b) = Broken.of_flow r n (flow_broken G (set_in is) is r n b)

@@ -1,4 +1,5 @@
 use Rattle.spv_module.specs.Module.{plain_insts}
+use Rattle.spv_module.specs.declared.profile.Profile.TheVariants.{Own}
 use Rattle.spv_check.specs.Checked.{program_of}
 use Rattle.spv_check.proofs.Checks.{kept_of, parts_of, sound_of}
 use Rattle.spv_check.proofs.Firsts.{IsBefore, planned, sound_so_far, told_extended, told_flow, told_ids, told_layout}
@@ -19,7 +20,7 @@ returns-in-Err-number c =
     let plan = c.in-Ok.ensures.plan in
     let h = c.in-Err-number.ensures.refused G plan in
     refused_so G c.args.reach c.args.module _ c.in-Err-number.stop _ c.refused-in-Err-number.ensures
-    (told_ids G c.args.reach _ _ c.in-Err-number.stop (planned G _ _ c.member_or_dead.ensures.not_both plan) h)
+    (told_ids G c.args.reach _ _ c.in-Err-number.stop (planned G _ (c.member_or_dead.ensures.not_both Own) c.in-Ok.ensures.laid_out) h)
     (plan, h)
 
 pub type_check-requires-clause-ids : goal.type_check-requires-clause-ids
@@ -31,7 +32,7 @@ returns-in-Err-type_check c =
     let plan = c.in-Ok.ensures.plan in
     let ids = c.in-Ok-number.ensures.ids G plan in
     let h = c.in-Err-type_check.ensures.refused in
-    let none = planned G _ _ c.member_or_dead.ensures.not_both plan in
+    let none = planned G _ (c.member_or_dead.ensures.not_both Own) c.in-Ok.ensures.laid_out in
     refused_so G c.args.reach c.args.module _ c.in-Err-type_check.stop _ c.refused-in-Err-type_check.ensures
     (told_types G c.args.reach _ _ c.in-Err-type_check.stop none ids.unbroken h) (plan, ids, h)
 
@@ -52,10 +53,10 @@ new-requires c =
     let types = c.in-Ok-type_check.ensures.types in
     let flow = c.in-Ok-flow_check.ensures.flow G plan ids in
     let p = program_of c.args.module in
-    let kept = kept_of G p _ _ _ c.requires.short plan ids types.roles types.capabilities types.rules
+    let kept = kept_of G p _ _ c.requires.short c.in-Ok.ensures.laid_out ids types.roles types.capabilities types.rules
     c.in-Ok-type_check.ensures.unbroken flow in
     let w = c.requires.words in
-    let s = sound_of G p (planned G _ _ c.member_or_dead.ensures.not_both plan) kept in (
+    let s = sound_of G p (planned G _ (c.member_or_dead.ensures.not_both Own) c.in-Ok.ensures.laid_out) kept in (
       G,
       record {
         reach = c.args.reach;
@@ -77,9 +78,9 @@ returns-in-Ok-extended_check c =
     let types = c.in-Ok-type_check.ensures.types in
     let flow = c.in-Ok-flow_check.ensures.flow G plan ids in
     let p = program_of c.args.module in
-    let kept = kept_of G p _ _ _ c.requires.short plan ids types.roles types.capabilities types.rules
+    let kept = kept_of G p _ _ c.requires.short c.in-Ok.ensures.laid_out ids types.roles types.capabilities types.rules
     c.in-Ok-type_check.ensures.unbroken flow in
-    let s = sound_of G p (planned G _ _ c.member_or_dead.ensures.not_both plan) kept in
+    let s = sound_of G p (planned G _ (c.member_or_dead.ensures.not_both Own) c.in-Ok.ensures.laid_out) kept in
     record {
       whole = c.new.ensures;
       kept = rw c.new.ensures kept;
@@ -94,9 +95,9 @@ returns c =
     let types = c.in-Ok-type_check.ensures.types in
     let flow = c.in-Ok-flow_check.ensures.flow G plan ids in
     let p = program_of c.args.module in
-    let kept = kept_of G p _ _ _ c.requires.short plan ids types.roles types.capabilities types.rules
+    let kept = kept_of G p _ _ c.requires.short c.in-Ok.ensures.laid_out ids types.roles types.capabilities types.rules
     c.in-Ok-type_check.ensures.unbroken flow in
-    let s = sound_of G p (planned G _ _ c.member_or_dead.ensures.not_both plan) kept in
+    let s = sound_of G p (planned G _ (c.member_or_dead.ensures.not_both Own) c.in-Ok.ensures.laid_out) kept in
     let h = c.in-Err-extended_check.ensures.refused in
     refused_so G c.args.reach c.args.module _ c.in-Err-extended_check.stop _ c.refused-in-Err-extended_check.ensures
     (told_extended G c.args.reach p.bound p.insts c.in-Err-extended_check.stop s h) h
@@ -109,7 +110,7 @@ returns-in-Err-flow_check c =
     let u = c.in-Ok-type_check.ensures.unbroken in
     let h = c.in-Err-flow_check.ensures.refused G plan ids in
     let b : IsBefore G c.args.module.header.bound (plain_insts c.args.module) = record {
-      of_layout = planned G _ _ c.member_or_dead.ensures.not_both plan;
+      of_layout = planned G _ (c.member_or_dead.ensures.not_both Own) c.in-Ok.ensures.laid_out;
       of_ids = ids.unbroken;
       of_roles = u.0;
       of_types = u.1;

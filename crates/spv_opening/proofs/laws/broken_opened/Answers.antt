@@ -10,7 +10,7 @@ use Rattle.spv_opening.proofs.laws.broken_opened.Goals as goal
 
 pub returns : goal.returns
 returns c = record {
-  layout = λ G is. layout_broken G (set_in is) is;
+  layout = λ p G is. layout_broken p G (set_in is) is;
   ids = λ G bound is. ids_broken G bound (set_in is) is;
   roles = λ G is. roles_broken G (set_in is) is;
   flow = λ G is. flow_broken G (set_in is) is;
