@@ -49,14 +49,14 @@ complete -c spv -n '__fish_seen_subcommand_from show' -l verbose -d 'Say after t
 
 complete -c spv -n '__fish_seen_subcommand_from annotate' -F
 complete -c spv -n '__fish_seen_subcommand_from annotate' -l color -x -a 'auto always never' -d 'Comments in colour'
-complete -c spv -n '__fish_seen_subcommand_from annotate' -l function -x -d 'The id of a function'
+complete -c spv -n '__fish_seen_subcommand_from annotate' -l function -x -d 'The id or the name of a function'
 complete -c spv -n '__fish_seen_subcommand_from annotate' -l grammar -r -F -d 'A grammar file, in JSON'
 complete -c spv -n '__fish_seen_subcommand_from annotate' -l as-1.6 -d 'Take a module of version 1.0 to 1.5 as one of 1.6'
 complete -c spv -n '__fish_seen_subcommand_from annotate' -l html -d 'Write one HTML page'
 complete -c spv -n '__fish_seen_subcommand_from annotate' -l verbose -d 'Say after the line of an error what is wrong'
 
 complete -c spv -n '__fish_seen_subcommand_from graph' -F
-complete -c spv -n '__fish_seen_subcommand_from graph' -l function -x -d 'The id of a function'
+complete -c spv -n '__fish_seen_subcommand_from graph' -l function -x -d 'The id or the name of a function'
 complete -c spv -n '__fish_seen_subcommand_from graph' -l grammar -r -F -d 'A grammar file, in JSON'
 complete -c spv -n '__fish_seen_subcommand_from graph' -l as-1.6 -d 'Take a module of version 1.0 to 1.5 as one of 1.6'
 complete -c spv -n '__fish_seen_subcommand_from graph' -l verbose -d 'Say after the line of an error what is wrong'
@@ -70,7 +70,7 @@ complete -c spv -n '__fish_seen_subcommand_from asm' -l out -r -F -d 'The module
 
 complete -c spv -n '__fish_seen_subcommand_from trace' -F
 complete -c spv -n '__fish_seen_subcommand_from trace' -l choices -x -d 'The targets that are taken, from 0, as 0,1'
-complete -c spv -n '__fish_seen_subcommand_from trace' -l function -x -d "The id of an entry point's function"
+complete -c spv -n '__fish_seen_subcommand_from trace' -l function -x -d "The id or the name of an entry point's function"
 complete -c spv -n '__fish_seen_subcommand_from trace' -l grammar -r -F -d 'A grammar file, in JSON'
 complete -c spv -n '__fish_seen_subcommand_from trace' -l as-1.6 -d 'Take a module of version 1.0 to 1.5 as one of 1.6'
 complete -c spv -n '__fish_seen_subcommand_from trace' -l extended -d 'Look at ids of extended instructions too'

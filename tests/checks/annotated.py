@@ -271,7 +271,7 @@ def no_such_function(program, folder):
     short = folder / "short.spv"
     short.write_bytes(b"123")
     for words in ["annotate"], ["annotate", "--html"], ["graph"]:
-        for of in ("0", "4", "5", "4294967295"):
+        for of in ("0", "4", "5", "4294967295", "4294967296", "%3", "l", ""):
             wrong = difference(NO_FUNCTION, asked(program, folder, *words, "--function", of, KERNEL))
             if wrong:
                 return f"  {words} {of}\n{wrong}"
@@ -359,6 +359,64 @@ def colours_by_place(program, folder):
     return None if plain != always else "  no colours"
 
 
+# Two functions that OpName calls `same`, one that it calls 3, and one that has the name of its entry point alone.
+NAMED = '''; SPIR-V
+; Version: 1.6
+; Generator: 0
+; Bound: 12
+; Schema: 0
+OpCapability Addresses
+OpCapability Kernel
+OpMemoryModel Physical64 OpenCL
+OpEntryPoint Kernel %3 "k"
+OpEntryPoint Kernel %5 "other"
+OpName %5 "3"
+OpName %7 "same"
+OpName %9 "same"
+OpName %1 "void"
+%1 = OpTypeVoid
+%2 = OpTypeFunction %1
+%3 = OpFunction %1 None %2
+%4 = OpLabel
+OpReturn
+OpFunctionEnd
+%5 = OpFunction %1 None %2
+%6 = OpLabel
+OpReturn
+OpFunctionEnd
+%7 = OpFunction %1 None %2
+%8 = OpLabel
+OpReturn
+OpFunctionEnd
+%9 = OpFunction %1 None %2
+%10 = OpLabel
+OpReturn
+OpFunctionEnd
+'''
+
+
+def by_name(program, folder):
+    """A function is chosen by its name as by its id; a number is an id, and a name is that of one function."""
+    (folder / "text").write_text(NAMED, encoding="utf-8")
+    wrong = difference(Answer(b"", b"", 0), asked(program, folder, "asm", "--out", "named.spv", "text"))
+    if wrong:
+        return wrong
+    trace = ["trace", "--limit", "9"]
+    for words in ["annotate"], ["annotate", "--html"], ["graph"], trace:
+        for name, of in ("k", "3"), ("3", "3"), ("\N{THAI DIGIT THREE}", None), ("same", "same"), ("void", None), ("other", None):
+            got = asked(program, folder, *words, "--function", name, "named.spv")
+            if of is None:
+                wanted = Answer(b"", b"error X1\n" if words is trace else b"error X2\n", 2)
+            elif of == "same":
+                wanted = Answer(b"", b"error use\n", 2)
+            else:
+                wanted = asked(program, folder, *words, "--function", of, "named.spv")
+            if got != wanted or (of == "3" and got.status):
+                return f"  {words} {name}\n{difference(wanted, got)}"
+    told = asked(program, folder, "graph", "--verbose", "--function", "same", "named.spv").err.decode()
+    return None if told.startswith("error use\n") and "several" in told else f"  {told}"
+
+
 def of_standard_input(program, folder):
     """`-` is the standard input, of each form."""
     for words in ["annotate"], ["annotate", "--function", "10"], ["graph"], ["graph", "--function", "10"]:
@@ -390,6 +448,7 @@ def checks():
         ("all that comments say", noted, ("khronos",)),
         ("names of OpenCL.std", names_of_opencl, ("khronos",)),
         ("no such function", no_such_function, ()),
+        ("a function by its name", by_name, ()),
         ("colours", coloured, ()),
         ("colours by place", colours_by_place, ()),
         ("the standard input", of_standard_input, ()),

@@ -115,9 +115,9 @@ PROMISES = (
     ),
     (
         "The table of a run",
-        "`table_of` answers the table that a text gives, or without a text the one that is packed in `WORDS` of "
-        "spv_builtin/src/words.rt; `grammar_text` writes it again. That `WORDS` pack the table of Khronos' grammar "
-        "file is compared by `tests/builtin`, and not proved.",
+        "`table_of` answers the table that a text gives, or without a text the one that the rows of "
+        "spv_builtin/src/constants.rt tell; `grammar_text` writes it again. That the rows tell the table of Khronos' "
+        "grammar file is compared by `tests/builtin`, and not proved.",
         (
             ("spv_builtin", "source.rt", "table_of"),
             ("spv_builtin", "text.rt", "grammar_text"),
@@ -355,7 +355,7 @@ OPCODES = "spv_module/src/opcode.rt"
 
 # The other constants of the code that definitions name: their files, and what they are.
 CONSTANTS = {
-    "spv_builtin/src/words.rt": "the built-in grammar, which `tests/builtin` writes from Khronos' file",
+    "spv_builtin/src/constants.rt": "the built-in grammar, which `tests/builtin` writes from Khronos' file",
     "spv_rules/src/table.rt": "of each code of a verdict its name, its number in C, what it says, the sources of that, "
     "and what breaks it",
     "spv_rules/src/errors.rt": "of each code of an error its name, what it says, the sources of that, and when it is told",

@@ -10,6 +10,7 @@ import struct
 from functools import lru_cache
 
 from reading.assemble import assembled
+from reading.owners import quoted as in_quotes
 from reading.text import visible
 from reading.verdict import grammar_in
 
@@ -70,7 +71,9 @@ def standing(text):
 def whose(told, whole):
     """The operands that are of a type."""
     found = standing(whole["at"]["text"])
-    return "".join(f", of operand {it} {found[it]}" for it in told.get("operands", ()))
+    operands = told.get("operands", ())
+    more = f", and {len(operands) - 8} more" if len(operands) > 8 else ""
+    return "".join(f", of operand {it} {found[it]}" for it in operands[:8]) + more
 
 
 def typed(key):
@@ -110,12 +113,12 @@ def inst(key):
 
 
 def place(told, whole):
-    """The function, its name if it has one, and the block if it is of one."""
+    """The function, its name in quotes if it has one, and the block if it is of one."""
     key, block = "open" if whole["code"] == "L2" else "in", whole.get("block")
     return [
         f"{key}: function"
         + (f" %{told}" if told is not None else "")
-        + (f" {whole['functionName']}" if "functionName" in whole else "")
+        + (f" {in_quotes(whole['functionName'])}" if "functionName" in whole else "")
         + (f", block %{block}" if block is not None else "")
     ]
 

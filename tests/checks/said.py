@@ -25,7 +25,7 @@ LATER = TESTS / "modules/call-of-a-later-function.spv"
 # What asks a terminal to do something: to change its title, to clear itself, to move.
 ORDERS = ("\x1b]0;title\x07", "\x1b[2J", "\r\x1b[A", "\x7f\x08", "line\nfeed", "tab\tstop")
 # Control characters but for the line feed: none may stand in what is said.
-CONTROLS = re.compile("[\x00-\x09\x0b-\x1f\x7f]")
+CONTROLS = re.compile("[\x00-\x09\x0b-\x1f\x7f-\x9f]")
 
 
 @dataclass(frozen=True)
@@ -87,10 +87,9 @@ USES = [
     use("show", to="show", parts=("FILE",)),
     use("annotate", to="annotate", parts=("FILE",)),
     use("annotate", "--color", "sometimes", KERNEL, to="annotate", parts=("sometimes|--color|WHEN",)),
-    use("annotate", "--function", "%3", KERNEL, to="annotate", parts=("%3|ID",)),
     use("annotate", "--pdf", KERNEL, to="annotate", parts=("--pdf",)),
     use("graph", to="graph", parts=("FILE",)),
-    use("graph", "--function", KERNEL, to="graph", parts=("ID|FILE",)),
+    use("graph", "--function", KERNEL, to="graph", parts=("FILE",)),
     use("graph", "--html", KERNEL, to="graph", parts=("--html",)),
     use("rules", "--json", "A9", to="rules", parts=("A9|no code",)),
     use("asm", TEXT, to="asm", parts=("--out",)),
@@ -98,8 +97,7 @@ USES = [
     use("asm", "--out", "made", TEXT, "second", to="asm", parts=("second",)),
     use("trace", "--limit", "5", KERNEL, to="trace", parts=("--function",)),
     use("trace", "--function", "3", KERNEL, to="trace", parts=("--limit",)),
-    use("trace", "--function", "%10", "--limit", "5", KERNEL, to="trace", parts=("%10|ID",)),
-    use("trace", "--function", "3", "--limit", "4294967296", KERNEL, to="trace", parts=("4294967296|ID",)),
+    use("trace", "--function", "3", "--limit", "4294967296", KERNEL, to="trace", parts=("4294967296|N ",)),
     use("trace", "--function", "3", "--limit", "5", "--choices", "0,,1", KERNEL, to="trace", parts=("0,,1|LIST",)),
     use("rules", "A9", to="rules", parts=("A9|no code",)),
     use("rules", "A1", "A2", to="rules", parts=("A2",)),
@@ -328,6 +326,26 @@ def hostile_entry(program, folder):
     return wrong or (None if fine and got.status == 2 else f"  {got}")
 
 
+def hostile_file(program, folder):
+    """The name of a file has its control characters escaped, those from U+0080 too: before a verdict, in an error, and
+    in a word that fits no command."""
+    name, shown_name = "a\\\x7f\x9b31m\xa0.spv", "a\\\\\\x7f\\xc2\\x9b31m\xa0.spv"
+    (folder / name).write_bytes(KERNEL.read_bytes())
+    rows = [
+        (["check", "-H", name], Answer(f"{shown_name}: valid\n".encode(), b"", 0)),
+        (["check", "-H", "\x80"], Answer(b"", b"\\xc2\\x80: error file\n", 2)),
+    ]
+    for words, wanted in rows:
+        wrong = difference(wanted, run(program, words, folder, env=under()))
+        if wrong:
+            return f"  {words}\n{wrong}"
+    for words in (["show", "no\x9b31m"], ["check", "--\x9b31m"], ["annotate", "--function", "\x9b", str(KERNEL)]):
+        text = run(program, [*words[:1], VERBOSE, *words[1:]], folder, env=under()).err.decode()
+        if CONTROLS.search(text) or not text:
+            return f"  {words}: {text!r}"
+    return None
+
+
 # Where a grammar file or a module is at fault.
 
 
@@ -413,6 +431,7 @@ def entry_points(program, folder):
     rows = [
         Row(["trace", "--function", "1", "--limit", "5", str(KERNEL)], "error X1", ("\\b3\\b", '"k"|\\bk\\b')),
         Row(["trace", "--function", "20", "--limit", "5", str(LATER)], "error X1", ("\\b10\\b", '"k"|\\bk\\b')),
+        Row(["trace", "--function", "l", "--limit", "5", str(LATER)], "error X1", ("\\b10\\b", '"k"|\\bk\\b')),
     ]
     return next(filter(None, (each_said(row, program, folder) for row in rows)), None)
 
@@ -425,8 +444,27 @@ def module_for_text(program, folder):
     if wrong:
         return wrong
     got = on_terminal(program, ["check", str(TEXT)], folder, env=under())
-    fine = got.out.startswith(b"fault W") and (got.err, got.status) == (b"", 1)
+    fine = got.out.startswith(b"fault W") and got.err.startswith(b"help: ") and got.status == 1
     return None if fine else f"  {got}"
+
+
+def earlier_version(program, folder):
+    """Of a module of an earlier version each command that writes the verdict alone says on a terminal what `explain`
+    says of it; `explain` says it once, and nothing is said in a file."""
+    (folder / "old.spv").write_bytes(KERNEL.read_bytes()[:4] + struct.pack("<I", 0x00010400) + KERNEL.read_bytes()[8:])
+    told = run(program, ["explain", "old.spv"], folder, env=under()).out.decode()
+    help_line = next(line for line in told.splitlines(True) if line.startswith("help: "))
+    words = [["check"], ["show"], ["annotate"], ["graph"], ["trace", "--function", "3", "--limit", "5"]]
+    for command in words:
+        got = on_terminal(program, [*command, "old.spv"], folder, env=under())
+        if got != Answer(b"fault W5\n", help_line.encode(), 1):
+            return f"  {command}\n  {got}"
+        if run(program, [*command, "old.spv"], folder, env=under()).err:
+            return f"  {command}: told without a terminal"
+    for command in (["explain"], ["check", "--quiet"], ["check", "--as-1.6"]):
+        if on_terminal(program, [*command, "old.spv"], folder, env=under()).err:
+            return f"  {command}: told twice"
+    return None
 
 
 def names_among_several(program, folder):
@@ -543,6 +581,8 @@ def checks():
         ("a grammar file that is no JSON", no_json),
         ("entry points", entry_points),
         ("a module for a text", module_for_text),
+        ("an earlier version", earlier_version),
+        ("the name of a file with control characters", hostile_file),
         ("several files", names_among_several),
         ("outputs that fail", outputs_that_fail),
         ("outputs that nobody reads", outputs_that_nobody_reads),

@@ -181,8 +181,6 @@ def words_that_do_not_fit(program, folder):
         ["annotate", "--color", "sometimes", KERNEL],
         ["annotate", "--color=", KERNEL],
         ["annotate", "--function", KERNEL],
-        ["annotate", "--function", "%3", KERNEL],
-        ["annotate", "--function", "4294967296", KERNEL],
         ["annotate", "--function", "3", "--function", "3", KERNEL],
         ["annotate", "--json", KERNEL],
         ["annotate", KERNEL, KERNEL],

@@ -28,8 +28,9 @@ def places(facts, number, of):
 
 
 def owners(facts, number, found):
-    """What is told of operands of an instruction, by their numbers."""
-    return "".join(f", of operand {at} {facts.text.operand(number, at)}" for at in found)
+    """What is told of operands of an instruction, by their numbers: of the first eight, and how many more there are."""
+    told = "".join(f", of operand {at} {facts.text.operand(number, at)}" for at in found[:8])
+    return told + (f", and {len(found) - 8} more" if len(found) > 8 else "")
 
 
 def size(facts, of):
@@ -40,12 +41,19 @@ def size(facts, of):
     return count if part is not None and count < 1 << 32 else None
 
 
+def quoted(text):
+    """A text in quotes."""
+    for letter, shown in (("\\", "\\\\"), ('"', '\\"'), ("\n", "\\n")):
+        text = text.replace(letter, shown)
+    return f'"{text}"'
+
+
 def name(facts, of):
-    """The name of a function after a space: that of its first OpName, or else of the first OpEntryPoint that names it;
-    nothing where none does."""
+    """The name of a function in quotes after a space, as a text shows it: that of its first OpName, or else of the first
+    OpEntryPoint that names it; nothing where none does."""
     for opcode, at in ((NAME, 0), (ENTRY_POINT, 1)):
         for inst in facts.insts:
             told = inst.operands[at : at + 2]
             if inst.opcode == opcode and len(told) == 2 and told[0][1] == of and told[1][0] == "Text":
-                return f" {visible(told[1][1])}"
+                return f" {visible(quoted(told[1][1]))}"
     return ""

@@ -10,14 +10,16 @@ mod writing;
 
 use files::{STANDARD, is_same_file, make_if_absent, module_bytes, open, open_file, text_bytes};
 use several::{judge_several, judging_of};
-use spv_commands::{Command, Trouble, Unread, UseError, answer, arguments_in, is_verbose, report};
+use spv_commands::{
+    Command, Trouble, Unread, UseError, answer, arguments_in, is_verbose, refusal_help, report,
+};
 use spv_words::FromWrite;
-use std::io::IsTerminal;
+use std::io::{IsTerminal, Write};
 use std::process::ExitCode;
 use why::{AtHand, Why};
 use words::{
     grammar_of_environment, is_verbose_by_environment, push_texts, push_words, settle_color,
-    show_text, tell_use,
+    settle_task, show_text, tell_use,
 };
 use writing::{report_why, write_answer};
 
@@ -95,6 +97,19 @@ fn kept_of(
     }
 }
 
+/// What helps where the file of a command is no module: nothing where nothing is told, or memory is short.
+fn help_of(
+    rt: &HostRuntime,
+    why: &Why<'_>,
+    command: &Command<'_>,
+    file: &Result<Vec<u8>, Unread>,
+) -> Option<String> {
+    match file {
+        Ok(bytes) if why.is_told() => refusal_help(rt.alloc(), command, bytes).ok(),
+        _ => None,
+    }
+}
+
 /// The name of the text that a command reads, if it reads one.
 fn text_of<'a>(command: &Command<'a>) -> Option<&'a str> {
     match command {
@@ -112,6 +127,29 @@ fn leave_made(rt: &HostRuntime, why: &Why<'_>, command: &Command<'_>, status: u8
     }
 }
 
+/// Tells a trouble, where there was one, and leaves the file that was to be made: the exit status.
+fn status_after(
+    rt: &HostRuntime,
+    why: &Why<'_>,
+    command: &Command<'_>,
+    written: Result<u8, Trouble>,
+    at_hand: AtHand<'_, '_>,
+) -> u8 {
+    let status = match written {
+        Ok(status) => status,
+        Err(trouble) => report_why(rt, why, trouble, at_hand),
+    };
+    leave_made(rt, why, command, status);
+    status
+}
+
+/// Tells what helps behind a fault.
+fn tell_help(rt: &HostRuntime, status: u8, help: Option<String>) {
+    if let (1, Some(help)) = (status, help) {
+        let _ = rt.stderr().write_all(help.as_bytes());
+    }
+}
+
 /// Reads the file of a command, answers it, and writes that: the exit status.
 fn answer_one<'a>(
     rt: &HostRuntime,
@@ -121,6 +159,7 @@ fn answer_one<'a>(
 ) -> Result<u8, Trouble> {
     let file = file_of(rt, why, command)?;
     let kept = kept_of(rt, why, command, &file);
+    let help = help_of(rt, why, command, &file);
     let at_hand = AtHand {
         text: text_of(command),
         grammar,
@@ -130,14 +169,11 @@ fn answer_one<'a>(
         },
     };
     let written = match answer(rt.alloc(), command, grammar, file) {
-        Ok(answer) => write_answer(rt, why, command, &answer),
+        Ok(reply) => write_answer(rt, why, command, &reply),
         Err(trouble) => Err(trouble),
     };
-    let status = match written {
-        Ok(status) => status,
-        Err(trouble) => report_why(rt, why, trouble, at_hand),
-    };
-    leave_made(rt, why, command, status);
+    let status = status_after(rt, why, command, written, at_hand);
+    tell_help(rt, status, help);
     Ok(status)
 }
 
@@ -180,6 +216,7 @@ fn with_texts<'a>(
                 }
             }
             settle_color(rt, &mut command);
+            settle_task(&mut command);
             with_command(rt, why, &command)
         }
         Err(UseError::NoCommand) => Err(Trouble::Use),

@@ -169,10 +169,10 @@ impl<'a> Why<'a> {
         }
     }
 
-    /// Tells that an id is no entry point's function, and which entry points there are: nothing where memory is short.
+    /// Tells that a function is no entry point's, and which entry points there are: nothing where memory is short.
     fn tell_entry<W: Write>(&self, at_hand: AtHand<'_, '_>, to: &mut W) {
         if let Ok(entries) = self.entries(at_hand) {
-            let _ = to.write_all(b"ID is the function of no OpEntryPoint\n");
+            let _ = to.write_all(b"FUNCTION is that of no OpEntryPoint\n");
             let _ = to.write_all(entries.as_bytes());
         }
     }
@@ -192,7 +192,14 @@ impl<'a> Why<'a> {
             Trouble::Grammar(_) => self.tell_grammar(at_hand.grammar, to),
             Trouble::NoEntry => self.tell_entry(at_hand, to),
             Trouble::NoFunction => {
-                let _ = to.write_all(b"ID is the result of no OpFunction\n");
+                let _ = to.write_all(
+                    b"FUNCTION is neither the result of an OpFunction nor the name of one\n",
+                );
+            }
+            Trouble::SeveralFunctions => {
+                let _ = to.write_all(
+                    b"FUNCTION is the name of several functions; an id chooses one\n",
+                );
             }
             Trouble::Use | Trouble::Memory => {}
         }

@@ -2,7 +2,7 @@
 
 use crate::why::Why;
 use crate::writing::standard_output;
-use spv_commands::{Color, Command, Trouble, advice, help, text_asked};
+use spv_commands::{Color, Command, Task, Trouble, advice, help, text_asked};
 use spv_words::write_all;
 use std::env;
 use std::env::VarError;
@@ -76,6 +76,18 @@ pub fn settle_color(rt: &HostRuntime, command: &mut Command<'_>) {
         if *color == Color::Auto && rt.stdout().is_terminal() && !forbids_color(rt) {
             *color = Color::Always;
         }
+    }
+}
+
+/// Has a module only checked where nothing is told of its verdict: the exit status is that of one that is explained.
+pub fn settle_task(command: &mut Command<'_>) {
+    if let Command::Judge {
+        task,
+        quiet: true,
+        ..
+    } = command
+    {
+        *task = Task::Check;
     }
 }
 

@@ -58,20 +58,32 @@ fn write_module<'a>(rt: &HostRuntime, why: &Why<'a>, command: &Command<'a>, byte
     write_all(bytes, &mut FromWrite::new(made)).is_ok()
 }
 
-/// Writes an answer: the exit status.
+/// Writes what a command comes to: whether all of it was written.
+fn is_written<'a>(rt: &HostRuntime, why: &Why<'a>, command: &Command<'a>, reply: &Reply) -> bool {
+    match reply {
+        Reply::Done(output) => write_output(rt, why, command, output),
+        Reply::Fault(output) => write_output(rt, why, command, output),
+        Reply::Made(bytes) => write_module(rt, why, command, bytes),
+    }
+}
+
+/// The exit status of what is written.
+fn status_of(reply: &Reply) -> u8 {
+    match reply {
+        Reply::Fault(_) => 1,
+        Reply::Done(_) | Reply::Made(_) => 0,
+    }
+}
+
+/// Writes what a command comes to: the exit status.
 pub fn write_answer<'a>(
     rt: &HostRuntime,
     why: &Why<'a>,
     command: &Command<'a>,
-    answer: &Reply,
+    reply: &Reply,
 ) -> Result<u8, Trouble> {
-    let (written, status) = match answer {
-        Reply::Done(output) => (write_output(rt, why, command, output), 0),
-        Reply::Fault(output) => (write_output(rt, why, command, output), 1),
-        Reply::Made(bytes) => (write_module(rt, why, command, bytes), 0),
-    };
-    if written {
-        Ok(status)
+    if is_written(rt, why, command, reply) {
+        Ok(status_of(reply))
     } else {
         Err(Trouble::File)
     }

@@ -27,9 +27,10 @@ use crate::page_pen::{ContentsPen, PagePen};
 use crate::style::{END, HEAD, LIST, MIDDLE, STYLE, TITLED};
 use crate::uses::Uses;
 use crate::walk::walk_of;
-use crate::writer::{annotate_with, first_line};
+use crate::writer::{first_line, write_text};
 use spv_lines::push_plain;
 use spv_module::{Inst, Module};
+use spv_printer::show_listed;
 use spv_table::Table;
 use std::alloc::{AllocError, Global};
 
@@ -155,13 +156,21 @@ fn push_lines(
     ensures { IfOk result (λ t. (S : Subject) × IsSubject table.now «module».now finding.entry function S
         × (string_bytes t ≡ string_bytes out ++ flat_map (page_of (scene look.entry)) (document S))) }
 {
+    let text = show_listed(look.alloc, table, module)?;
     let mut pen = PagePen {
         out,
         look,
         buffer: [0u8; SIZE],
         at: 0,
     };
-    annotate_with(look.alloc, table, module, finding, function, &mut pen)?;
+    write_text(
+        look.alloc,
+        module,
+        finding,
+        function,
+        text.as_str(),
+        &mut pen,
+    )?;
     pen.finish()?;
     let PagePen { out, .. } = pen;
     Ok(out)

@@ -4,9 +4,10 @@ ghost use Rattle.std.specs.Prelude.{◌≡◌, ◌≤◌, ◌<◌, ◌+◌, ◌+
 ghost use Rattle.std.specs.Prelude.{drop, get_or, is_some, length, option_map, string_bytes, take, true};
 ghost use Rattle.std.specs.List.{flat_map, list_all, range_with_len};
 ghost use Rattle.spv_words.specs.Header.{greatest_length};
+ghost use Rattle.spv_table.specs.Table.{Table as TableView};
 ghost use Rattle.spv_module.specs.Module.{plain_insts};
 ghost use Rattle.spv_layout.specs.Place.{IsShort, first_word_of, word_count};
-ghost use Rattle.spv_lines.specs.Text.{header_lines, inst_line, lines_of};
+ghost use Rattle.spv_lines.specs.Text.{IsShownText, header_lines, inst_line, lines_of};
 ghost use Rattle.spv_lines.specs.Plain.{plain_of};
 ghost use Rattle.spv_annotate.specs.Document as specs;
 ghost use Rattle.spv_annotate.specs.Document.{IsSpelled, IsSubject, Subject, begun, document, entry, header_piece};
@@ -426,6 +427,36 @@ fn write_shown<P: Pen>(pen: &mut P, task: &Task<'_, '_>, text: &str) -> Result<(
     write_entries(pen, task, rest)
 }
 
+/// Writes the text for reading of a module that words spell, by its text: what `annotate_with` writes.
+///
+/// An `AllocError` comes only where a growth of memory was refused, and then nothing is said of what is left.
+pub fn write_text<P: Pen>(
+    alloc: Global,
+    module: &Module<'_>,
+    finding: Option<Finding<'_>>,
+    function: Option<u32>,
+    text: &str,
+    pen: &mut P,
+) -> Result<(), AllocError>
+    requires words { IsShort (plain_insts «module».now) }
+    requires shown { (G : TableView) × IsSpelled G (plain_insts «module».now)
+        × IsShownText G «module».now.header (plain_insts «module».now) text.now }
+    ensures { OnOk result ((S : Subject) × ((G : TableView) → IsSpelled G (plain_insts «module».now)
+        → IsShownText G «module».now.header (plain_insts «module».now) text.now
+        → IsSubject G «module».now finding.entry function S)
+        × IsWritten P.text P.writes (document S) pen.old pen.new) }
+{
+    let known = Known::new(alloc, module.insts.as_slice())?;
+    let task = Task {
+        alloc,
+        module,
+        known: &known,
+        finding,
+        function,
+    };
+    write_shown(pen, &task, text)
+}
+
 /// Writes the text for reading of a module that words spell: the line of the verdict, where a fault is told; the five
 /// lines of its header, and the line of each instruction with a comment behind it; empty lines before sections and
 /// functions; and what is told of a fault, below the line of its instruction. Where a function is asked for, by the id
@@ -450,13 +481,5 @@ pub fn annotate_with<P: Pen>(
         × IsWritten P.text P.writes (document S) pen.old pen.new) }
 {
     let text = show_listed(alloc, table, module)?;
-    let known = Known::new(alloc, module.insts.as_slice())?;
-    let task = Task {
-        alloc,
-        module,
-        known: &known,
-        finding,
-        function,
-    };
-    write_shown(pen, &task, text.as_str())
+    write_text(alloc, module, finding, function, text.as_str(), pen)
 }

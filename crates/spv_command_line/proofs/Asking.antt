@@ -30,7 +30,8 @@ use Rattle.spv_command_line.specs.inner.CommandLine.{IsGiven, IsGivenFor, IsOfFi
 use Rattle.spv_rules.specs.Errors.{any_name}
 use Rattle.spv_rules.specs.Rules.{IsNamed}
 use Rattle.spv_rules.specs.declared.errors.AnyCode.{AnyCode}
-use Rattle.spv_command_line.specs.Number.{AreNumbers, AreNumbersOf, IsNumber, IsNumberIfAny, IsNumberOf}
+use Rattle.spv_command_line.specs.Number.{AreNumbers, AreNumbersOf, IsChoice, IsChoiceIfAny, IsChoiceOf, IsNumber, IsNumberOf}
+use Rattle.spv_names.specs.declared.chosen.Chosen.{Chosen}
 
 -- the command line is one of which `clap` tells the matches and the faults
 pub is_simple_lem : is_simple program ≡ true
@@ -192,23 +193,18 @@ module _ (environment : Option Text) (rows : List Row) where
   not_named task none = unjudged task (λ k h fs v x n q j i. none n i.names)
 
   -- where what its options ask for is none
-  pub not_annotated : ((function : Option ℕ) (color : Color) → IsNumberIfAny (first_of (codes "function") rows) function → IsColor (first_of (codes "color") rows) color → ⊥)
+  pub not_annotated : ((color : Color) → ¬ (IsColor (first_of (codes "color") rows) color))
       → IsNoCommand environment (Some (codes "annotate", rows))
-  not_annotated none (Annotate g f v function form color) h = none function color h.function_is h.color_is
+  not_annotated none (Annotate g f v function form color) h = none color h.color_is
   not_annotated none (Judge tasks.Check g fs v x n q j) h = let e : 858 ≡ 510 = spelled environment (codes "annotate") rows (Judge tasks.Check g fs v x n q j) h in omega (arith, e)
   not_annotated none c h = let e : 858 ≡ sum_of c = spelled environment (codes "annotate") rows c h in omega (arith, e)
-
-  pub not_drawn : ((function : Option ℕ) → ¬ (IsNumberIfAny (first_of (codes "function") rows) function)) → IsNoCommand environment (Some (codes "graph", rows))
-  not_drawn none (Graph g f v function) h = none function h.function_is
-  not_drawn none (Judge tasks.Check g fs v x n q j) h = let e : 530 ≡ 510 = spelled environment (codes "graph") rows (Judge tasks.Check g fs v x n q j) h in omega (arith, e)
-  not_drawn none c h = let e : 530 ≡ sum_of c = spelled environment (codes "graph") rows c h in omega (arith, e)
 
   pub not_assembled : first_of (codes "out") rows ≡ None → IsNoCommand environment (Some (codes "asm", rows))
   not_assembled none (Asm g f out big explain) h = let o = h.1 in cc
   not_assembled none (Judge tasks.Check g fs v x n q j) h = let e : 321 ≡ 510 = spelled environment (codes "asm") rows (Judge tasks.Check g fs v x n q j) h in omega (arith, e)
   not_assembled none c h = let e : 321 ≡ sum_of c = spelled environment (codes "asm") rows c h in omega (arith, e)
 
-  pub not_traced : ((function : ℕ) (choices : List ℕ) (limit : ℕ) → IsNumberOf (first_of (codes "function") rows) function
+  pub not_traced : ((function : Chosen) (choices : List ℕ) (limit : ℕ) → IsChoiceOf (first_of (codes "function") rows) function
       → AreNumbersOf (first_of (codes "choices") rows) choices → IsNumberOf (first_of (codes "limit") rows) limit → ⊥)
       → IsNoCommand environment (Some (codes "trace", rows))
   not_traced none (Trace g f function choices limit v x) h = none function choices.items limit h.function_is h.choices_are h.limit_is
@@ -293,19 +289,12 @@ code_known text name code e h = subst (λ (t : Option Text). IsCodeOf t (Some co
 pub no_code : (text : Option Text) → text ≡ None → IsCodeOf text None
 no_code text e = subst (λ (t : Option Text). IsCodeOf t None) (sym e) tt
 
--- a number that may be given
-pub number_given : (text : Option Text) (t : Text) (n : ℕ) → text ≡ Some t → IsNumber t n → IsNumberIfAny text (Some n)
-number_given text t n e h = subst (λ (o : Option Text). IsNumberIfAny o (Some n)) (sym e) h
+-- a function that may be chosen
+pub choice_given : (text : Option Text) (t : Text) (x : Chosen) → text ≡ Some t → IsChoice t x → IsChoiceIfAny text (Some x)
+choice_given text t x e h = subst (λ (o : Option Text). IsChoiceIfAny o (Some x)) (sym e) h
 
-pub none_given : (text : Option Text) → text ≡ None → IsNumberIfAny text None
-none_given text e = subst (λ (o : Option Text). IsNumberIfAny o None) (sym e) tt
-
-pub no_number_given : (text : Option Text) (t : Text) → text ≡ Some t → ((n : ℕ) → ¬ (IsNumber t n)) → (o : Option ℕ) → ¬ (IsNumberIfAny text o)
-no_number_given None t e h o k = cc
-no_number_given (Some text) t e h None k = k
-no_number_given (Some text) t e h (Some n) k =
-    let same : text ≡ t = ap (λ (o : Option Text). unwrap_or o []) e in
-    h n (subst (λ (t : Text). IsNumber t n) same k)
+pub none_given : (text : Option Text) → text ≡ None → IsChoiceIfAny text None
+none_given text e = subst (λ (o : Option Text). IsChoiceIfAny o None) (sym e) tt
 
 -- a form by its flag
 pub form_read : (text : Option Text) (html : Bool) (form : Form) → form ≡ form_of html → IsFlag text html → IsForm text form
@@ -350,6 +339,27 @@ pub number_none : (r : Option (Bor Text)) (read text : Option Text) (n : ℕ) �
 number_none r read text n e q h =
     let v : None ≡ text = ap (option_map (λ (b : Bor Text). b.now)) (sym h) ∙ e ∙ q in
     subst (λ (t : Option Text). ¬ (IsNumberOf t n)) v (λ m. m)
+
+-- which function an option chooses
+text_read : (r : Option (Bor Text)) (read text : Option Text) (s : Bor Text) → option_map (λ b. b.now) r ≡ read → read ≡ text → r ≡ Some s → Some s.now ≡ text
+text_read r read text s e q h = ap (option_map (λ (b : Bor Text). b.now)) (sym h) ∙ e ∙ q
+
+text_none : (r : Option (Bor Text)) (read text : Option Text) → option_map (λ b. b.now) r ≡ read → read ≡ text → r ≡ None → None ≡ text
+text_none r read text e q h = ap (option_map (λ (b : Bor Text). b.now)) (sym h) ∙ e ∙ q
+
+pub choice_read : (r : Option (Bor Text)) (read text : Option Text) (s : Bor Text) (x : Chosen) → option_map (λ b. b.now) r ≡ read → read ≡ text → r ≡ Some s
+    → IsChoice s.now x → IsChoiceOf text x
+choice_read r read text s x e q h m = subst (λ (t : Option Text). IsChoiceOf t x) (text_read r read text s e q h) m
+
+pub choice_none : (r : Option (Bor Text)) (read text : Option Text) (x : Chosen) → option_map (λ b. b.now) r ≡ read → read ≡ text → r ≡ None → ¬ (IsChoiceOf text x)
+choice_none r read text x e q h = subst (λ (t : Option Text). ¬ (IsChoiceOf t x)) (text_none r read text e q h) (λ m. m)
+
+pub choice_if_read : (r : Option (Bor Text)) (read text : Option Text) (s : Bor Text) (x : Chosen) → option_map (λ b. b.now) r ≡ read → read ≡ text → r ≡ Some s
+    → IsChoice s.now x → IsChoiceIfAny text (Some x)
+choice_if_read r read text s x e q h m = choice_given text s.now x (sym (text_read r read text s e q h)) m
+
+pub choice_if_none : (r : Option (Bor Text)) (read text : Option Text) → option_map (λ b. b.now) r ≡ read → read ≡ text → r ≡ None → IsChoiceIfAny text None
+choice_if_none r read text e q h = none_given text (sym (text_none r read text e q h))
 
 -- a flag that was read has the text `true`
 pub flag_read : (r : Option (Bor Text)) (read text : Option Text) (s : Bor Text) (answer : Bool) → option_map (λ b. b.now) r ≡ read → read ≡ text → r ≡ Some s

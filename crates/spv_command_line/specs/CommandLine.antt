@@ -29,7 +29,8 @@ use Rattle.spv_command_line.specs.declared.command_line.UseError.TheVariants.{No
 use Rattle.spv_rules.specs.Errors.{any_name}
 use Rattle.spv_rules.specs.Rules.{IsNamed}
 use Rattle.spv_rules.specs.declared.errors.AnyCode.{AnyCode}
-use Rattle.spv_command_line.specs.Number.{AreNumbersOf, IsNumberIfAny, IsNumberOf}
+use Rattle.spv_command_line.specs.Number.{AreNumbersOf, IsChoiceIfAny, IsChoiceOf, IsNumberOf}
+use Rattle.spv_names.specs.declared.chosen.Chosen.{Chosen}
 
 -- an option with a value, which may be given
 abbrev pub option : Text → Rule
@@ -96,18 +97,18 @@ explain_command = command (codes "explain") (grammar_option ∷ files_word ∷ f
 abbrev pub show_command : Shape
 show_command = command (codes "show") (grammar_option ∷ file_word ∷ as_1_6_flag ∷ verbose_flag ∷ [])
 
--- `annotate [--grammar G] FILE [--function ID] [--html] [--color WHEN] [--as-1.6] [--verbose]`
+-- `annotate [--grammar G] FILE [--function FUNCTION] [--html] [--color WHEN] [--as-1.6] [--verbose]`
 abbrev pub annotate_command : Shape
 annotate_command = command (codes "annotate")
     (grammar_option ∷ file_word ∷ option (codes "function") ∷ flag (codes "html") ∷ option (codes "color")
     ∷ as_1_6_flag ∷ verbose_flag ∷ [])
 
--- `graph [--grammar G] FILE [--function ID] [--as-1.6] [--verbose]`
+-- `graph [--grammar G] FILE [--function FUNCTION] [--as-1.6] [--verbose]`
 abbrev pub graph_command : Shape
 graph_command = command (codes "graph")
     (grammar_option ∷ file_word ∷ option (codes "function") ∷ as_1_6_flag ∷ verbose_flag ∷ [])
 
--- `trace [--grammar G] FILE --function ID [--choices LIST] --limit N [--as-1.6] [--extended] [--verbose]`
+-- `trace [--grammar G] FILE --function FUNCTION [--choices LIST] --limit N [--as-1.6] [--extended] [--verbose]`
 abbrev pub trace_command : Shape
 trace_command = command (codes "trace")
     (grammar_option ∷ file_word ∷ must (option (codes "function")) ∷ option (codes "choices")
@@ -167,11 +168,11 @@ IsNaming on off OfSeveral = (on ≢ Some (codes "true")) × (off ≢ Some (codes
 IsNaming on off Always = (on ≡ Some (codes "true")) × (off ≢ Some (codes "true"))
 IsNaming on off Never = (on ≢ Some (codes "true")) × (off ≡ Some (codes "true"))
 
--- they are `trace` of one file, with the numbers that its options are in decimal
+-- they are `trace` of one file, with the function and the numbers that its options are
 pub record IsTrace (environment : Option Text) (found : Option (Text × List Row)) (grammar : Option Text) (file : Text)
-    (function : ℕ) (choices : List ℕ) (limit : ℕ) (as_1_6 extended : Bool) : Type 0 where
+    (function : Chosen) (choices : List ℕ) (limit : ℕ) (as_1_6 extended : Bool) : Type 0 where
   pub asked : IsAsked environment found (codes "trace") grammar (file ∷ [])
-  pub function_is : IsNumberOf (text_in (codes "function") found) function
+  pub function_is : IsChoiceOf (text_in (codes "function") found) function
   pub choices_are : AreNumbersOf (text_in (codes "choices") found) choices
   pub limit_is : IsNumberOf (text_in (codes "limit") found) limit
   pub version : IsFlag (text_in (codes "as-1.6") found) as_1_6
@@ -205,21 +206,21 @@ abbrev pub IsColor : Option Text → Color → Type 0
 IsColor None color = color ≡ colors.Auto
 IsColor (Some text) color = text ≡ color_word color
 
--- they are `annotate` of one file, of the whole module or of the function whose id is that number in decimal
+-- they are `annotate` of one file, of the whole module or of that function
 pub record IsAnnotate (environment : Option Text) (found : Option (Text × List Row)) (grammar : Option Text)
-    (file : Text) (as_1_6 : Bool) (function : Option ℕ) (form : Form) (color : Color) : Type 0 where
+    (file : Text) (as_1_6 : Bool) (function : Option Chosen) (form : Form) (color : Color) : Type 0 where
   pub asked : IsAsked environment found (codes "annotate") grammar (file ∷ [])
   pub version : IsFlag (text_in (codes "as-1.6") found) as_1_6
-  pub function_is : IsNumberIfAny (text_in (codes "function") found) function
+  pub function_is : IsChoiceIfAny (text_in (codes "function") found) function
   pub form_is : IsForm (text_in (codes "html") found) form
   pub color_is : IsColor (text_in (codes "color") found) color
 
--- they are `graph` of one file, of the calls or of the function whose id is that number in decimal
+-- they are `graph` of one file, of the calls or of that function
 pub record IsGraph (environment : Option Text) (found : Option (Text × List Row)) (grammar : Option Text)
-    (file : Text) (as_1_6 : Bool) (function : Option ℕ) : Type 0 where
+    (file : Text) (as_1_6 : Bool) (function : Option Chosen) : Type 0 where
   pub asked : IsAsked environment found (codes "graph") grammar (file ∷ [])
   pub version : IsFlag (text_in (codes "as-1.6") found) as_1_6
-  pub function_is : IsNumberIfAny (text_in (codes "function") found) function
+  pub function_is : IsChoiceIfAny (text_in (codes "function") found) function
 
 -- the command that does a task
 abbrev pub task_name : Task → Text

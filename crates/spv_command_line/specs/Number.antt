@@ -2,6 +2,8 @@
 use Rattle.std.specs.Prelude.{◌≡◌, ◌<◌, ◌^◌, ℕ, List, [], Option, Some, None, true, nat_eq, length}
 use Rattle.std.specs.List.{AllZip, list_all, slice_split}
 use Rattle.spv_lines.specs.Digits.{is_digit, value}
+use Rattle.spv_names.specs.declared.chosen.Chosen.{Chosen}
+use Rattle.spv_names.specs.declared.chosen.Chosen.TheVariants.{Id, Name}
 
 -- The text is one or more ASCII digits, and these are a number of 32 bits in decimal.
 pub record IsNumber (text : List ℕ) (n : ℕ) : Type 0 where
@@ -23,11 +25,21 @@ abbrev pub IsNumberOf : Option (List ℕ) → ℕ → Type 0
 IsNumberOf None n = ⊥
 IsNumberOf (Some text) n = IsNumber text n
 
--- of an option that may be given: without it there is none
-abbrev pub IsNumberIfAny : Option (List ℕ) → Option ℕ → Type 0
-IsNumberIfAny None None = Unit {0}
-IsNumberIfAny (Some text) (Some n) = IsNumber text n
-IsNumberIfAny _ _ = ⊥
+-- The text chooses a function: by its id, where it is a number, and else by its name.
+abbrev pub IsChoice : List ℕ → Chosen → Type 0
+IsChoice text (Id n) = IsNumber text n
+IsChoice text (Name name) = (name.now ≡ text) × ((n : ℕ) → ¬ (IsNumber text n))
+
+-- the text of an option that must be given does
+abbrev pub IsChoiceOf : Option (List ℕ) → Chosen → Type 0
+IsChoiceOf None chosen = ⊥
+IsChoiceOf (Some text) chosen = IsChoice text chosen
+
+-- that of an option that may be given: without it there is none
+abbrev pub IsChoiceIfAny : Option (List ℕ) → Option Chosen → Type 0
+IsChoiceIfAny None None = Unit {0}
+IsChoiceIfAny (Some text) (Some chosen) = IsChoice text chosen
+IsChoiceIfAny _ _ = ⊥
 
 -- the numbers of an option that may be given: without it there are none
 abbrev pub AreNumbersOf : Option (List ℕ) → List ℕ → Type 0

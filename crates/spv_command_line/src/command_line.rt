@@ -9,12 +9,13 @@ ghost use Rattle.spv_command_line.specs.CommandLine.{inputs_among, path_of, task
 ghost use Rattle.spv_command_line.specs.inner.CommandLine.{IsGiven, IsGivenFor, IsOfFiles};
 
 use crate::options::{
-    color_in, form_in, is_as_1_6, is_extended, is_set, naming_in, number_if_given, number_of,
-    numbers_of,
+    chosen_if_given, chosen_of, color_in, form_in, is_as_1_6, is_extended, is_set, naming_in,
+    number_of, numbers_of,
 };
 use crate::program::{all_words, words_for};
 use clap::ArgMatches;
 use clap::error::ErrorKind;
+use spv_names::Chosen;
 use spv_rules::AnyCode;
 use std::alloc::{AllocError, Global};
 use thiserror::Error;
@@ -101,8 +102,8 @@ pub enum Command<'a> {
         file: &'a str,
         /// Whether a module of an earlier version is taken as one of 1.6.
         as_1_6: bool,
-        /// The id of the only function that is written, if it is only one.
-        function: Option<u32>,
+        /// The only function that is written, if it is only one.
+        function: Option<Chosen<'a>>,
         /// What is written.
         form: Form,
         /// When the text has colour; a page has colours of its own.
@@ -116,8 +117,8 @@ pub enum Command<'a> {
         file: &'a str,
         /// Whether a module of an earlier version is taken as one of 1.6.
         as_1_6: bool,
-        /// The id of the function whose blocks are drawn; without it the calls of the module are.
-        function: Option<u32>,
+        /// The function whose blocks are drawn; without it the calls of the module are.
+        function: Option<Chosen<'a>>,
     },
     /// `spv asm [--grammar G] --out OUT [--big] FILE`: the module of a text.
     Asm {
@@ -132,14 +133,14 @@ pub enum Command<'a> {
         /// Whether the fault of a text is explained.
         explain: bool,
     },
-    /// `spv trace [--grammar G] --function ID [--choices 0,1] --limit N FILE`: the run of an entry point's function.
+    /// `spv trace [--grammar G] --function FUNCTION [--choices 0,1] --limit N FILE`: the run of an entry point's function.
     Trace {
         /// The path of the grammar file, if one is named.
         grammar: Option<&'a str>,
         /// The path of the module.
         file: &'a str,
-        /// The id of the function, as an OpEntryPoint names it.
-        function: u32,
+        /// The function of an OpEntryPoint.
+        function: Chosen<'a>,
         /// The places of the targets that are taken, from 0: one for each branch on a condition or switch that is
         /// executed.
         choices: Vec<u32>,
@@ -216,7 +217,7 @@ fn show_in<'a>(found: &ArgMatches<'a>, grammar: Option<&'a str>, file: &'a str) 
     }
 }
 
-/// The command `annotate` with the texts of these, if its own are a number and a word for a use of colour.
+/// The command `annotate` with the texts of these, if its own is a word for a use of colour.
 fn annotate_in<'a>(
     found: &ArgMatches<'a>,
     grammar: Option<&'a str>,
@@ -225,7 +226,7 @@ fn annotate_in<'a>(
     ensures { IsGivenFor (codes "annotate") (rows_of (found_of found.now)) (path_of grammar.entry) (file.now ∷ [])
         result }
 {
-    let function = number_if_given(found, "function")?;
+    let function = chosen_if_given(found, "function");
     let color = color_in(found)?;
     Ok(Command::Annotate {
         grammar,
@@ -237,21 +238,17 @@ fn annotate_in<'a>(
     })
 }
 
-/// The command `graph` with the texts of these, if its own is a number.
-fn graph_in<'a>(
-    found: &ArgMatches<'a>,
-    grammar: Option<&'a str>,
-    file: &'a str,
-) -> Result<Command<'a>, UseError>
-    ensures { IsGivenFor (codes "graph") (rows_of (found_of found.now)) (path_of grammar.entry) (file.now ∷ []) result }
+/// The command `graph` with the texts of these.
+fn graph_in<'a>(found: &ArgMatches<'a>, grammar: Option<&'a str>, file: &'a str) -> Command<'a>
+    ensures { IsGivenFor (codes "graph") (rows_of (found_of found.now)) (path_of grammar.entry) (file.now ∷ [])
+        (Ok result) }
 {
-    let function = number_if_given(found, "function")?;
-    Ok(Command::Graph {
+    Command::Graph {
         grammar,
         file,
         as_1_6: is_as_1_6(found),
-        function,
-    })
+        function: chosen_if_given(found, "function"),
+    }
 }
 
 /// The command `asm` with the texts of these, if `clap` read its own too.
@@ -283,7 +280,7 @@ fn trace_in<'a>(
 ) -> Result<Command<'a>, UseError>
     ensures { IsGivenFor (codes "trace") (rows_of (found_of found.now)) (path_of grammar.entry) (file.now ∷ []) result }
 {
-    let Some(function) = number_of(found, "function") else {
+    let Some(function) = chosen_of(found, "function") else {
         return Err(UseError::NoCommand);
     };
     let Some(limit) = number_of(found, "limit") else {
@@ -344,7 +341,7 @@ fn one_file_command<'a>(
     match name {
         "show" => Ok(show_in(found, grammar, file)),
         "annotate" => annotate_in(found, grammar, file),
-        "graph" => graph_in(found, grammar, file),
+        "graph" => Ok(graph_in(found, grammar, file)),
         "asm" => asm_in(found, grammar, file),
         "trace" => trace_in(alloc, found, grammar, file),
         _ => Err(UseError::NoCommand),
@@ -506,7 +503,8 @@ pub fn arguments<'a>(alloc: Global, words: &'a [&'a str]) -> Result<Command<'a>,
 /// grammar file is that of `--grammar`, and without it that of the environment; where neither names one there is none,
 /// which asks for the built-in grammar. `grammar` takes its own word alone.
 ///
-/// A number is one or more ASCII digits, and one of 32 bits in decimal; choices are numbers joined by commas, none
+/// A number is one or more ASCII digits, and one of 32 bits in decimal; a function is a number, which is its id, or else
+/// its name; choices are numbers joined by commas, none
 /// where the option is not given. Colour is used by the word of `--color`: `auto`, `always` or `never`.
 ///
 /// # Errors

@@ -1,5 +1,5 @@
 //! Worked examples. Each function does nothing: its contract is what is proved.
-ghost use Rattle.std.specs.Prelude.{◌≡◌, ◌∷◌, [], ℕ, List, Option, Some, None, Ok, Err};
+ghost use Rattle.std.specs.Prelude.{◌≡◌, ◌∷◌, [], ℕ, List, Some, None, Ok, Err};
 ghost use Rattle.std.specs.Prelude.{true, false, codes, map, Vec};
 ghost use Rattle.std.specs.Borrow.{Bor};
 ghost use Rattle.std.specs.Global.{Global};
@@ -15,7 +15,8 @@ ghost use Rattle.spv_command_line.specs.declared.command_line.UseError.TheVarian
 ghost use Rattle.spv_command_line.specs.declared.command_line.Naming.{Naming};
 ghost use Rattle.spv_command_line.specs.declared.command_line.Naming.TheVariants.{OfSeveral};
 ghost use Rattle.spv_command_line.specs.declared.command_line.Task.TheVariants.{Check, Explain};
-ghost use Rattle.spv_command_line.specs.Number.{AreNumbers, IsNumber, IsNumberIfAny};
+ghost use Rattle.spv_command_line.specs.Number.{AreNumbers, IsChoice, IsChoiceIfAny, IsNumber};
+ghost use Rattle.spv_names.specs.declared.chosen.Chosen.TheVariants.{Id, Name};
 
 /// Worked examples of numbers of the command line.
 pub fn number_examples()
@@ -27,10 +28,13 @@ pub fn number_examples()
     // Two numbers, and no two where a comma stands at the end.
     ensures numbers { AreNumbers (codes "0,12") (0 ∷ 12 ∷ []) }
     ensures no_numbers { (ns : List ℕ) → ¬ (AreNumbers (codes "0,") ns) }
-    // A number that may be given, one that is not, and what is no number: `%12`.
-    ensures given { IsNumberIfAny (Some (codes "12")) (Some 12) }
-    ensures not_given { IsNumberIfAny None None }
-    ensures none_given { (n : Option ℕ) → ¬ (IsNumberIfAny (Some (codes "%12")) n) }
+    // A function that is chosen by its id, and one by its name: a number is an id, and never a name.
+    ensures by_id { IsChoice (codes "12") (Id 12) }
+    ensures by_name { (name : Bor Text) → name.now ≡ codes "%12" → IsChoice (codes "%12") (Name name) }
+    ensures no_name { (name : Bor Text) → ¬ (IsChoice (codes "12") (Name name)) }
+    // One that may be chosen, and is not.
+    ensures not_chosen { IsChoiceIfAny None None }
+    ensures none_chosen { ¬ (IsChoiceIfAny (Some (codes "12")) None) }
 {}
 
 /// Worked examples of options without a value.
@@ -64,7 +68,7 @@ pub fn line_examples()
     // The graph of one function.
     ensures graph { (file : Bor Text) → file.now ≡ codes "a.spv"
         → AnswersTo (codes "graph" ∷ codes "--function" ∷ codes "4" ∷ codes "a.spv" ∷ [])
-        (Ok (Graph None file false (Some 4))) }
+        (Ok (Graph None file false (Some (Id 4)))) }
     // A word for a use of colour, and what is none.
     ensures annotate { (file : Bor Text) → file.now ≡ codes "a.spv"
         → AnswersTo (codes "annotate" ∷ codes "a.spv" ∷ codes "--color=never" ∷ [])

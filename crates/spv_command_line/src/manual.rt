@@ -18,6 +18,19 @@ pub const EXTENDED: &str =
     "Looks at the operands of extended instructions too, for loaders: `valid` then says that their ids are defined, \
     and that OpenCL.std has the instructions that are called";
 
+/// Of the only function that `annotate` writes.
+pub const ONLY_FUNCTION: &str =
+    "The only function that is written: its id, or else its name, by OpName or that of its entry point";
+
+/// Of the function whose blocks `graph` draws.
+pub const DRAWN_FUNCTION: &str =
+    "The function whose blocks are drawn: its id, or else its name, by OpName or that of its entry point; where it is \
+    left out, the calls are drawn";
+
+/// Of the function whose run `trace` writes.
+pub const FUNCTION: &str =
+    "The function of an entry point: its id, or else its name, by OpName or that of its entry point";
+
 /// Of the limit of `trace`.
 pub const LIMIT: &str =
     "The greatest number of steps; the run is written once it is whole, or `error memory` alone where it does not fit";
@@ -133,7 +146,7 @@ Exit status:
   2  an error: a line on the standard error tells it
 
 Example:
-  spv trace --function 4 --limit 100 kernel.spv";
+  spv trace --function main --limit 100 kernel.spv";
 
 /// After the options of `rules`.
 pub const RULES: &str = "Reads no file.

@@ -2,19 +2,13 @@
 use crate::program::{all_words, command_named};
 use clap::ArgMatches;
 use clap::error::ErrorKind;
+use spv_lines::push_plain;
 use std::alloc::{AllocError, Global};
 
-/// A word, with each control character of ASCII as `\xNN`.
+/// A word without its control characters: each byte of one as `\xNN`.
 pub fn shown_word(alloc: Global, word: &str) -> Result<String, AllocError> {
     let mut text = String::new(alloc);
-    for letter in word.chars() {
-        if letter.is_ascii_control() {
-            let number = letter as u32;
-            text.push_str(&format!(in alloc; "\\x{number:02x}")?)?;
-        } else {
-            text.push(letter)?;
-        }
-    }
+    push_plain(&mut text, word)?;
     Ok(text)
 }
 
@@ -28,12 +22,9 @@ fn own_reason(matches: &ArgMatches<'_>) -> &'static str {
             "`-` may be one FILE only, and --with-filename and --no-filename do not go together"
         }
         "trace" => {
-            "ID, N and those in LIST are decimal numbers below 4294967296, with a comma between two in LIST"
+            "N and those in LIST are decimal numbers below 4294967296, with a comma between two in LIST"
         }
-        "annotate" => {
-            "ID is a decimal number below 4294967296, and WHEN is `auto`, `always` or `never`"
-        }
-        "graph" => "ID is a decimal number below 4294967296",
+        "annotate" => { "WHEN is `auto`, `always` or `never`" }
         "asm" => "OUT is FILE itself",
         "rules" => "no code has this name; `spv rules` writes all of them",
         _ => "the words fit no command",
@@ -66,7 +57,7 @@ fn reason_of(alloc: Global, words: &[&str]) -> Result<String, AllocError> {
 
 /// What is wrong with the words where `arguments` answers `NoCommand`, for people: a line or more that say which word
 /// does not fit or what is missing, and the line `see: spv help`, with the command after it that the words begin with.
-/// A control character of a word is `\xNN`.
+/// Each byte of a control character of a word is `\xNN`.
 ///
 /// # Errors
 ///

@@ -1,16 +1,18 @@
 //! The options after the name of a command, as `clap` read them.
-ghost use Rattle.std.specs.Prelude.{◌≡◌, ◌↔◌, ℕ, List, codes, IfErr, IfOk, IsTrue, MatchOption, Option};
+ghost use Rattle.std.specs.Prelude.{◌≡◌, ◌↔◌, ℕ, List, codes, IfErr, IfOk, IsTrue, MatchOption};
 ghost use Rattle.clap.specs.Words.{first_of, found_of, rows_of};
 ghost use Rattle.spv_command_line.specs.declared.command_line.Color.{Color};
 ghost use Rattle.spv_command_line.specs.declared.command_line.Naming.{Naming};
 ghost use Rattle.spv_command_line.specs.declared.command_line.UseError.TheVariants.{NoCommand};
 ghost use Rattle.spv_command_line.specs.CommandLine.{IsColor, IsFlag, IsForm, IsNaming, color_word};
 ghost use Rattle.spv_command_line.specs.inner.CommandLine.{form_of, naming_of};
-ghost use Rattle.spv_command_line.specs.Number.{AreNumbersOf, IsNumberIfAny, IsNumberOf};
+ghost use Rattle.spv_command_line.specs.Number.{AreNumbersOf, IsChoice, IsChoiceIfAny, IsChoiceOf, IsNumberOf};
+ghost use Rattle.spv_names.specs.declared.chosen.Chosen.{Chosen};
 
 use crate::command_line::{Color, Form, Naming, UseError};
 use crate::number::{number_in, numbers_in};
 use clap::ArgMatches;
+use spv_names::Chosen;
 use std::alloc::{AllocError, Global};
 
 /// Whether a text is that of a flag that is set.
@@ -83,22 +85,35 @@ pub fn number_of(found: &ArgMatches<'_>, option: &str) -> Option<u32>
     }
 }
 
-/// The number of an option that may be given, if it is.
-///
-/// # Errors
-///
-/// `NoCommand` where its text is no number of 32 bits.
-pub fn number_if_given(found: &ArgMatches<'_>, option: &str) -> Result<Option<u32>, UseError>
-    ensures read { IfOk result (λ n. IsNumberIfAny (first_of option.now (rows_of (found_of found.now))) n) }
-    ensures refused { IfErr result (λ e. (e ≡ NoCommand)
-        × ((n : Option ℕ) → ¬ (IsNumberIfAny (first_of option.now (rows_of (found_of found.now))) n))) }
+/// The function that a text chooses: that of an id, where it is a number of 32 bits, and else that of a name.
+fn chosen_by<'a>(text: &'a str) -> Chosen<'a>
+    ensures { IsChoice text.now result }
 {
-    let Some(text) = found.get_str(option) else {
-        return Ok(None);
-    };
     match number_in(text.as_bytes()) {
-        Some(number) => Ok(Some(number)),
-        None => Err(UseError::NoCommand),
+        Some(id) => Chosen::Id(id),
+        None => Chosen::Name(text),
+    }
+}
+
+/// The function of an option that must be given, if it is.
+pub fn chosen_of<'a>(found: &ArgMatches<'a>, option: &str) -> Option<Chosen<'a>>
+    ensures { MatchOption result
+        ((chosen : Chosen) → ¬ (IsChoiceOf (first_of option.now (rows_of (found_of found.now))) chosen))
+        (λ chosen. IsChoiceOf (first_of option.now (rows_of (found_of found.now))) chosen) }
+{
+    match found.get_str(option) {
+        Some(text) => Some(chosen_by(text)),
+        None => None,
+    }
+}
+
+/// The function of an option that may be given, if it is.
+pub fn chosen_if_given<'a>(found: &ArgMatches<'a>, option: &str) -> Option<Chosen<'a>>
+    ensures { IsChoiceIfAny (first_of option.now (rows_of (found_of found.now))) result }
+{
+    match found.get_str(option) {
+        Some(text) => Some(chosen_by(text)),
+        None => None,
     }
 }
 

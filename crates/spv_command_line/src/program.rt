@@ -169,17 +169,17 @@ const EXPLAINED: Argument = Argument {
 const ONLY_FUNCTION: Argument = Argument {
     name: "function",
     form: Form::Option,
-    value: "ID",
+    value: "FUNCTION",
     required: false,
-    help: "The id of the only function that is written",
+    help: manual::ONLY_FUNCTION,
 };
 
 const DRAWN_FUNCTION: Argument = Argument {
     name: "function",
     form: Form::Option,
-    value: "ID",
+    value: "FUNCTION",
     required: false,
-    help: "The id of the function whose blocks are drawn; where it is left out, the calls are",
+    help: manual::DRAWN_FUNCTION,
 };
 
 const HTML: Argument = Argument {
@@ -201,9 +201,9 @@ const COLOR: Argument = Argument {
 const FUNCTION: Argument = Argument {
     name: "function",
     form: Form::Option,
-    value: "ID",
+    value: "FUNCTION",
     required: true,
-    help: "The id of an entry point's function",
+    help: manual::FUNCTION,
 };
 
 const CHOICES: Argument = Argument {

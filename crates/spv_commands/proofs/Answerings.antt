@@ -5,6 +5,7 @@ use Rattle.std.specs.Prelude.{string_bytes}
 use Rattle.spv_words.specs.Header.{IsFirstBroken, IsModule}
 use Rattle.spv_words.specs.declared.words.Order.{Order}
 use Rattle.spv_words.specs.declared.words.WordError.{WordError}
+use Rattle.spv_words.specs.declared.words.WordError.TheVariants.{W8}
 use Rattle.spv_table.specs.Table.{Table}
 use Rattle.spv_extended.specs.declared.reach.Reach.{Reach}
 use Rattle.spv_builtin.specs.Source.{IsTableOf, breaks}
@@ -20,27 +21,33 @@ use Rattle.spv_explain.specs.Stream.{Explains, IsExplanation}
 use Rattle.spv_explain.specs.declared.stream.Explanation.{Explanation}
 use Rattle.spv_views.specs.View.{IsViewing, Views}
 use Rattle.spv_views.specs.declared.view.View.{View}
+use Rattle.spv_views.specs.declared.view.View.TheVariants as views
 use Rattle.spv_views.proofs.Viewings.{no_words}
 use Rattle.spv_command_line.specs.declared.command_line.Command.{Command}
 use Rattle.spv_commands.specs.Answer.{Answers, IsRefusal, grammar, done, told, refused, no_text, no_entry, no_function}
-use Rattle.spv_commands.specs.Answer.{memory, unread}
+use Rattle.spv_names.specs.declared.chosen.Chosen.{Chosen}
+use Rattle.spv_commands.specs.Answer.{memory, several, unread}
 use Rattle.spv_rules.specs.declared.errors.AnyCode.{AnyCode}
 use Rattle.spv_command_line.specs.declared.command_line.Command.TheVariants.{Judge, Show, Asm, Trace, Rules}
 use Rattle.spv_command_line.specs.declared.command_line.Command.TheVariants.{Grammar as GrammarOf, Annotate, Graph}
+use Rattle.spv_command_line.specs.declared.command_line.Task.TheVariants as tasks
 use Rattle.spv_words.specs.Streams.{HoldsBytes}
 use Rattle.spv_commands.specs.Assemble.{Assembles, IsFaultOf, IsImageOf}
 use Rattle.spv_commands.specs.Output.{is_done, made_of, out_of, status_of, written_err, written_made, written_out}
 use Rattle.spv_commands.specs.Show.{IsShowing, Shows}
-use Rattle.spv_commands.specs.Task.{IsNoText, LacksAsked, LacksEntry, WritesRules, taken_by}
+use Rattle.spv_commands.specs.Task.{IsAmbiguous, IsNoText, LacksAsked, LacksEntry, WritesRules, detail_of, reach_of}
+use Rattle.spv_commands.specs.Task.{taken_by, view_of}
 use Rattle.spv_commands.specs.Trace.{IsTracing, Traces}
 use Rattle.spv_commands.specs.Trouble.{grammar_text, trouble_text, unread_trouble}
 use Rattle.spv_commands.specs.inner.Answered.{Gives, IsAnswerBy, IsUnreadAnswer, WhyNot}
-use Rattle.spv_commands.specs.declared.answering.Reply.{Reply}
-use Rattle.spv_commands.specs.declared.answering.Reply.TheVariants.{Done, Fault, Made}
+use Rattle.spv_commands.specs.inner.Asked.{is_explaining, reads_of}
+use Rattle.spv_commands.specs.declared.asked.Reads.TheVariants.{Module, Nothing, Text}
+use Rattle.spv_commands.specs.declared.replying.Reply.{Reply}
+use Rattle.spv_commands.specs.declared.replying.Reply.TheVariants.{Done, Fault, Made}
 use Rattle.spv_explain.specs.declared.answers.Unread.{Unread}
 use Rattle.spv_explain.specs.declared.answers.Unread.TheVariants as why
 use Rattle.spv_commands.specs.declared.trouble.Trouble.{Trouble}
-use Rattle.spv_commands.specs.declared.trouble.Trouble.TheVariants.{Memory, NoEntry, NoFunction, NotText}
+use Rattle.spv_commands.specs.declared.trouble.Trouble.TheVariants.{Memory, NoEntry, NoFunction, NotText, SeveralFunctions}
 
 -- what a writer that held nothing gets
 pub gives : (Whole : List ℕ → List ℕ → Option (List ℕ) → Bool → Type 0) (bytes line : List ℕ) (answer : Bool)
@@ -98,55 +105,96 @@ pub shows_it : (G : Table) (bytes output : List ℕ) (answer : Bool) → IsShowi
     → Shows G bytes [] (Some output) answer
 shows_it G bytes output answer h = record { output = output; showing = h; written = refl }
 
-pub traces_it : (G : Table) (reach : Reach) (function : ℕ) (choices : List ℕ) (limit : ℕ) (bytes output : List ℕ)
+pub traces_it : (G : Table) (reach : Reach) (function : Chosen) (choices : List ℕ) (limit : ℕ) (bytes output : List ℕ)
     (answer : Bool) → IsTracing G reach function choices limit bytes output answer
     → Traces G reach function choices limit bytes [] (Some output) answer
 traces_it G reach function choices limit bytes output answer h = record { output = output; tracing = h; written = refl }
 
-pub traces_refused : (G : Table) (reach : Reach) (function : ℕ) (choices : List ℕ) (limit : ℕ) (bytes : List ℕ)
+pub traces_refused : (G : Table) (reach : Reach) (function : Chosen) (choices : List ℕ) (limit : ℕ) (bytes : List ℕ)
     (code : WordError) → IsFirstBroken code bytes
     → Traces G reach function choices limit bytes [] (Some (refused_line code)) false
 traces_refused G reach function choices limit bytes code h =
     traces_it G reach function choices limit bytes (refused_line code) false
     (IsTracing.judged (refused_line code) (IsVerdict.refused code h) (λ e. refused_is_not_valid code e))
 
-pub views_it : (how : View) (G : Table) (function : Option ℕ) (bytes output : List ℕ) (answer : Bool)
+pub views_it : (how : View) (G : Table) (function : Option Chosen) (bytes output : List ℕ) (answer : Bool)
     → IsViewing how G function bytes output answer → Views how G function bytes [] (Some output) answer
 views_it how G function bytes output answer h = record { output = output; viewing = h; written = refl }
 
-pub views_refused : (how : View) (G : Table) (function : Option ℕ) (bytes : List ℕ) (code : WordError)
+pub views_refused : (how : View) (G : Table) (function : Option Chosen) (bytes : List ℕ) (code : WordError)
     → ((e : WordError) (o : Order) (bs ws : List ℕ) → IsModule o bs ws → ¬ IsFirstBroken e bs)
     → IsFirstBroken code bytes → Views how G function bytes [] (Some (refused_line code)) false
 views_refused how G function bytes code never h =
     views_it how G function bytes (refused_line code) false
     (IsViewing.judged (refused_line code) (no_words how G bytes code function never h) (IsVerdict.refused code h))
 
+-- what is told of a module that is too long: the line of its code, or that line and those that explain it
+pub too_long_line : ((e : WordError) (o : Order) (bs ws : List ℕ) → IsModule o bs ws → ¬ IsFirstBroken e bs)
+    → (command : Command) (G : Table) (bytes : List ℕ) (a : Reply) → is_explaining command ≡ false
+    → reads_of command ≡ Module → IsFirstBroken W8 bytes
+    → out_of a ≡ refused_line W8 → made_of a ≡ [] → is_done a ≡ false → IsAnswerBy command G bytes a
+too_long_line never (Judge tasks.Check g fs v e p q j) G bytes a x r h o m d =
+    (rw (o, d) (tells_refused G (reach_of e) bytes W8 h), λ _. m)
+too_long_line never (Judge (tasks.Explain full) g fs v e p q j) G bytes a x r h o m d =
+    let never_explains : true ≡ false = x in cc
+too_long_line never (Show g f v) G bytes a x r h o m d =
+    (rw (o, d) (shows_it G bytes (refused_line W8) false (IsShowing.refused W8 h)), λ _. m)
+too_long_line never (Asm g f out b explain) G bytes a x r h o m d = let no_module : Text ≡ Module = r in cc
+too_long_line never (Trace g f id choices limit v e) G bytes a x r h o m d =
+    (rw (o, d) (traces_refused G (reach_of e) id choices.items limit bytes W8 h), λ _. m)
+too_long_line never (Annotate g f v id form color) G bytes a x r h o m d =
+    (rw (o, d) (views_refused (view_of form color f) G id bytes W8 never h), λ _. m)
+too_long_line never (Graph g f v id) G bytes a x r h o m d =
+    (rw (o, d) (views_refused views.Graph G id bytes W8 never h), λ _. m)
+too_long_line never (Rules code j) G bytes a x r h o m d = let no_module : Nothing ≡ Module = r in cc
+too_long_line never (GrammarOf f) G bytes a x r h o m d = let no_module : Nothing ≡ Module = r in cc
+
+pub too_long_explained : (command : Command) (G : Table) (bytes : List ℕ) (r : Result Reply Trouble)
+    → is_explaining command ≡ true
+    → ((detail : Detail) (reach : Reach) → IfOk r (Gives (Explains detail G reach) bytes))
+    → IfOk r (IsAnswerBy command G bytes)
+too_long_explained command G bytes (Err t) x w = tt
+too_long_explained (Judge tasks.Check g fs v e p q j) G bytes (Ok a) x w = let no : false ≡ true = x in cc
+too_long_explained (Judge (tasks.Explain full) g fs v e p q j) G bytes (Ok a) x w =
+    let given = w (detail_of full) (reach_of e) in (given.0, λ _. given.1)
+too_long_explained (Show g f v) G bytes (Ok a) x w = let no : false ≡ true = x in cc
+too_long_explained (Asm g f out b explain) G bytes (Ok a) x w = let no : false ≡ true = x in cc
+too_long_explained (Trace g f id choices limit v e) G bytes (Ok a) x w = let no : false ≡ true = x in cc
+too_long_explained (Annotate g f v id form color) G bytes (Ok a) x w = let no : false ≡ true = x in cc
+too_long_explained (Graph g f v id) G bytes (Ok a) x w = let no : false ≡ true = x in cc
+too_long_explained (Rules code j) G bytes (Ok a) x w = let no : false ≡ true = x in cc
+too_long_explained (GrammarOf f) G bytes (Ok a) x w = let no : false ≡ true = x in cc
+
 -- memory is a reason for every command
 pub for_memory : (command : Command) (G : Table) (bytes : List ℕ) (r : Result Reply Trouble) → IfErr r (λ t. t ≡ Memory)
     → IfErr r (WhyNot command G bytes)
 for_memory command G bytes (Ok a) h = tt
-for_memory command G bytes (Err t) h = inr (inr (inr h))
+for_memory command G bytes (Err t) h = inr (inr (inr (inr h)))
 
-pub for_entry : (command : Command) (G : Table) (bytes : List ℕ) (P : Type 0) (r : Result Reply Trouble)
-    → (P → LacksEntry command G (Some bytes))
-    → IfErr r (λ t. ((t ≡ NoEntry) × P) ⊎ (t ≡ Memory)) → IfErr r (WhyNot command G bytes)
-for_entry command G bytes P (Ok a) f h = tt
-for_entry command G bytes P (Err t) f (inl e) = inr (inl (e.0, f e.1))
-for_entry command G bytes P (Err t) f (inr e) = inr (inr (inr e))
+pub for_entry : (command : Command) (G : Table) (bytes : List ℕ) (P Q : Type 0) (r : Result Reply Trouble)
+    → (P → LacksEntry command G (Some bytes)) → (Q → IsAmbiguous command G (Some bytes))
+    → IfErr r (λ t. ((t ≡ NoEntry) × P) ⊎ ((t ≡ SeveralFunctions) × Q) ⊎ (t ≡ Memory))
+    → IfErr r (WhyNot command G bytes)
+for_entry command G bytes P Q (Ok a) f g h = tt
+for_entry command G bytes P Q (Err t) f g (inl e) = inr (inl (e.0, f e.1))
+for_entry command G bytes P Q (Err t) f g (inr (inl e)) = inr (inr (inr (inl (e.0, g e.1))))
+for_entry command G bytes P Q (Err t) f g (inr (inr e)) = inr (inr (inr (inr e)))
 
-pub for_function : (command : Command) (G : Table) (bytes : List ℕ) (P : Type 0) (r : Result Reply Trouble)
-    → (P → LacksAsked command G (Some bytes))
-    → IfErr r (λ t. ((t ≡ NoFunction) × P) ⊎ (t ≡ Memory)) → IfErr r (WhyNot command G bytes)
-for_function command G bytes P (Ok a) f h = tt
-for_function command G bytes P (Err t) f (inl e) = inr (inr (inl (e.0, f e.1)))
-for_function command G bytes P (Err t) f (inr e) = inr (inr (inr e))
+pub for_function : (command : Command) (G : Table) (bytes : List ℕ) (P Q : Type 0) (r : Result Reply Trouble)
+    → (P → LacksAsked command G (Some bytes)) → (Q → IsAmbiguous command G (Some bytes))
+    → IfErr r (λ t. ((t ≡ NoFunction) × P) ⊎ ((t ≡ SeveralFunctions) × Q) ⊎ (t ≡ Memory))
+    → IfErr r (WhyNot command G bytes)
+for_function command G bytes P Q (Ok a) f g h = tt
+for_function command G bytes P Q (Err t) f g (inl e) = inr (inr (inl (e.0, f e.1)))
+for_function command G bytes P Q (Err t) f g (inr (inl e)) = inr (inr (inr (inl (e.0, g e.1))))
+for_function command G bytes P Q (Err t) f g (inr (inr e)) = inr (inr (inr (inr e)))
 
 pub for_text : (command : Command) (G : Table) (bytes : List ℕ) (P : Type 0) (r : Result Reply Trouble)
     → (P → IsNoText command (Some bytes))
     → IfErr r (λ t. ((t ≡ NotText) × P) ⊎ (t ≡ Memory)) → IfErr r (WhyNot command G bytes)
 for_text command G bytes P (Ok a) f h = tt
 for_text command G bytes P (Err t) f (inl e) = inl (e.0, f e.1)
-for_text command G bytes P (Err t) f (inr e) = inr (inr (inr e))
+for_text command G bytes P (Err t) f (inr e) = inr (inr (inr (inr e)))
 
 -- a text is no module, and is taken as it is
 pub same_text : (command : Command) (known : Option (List ℕ)) → IsNoText command (option_map (taken_by command) known)
@@ -171,7 +219,9 @@ why_not command text G bytes t given (inr (inl e)) =
     rw (e.0) (no_entry bytes refl (record { table = G; given = given; lacks = e.1 }))
 why_not command text G bytes t given (inr (inr (inl e))) =
     rw (e.0) (no_function bytes refl (record { table = G; given = given; lacks = e.1 }))
-why_not command text G bytes t given (inr (inr (inr e))) = rw e memory
+why_not command text G bytes t given (inr (inr (inr (inl e)))) =
+    rw (e.0) (several bytes refl (record { table = G; given = given; ambiguous = e.1 }))
+why_not command text G bytes t given (inr (inr (inr (inr e)))) = rw e memory
 
 -- what is answered of the bytes of a file
 pub answers_bytes : (command : Command) (text : Option (List ℕ)) (G : Table) (bytes : List ℕ) (r : Result Reply Trouble)

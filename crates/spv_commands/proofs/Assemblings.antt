@@ -1,10 +1,8 @@
 -- What a text is assembled to.
-use Rattle.std.proofs.Common.{◌≡◌, ◌<◌, ◌*◌, ◌≤◌, ◌++◌, ℕ, List, [], ◌∷◌, Option, Some, None, Bool, true, false, IfSome}
-use Rattle.std.proofs.Common.{◌≢◌, IsUtf8, codes, length, slice_get, take, ap, sym, subst, refl, inr, arith, lit≤}
+use Rattle.std.proofs.Common.{◌≡◌, ◌<◌, ◌++◌, ℕ, List, [], ◌∷◌, Option, Some, Bool, true, false, IfSome}
+use Rattle.std.proofs.Common.{◌≢◌, IsUtf8, codes, slice_get, ap, sym, refl, inr, arith, lit≤}
 use Rattle.std.proofs.lemmas.Fmt.{decimal_digit}
-use Rattle.std.specs.Io.KnownBytes.{Appends, Consumes, IsAtEnd}
-use Rattle.std.proofs.KnownBytes.{Keeps-refl}
-use Rattle.spv_words.specs.Streams.{HoldsBytes}
+use Rattle.std.specs.Io.KnownBytes.{Consumes, IsAtEnd}
 use Rattle.spv_words.proofs.Gathered.{ends}
 use Rattle.spv_words.specs.declared.words.Order.{Order}
 use Rattle.spv_table.specs.Table.{Table}
@@ -16,7 +14,6 @@ use Rattle.spv_lines.specs.declared.asm_error.AsmCode.TheVariants.{S1, S2, S3, S
 use Rattle.spv_lines.specs.Fault.{IsAsmFailure}
 use Rattle.spv_commands.specs.Assemble.{Assembles, BeginsAssembling, IsFaultOf, IsImageOf, TellsFault, alone}
 use Rattle.spv_commands.specs.Assemble.{text_fault_line}
-use Rattle.spv_commands.specs.Trouble.{BeginsWith}
 use Rattle.spv_check.specs.Verdict.{line_end}
 
 -- a fault that is no want of memory is one of the text
@@ -39,44 +36,6 @@ pub fault_told : (G : Table) (text : List ℕ) (code : AsmCode) (line : ℕ) (wr
     → IsFaultOf G true text written
 fault_told G text code line written u h t = record { code = code; line = line; utf8 = u; fails = h; told = t }
 
--- what was read comes to an image, and all its bytes were written
-pub made_all : (G : Table) (o : Order) (explain : Bool) (known : Option (List ℕ)) (words : List ℕ)
-    (old held kept : Option (List ℕ)) → IfSome known (λ text. IsImageOf G text words)
-    → IfSome held (λ xs. HoldsBytes o words xs kept (4 * length words))
-    → IfSome known (λ text. Assembles G o explain text old old held kept true)
-made_all G o explain None words old held kept h w = tt
-made_all G o explain (Some text) words old held kept h w = Assembles.made words h (Keeps-refl old) w
-
--- or a beginning of them
-pub made_begun : (G : Table) (o : Order) (explain : Bool) (known : Option (List ℕ)) (words : List ℕ)
-    (old held kept : Option (List ℕ)) → IfSome known (λ text. IsImageOf G text words)
-    → IfSome held (λ xs. (n : ℕ) × HoldsBytes o words xs kept n)
-    → IfSome known (λ text. BeginsAssembling G o explain text old old held kept)
-made_begun G o explain None words old held kept h w = tt
-made_begun G o explain (Some text) words old held kept h w = BeginsAssembling.made words h (Keeps-refl old) w
-
--- it comes to a fault, and what is told of it was written
-pub failed_all : (G : Table) (o : Order) (explain : Bool) (known : Option (List ℕ)) (told printed : List ℕ)
-    (old new held : Option (List ℕ))
-    → IfSome known (λ text. IsFaultOf G explain text told) → printed ≡ told
-    → Appends old new printed → IfSome known (λ text. Assembles G o explain text old new held held false)
-failed_all G o explain None told printed old new held h e w = tt
-failed_all G o explain (Some text) told printed old new held h e w =
-    Assembles.failed told h (subst (λ (l : List ℕ). Appends old new l) e w) (Keeps-refl held)
-
--- or a beginning of it
-pub failed_begun : (G : Table) (o : Order) (explain : Bool) (known : Option (List ℕ)) (told printed : List ℕ)
-    (old new held : Option (List ℕ))
-    → IfSome known (λ text. IsFaultOf G explain text told) → printed ≡ told
-    → IfSome old (λ xs. (n : ℕ) × (n ≤ length printed) × (new ≡ Some (xs ++ take n printed)))
-    → IfSome known (λ text. BeginsAssembling G o explain text old new held held)
-failed_begun G o explain None told printed old new held h e w = tt
-failed_begun G o explain (Some text) told printed None new held h e w =
-    BeginsAssembling.failed told h tt (Keeps-refl held)
-failed_begun G o explain (Some text) told printed (Some xs) new held h e w =
-    let b : BeginsWith printed xs new = record { count = w.0; fits = w.1; written = w.2 } in
-    BeginsAssembling.failed told h (subst (λ (l : List ℕ). BeginsWith l xs new) e b) (Keeps-refl held)
-
 -- so many bytes were read, and no call failed
 pub record ReadSoFar {R : Type 0} (remaining : R → Option (List ℕ)) (failures : R → ℕ) (old new : R)
     (bytes : List ℕ) : Type 0 where
@@ -87,12 +46,6 @@ pub record ReadSoFar {R : Type 0} (remaining : R → Option (List ℕ)) (failure
 pub all_read : (old new : Option (List ℕ)) (bytes : List ℕ) → Consumes old new bytes → IsAtEnd new
     → IfSome old (λ xs. bytes ≡ xs)
 all_read old new bytes c e = ends old new bytes (λ xs. bytes ≡ xs) c e refl
-
--- what holds of all the bytes of a reader
-pub all_known : (known : Option (List ℕ)) (bytes : List ℕ) (P : List ℕ → Type 0) → IfSome known (λ xs. bytes ≡ xs)
-    → P bytes → IfSome known P
-all_known None bytes P e h = tt
-all_known (Some xs) bytes P e h = subst P e h
 
 -- three characters are no header
 short_fails : (G : Table) → IsFailure G (1 ∷ 2 ∷ 3 ∷ []) S1 1

@@ -1,5 +1,7 @@
 pub mod Answerings
 pub mod Assemblings
+pub mod Carried
+pub mod Names
 pub mod Parts
 pub mod Showings
 pub mod Tasks

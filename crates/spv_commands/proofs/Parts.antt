@@ -1,30 +1,19 @@
 -- What a writer has got, and how far a run on several files is.
-use Rattle.std.proofs.Common.{◌≡◌, ◌≢◌, ◌≤◌, ◌<◌, ◌↔◌, ◌⊎◌, inl, inr, ◌+◌, ◌-◌, ◌∙◌, ◌++◌, ◌∷◌, [], ℕ, List, Bool, true}
-use Rattle.std.proofs.Common.{false, IsTrue, Option, Some, None, IfSome, codes, length, max, take, drop, map, ap, sym}
+use Rattle.std.proofs.Common.{◌≡◌, ◌≢◌, ◌≤◌, ◌<◌, ◌↔◌, ◌+◌, ◌∙◌, ◌++◌, [], ℕ, List, Bool, true}
+use Rattle.std.proofs.Common.{false, IsTrue, Option, Some, None, IfSome, codes, length, take, ap, sym}
 use Rattle.std.proofs.Common.{refl, subst, arith, append_assoc, append-nil, length-append, get_or, if◌then◌else◌}
 use Rattle.std.specs.Io.KnownBytes.{Appends}
 use Rattle.std.proofs.KnownBytes.{Appends-nil, Appends-trans}
-use Rattle.std.proofs.Math.Seq.{take-add, take-append-add}
-use Rattle.std.proofs.lemmas.List.{flat_map_more, length-drop, length-map, length-take-le, map_more, take-append-le}
-use Rattle.std.proofs.lemmas.List.{take-map, take_all, take_more}
-use Rattle.std.proofs.lemmas.Grind.{flat_map-append}
-use Rattle.std.specs.Borrow.{Bor}
+use Rattle.std.proofs.Math.Seq.{take-append-add}
+use Rattle.std.proofs.lemmas.List.{take-append-le}
 use Rattle.spv_table.specs.Table.{Table}
-use Rattle.std.specs.Prelude.{Result, Ok, Err, IfErr, IfOk, IsErrOf, OnOk, Vec, flat_map, is_ok}
-use Rattle.std.specs.Global.{Global}
+use Rattle.std.specs.Prelude.{Result, Ok, Err, IfErr, IsErrOf, OnOk, is_ok}
 use Rattle.spv_words.specs.declared.words.WordError.{WordError}
 use Rattle.spv_words.specs.declared.words.WordError.TheVariants.{W1}
-use Rattle.spv_builtin.specs.Source.{IsTableOf, breaks}
-use Rattle.spv_grammar.specs.declared.error.GrammarError.{GrammarError}
-use Rattle.spv_grammar.specs.declared.error.GrammarError.TheVariants.{J1, J2, J3, J4, J5, J6, J7, J8}
-use Rattle.spv_commands.specs.Trouble.{BeginsWith, Writes, file_line, grammar_text, memory_line}
+use Rattle.spv_commands.specs.Trouble.{BeginsWith, Writes, memory_line}
 use Rattle.spv_commands.specs.declared.judging.Judging.{Judging}
-use Rattle.spv_commands.specs.Part.{IsPart, IsUnread, Known, told_line, unread_line, unread_text}
-use Rattle.spv_commands.specs.Name.{label, shown_byte}
+use Rattle.spv_commands.specs.Part.{IsPart, Known}
 use Rattle.spv_commands.specs.inner.Progress.{HasGot, WritesOn}
-use Rattle.spv_commands.specs.declared.judging.Part.{Part}
-use Rattle.spv_explain.specs.declared.answers.Unread.{Unread}
-use Rattle.spv_explain.specs.declared.answers.Unread.TheVariants.{File, Memory}
 
 pub never : ¬ (IsTrue false)
 never e = cc
@@ -107,44 +96,6 @@ pub got_whole : (sound : Bool) (text old new : List ℕ) (before after : ℕ) �
     → HasGot sound text (Some old) (Some new) before after → new ≡ text
 got_whole sound text old new before after s e h =
     h.writes.whole (h.steady.0 s) ∙ ap (λ (front : List ℕ). front ++ text) e
-
--- ---- a name from its front on
-
--- a run of bytes that stand as they are
-pub run_on : (name rest : List ℕ) (at count : ℕ) (sound between heard : Bool) (here middle there : Option (List ℕ))
-    (failed fails failing : ℕ)
-    → rest ≡ take (length name - at) (drop at name) → flat_map shown_byte (take count rest) ≡ take count rest
-    → WritesOn sound (flat_map shown_byte (take at name)) between here middle failed fails
-    → WritesOn between (take count rest) heard middle there fails failing
-    → WritesOn sound (flat_map shown_byte (take (at + count) name)) heard here there failed failing
-run_on name rest at count sound between heard here middle there failed fails failing r p v w =
-    let all : rest ≡ drop at name = r ∙ take_all (length name - at) (drop at name)
-    (rw (length-drop at name) (omega arith)) in
-    let more_of : flat_map shown_byte (take at name)
-    ++ flat_map shown_byte (take count (drop at name)) ≡ flat_map shown_byte (take (at + count) name) =
-    sym (ap (flat_map shown_byte) (take-add at count name)
-    ∙ flat_map-append shown_byte (take at name) (take count (drop at name))) in
-    let e : flat_map shown_byte (take at name) ++ take count rest ≡ flat_map shown_byte (take (at + count) name) =
-    ap (λ (run : List ℕ). flat_map shown_byte (take at name) ++ run)
-    (sym p ∙ ap (λ (tail : List ℕ). flat_map shown_byte (take count tail)) all) ∙ more_of in
-    subst (λ (text : List ℕ). WritesOn sound text heard here there failed failing) e
-    (on_and_on sound between heard (flat_map shown_byte (take at name))
-    (take count rest) here middle there failed fails failing v w)
-
--- one byte
-pub byte_on : (name : List ℕ) (at : ℕ) (sound between heard : Bool) (here middle there : Option (List ℕ))
-    (failed fails failing : ℕ) → at < length name
-    → WritesOn sound (flat_map shown_byte (take at name)) between here middle failed fails
-    → WritesOn between (shown_byte (get_or name at 0)) heard middle there fails failing
-    → WritesOn sound (flat_map shown_byte (take (at + 1) name)) heard here there failed failing
-byte_on name at sound between heard here middle there failed fails failing h v w =
-    let e : flat_map shown_byte (take at name)
-    ++ shown_byte (get_or name at 0) ≡ flat_map shown_byte (take (at + 1) name) =
-    flat_map_more shown_byte [] (take at name) (get_or name at 0)
-    ∙ ap (flat_map shown_byte) (sym (take_more name at 0 h)) in
-    subst (λ (text : List ℕ). WritesOn sound text heard here there failed failing) e
-    (on_and_on sound between heard (flat_map shown_byte (take at name))
-    (shown_byte (get_or name at 0)) here middle there failed fails failing v w)
 
 -- nothing is told of a file that was judged
 pub nothing_on : (sound : Bool) (here : Option (List ℕ)) (failed : ℕ) → WritesOn sound [] sound here here failed failed

@@ -1,13 +1,8 @@
 -- What is shown of bytes that were read.
-use Rattle.std.proofs.Common.{◌≡◌, ◌⊎◌, ◌↔◌, ◌+◌, ◌-◌, ◌≤◌, ℕ, List, Option, Some, None, Result, Err, IfSome, IfOk}
-use Rattle.std.proofs.Common.{IfErr, IsErrOf, Bool, false, ◌++◌, ◌∙◌, length, take, drop, ap, refl, sym, subst, inl}
-use Rattle.std.proofs.Common.{inr, arith}
-use Rattle.std.specs.Io.KnownBytes.{Appends}
-use Rattle.spv_words.specs.Header.{IsModule, RefusesBytes}
+use Rattle.std.proofs.Common.{◌≡◌, ◌+◌, ◌-◌, ℕ, List, IfOk, Bool, false, ◌∙◌, drop, ap, refl, sym, subst, arith}
+use Rattle.spv_words.specs.Header.{IsModule}
 use Rattle.spv_words.specs.declared.words.Header.{Header}
 use Rattle.spv_words.specs.declared.words.Order.{Order}
-use Rattle.spv_words.specs.declared.words.WordError.{WordError}
-use Rattle.spv_words.specs.declared.words.WordError.TheVariants as word
 use Rattle.spv_table.specs.Table.{Table}
 use Rattle.spv_module.specs.Operand.{PlainInst}
 use Rattle.spv_module.specs.Instruction.{IsListing}
@@ -19,36 +14,8 @@ use Rattle.spv_extended.specs.declared.reach.Reach.TheVariants.{Profile}
 use Rattle.spv_check.specs.Reading.{IsReading}
 use Rattle.spv_check.specs.Verdict.{fault_line, refused_line}
 use Rattle.spv_check.proofs.Verdicts.{Laws, dead_list, same_module}
-use Rattle.spv_commands.specs.Show.{IsShowing, refused, dead, shown, Shows, BeginsShowing}
-use Rattle.spv_commands.specs.inner.Shown.{is_text, output_of, shown_refusal, shown_stop}
-use Rattle.spv_commands.specs.declared.showing.Shown.{Shown}
-
--- a code that was read
-pub refused_bytes : (G : Table) (known : Option (List ℕ)) (code : WordError)
-    → IfSome known (λ xs. RefusesBytes code xs)
-    → IfSome known (λ xs. IfOk (shown_refusal code) (λ s. IsShowing G xs (output_of s) (is_text s)))
-refused_bytes G None code h = tt
-refused_bytes G (Some xs) word.W1 h = tt
-refused_bytes G (Some xs) word.W9 h = tt
-refused_bytes G (Some xs) word.W2 h = refused word.W2 h
-refused_bytes G (Some xs) word.W3 h = refused word.W3 h
-refused_bytes G (Some xs) word.W4 h = refused word.W4 h
-refused_bytes G (Some xs) word.W5 h = refused word.W5 h
-refused_bytes G (Some xs) word.W6 h = refused word.W6 h
-refused_bytes G (Some xs) word.W7 h = refused word.W7 h
-refused_bytes G (Some xs) word.W8 h = refused word.W8 h
-
-pub refused_only : (code : WordError) → IfErr (shown_refusal code) (λ e. (e ≡ word.W1) ⊎ (e ≡ word.W9))
-refused_only word.W1 = inl refl
-refused_only word.W9 = inr refl
-refused_only code = tt
-
--- W1 is answered where it was read
-pub refused_count : {X : Type 0} (P : Type 0) (code : WordError) (r : Result X WordError) → r ≡ Err code
-    → (P ↔ IsErrOf r word.W1) → (P ↔ IsErrOf (shown_refusal code) word.W1)
-refused_count P word.W1 r q h = (λ p. refl, λ e. h.1 q)
-refused_count P word.W9 r q h = (λ p. let e = h.0 p in cc, λ e. cc)
-refused_count P code r q h = (λ p. let e = h.0 p in cc, λ e. cc)
+use Rattle.spv_commands.specs.Show.{IsShowing, refused, dead, shown}
+use Rattle.spv_commands.specs.inner.Shown.{is_text, output_of, shown_stop}
 
 -- words that are no list of instructions
 pub dead_shown : (G : Table) (bytes words : List ℕ) (order : Order) (s : Stop) → IsModule order bytes words
@@ -60,35 +27,6 @@ dead_shown G bytes words order (Dies f) h d =
     let e : 5 + (f.word - 5) ≡ f.word = omega arith in
     subst (λ (n : ℕ). IsShowing G bytes (fault_line f.rule f.inst n) false) e
     (dead words order f.rule f.inst (f.word - 5) h d.1)
-
--- what is shown of the words that were read
-pub known_showing : (G : Table) (known : Option (List ℕ)) (words : List ℕ) (order : Order) (r : Result Shown WordError)
-    → IfSome known (λ xs. IsModule order xs words)
-    → ((bytes : List ℕ) (o : Order) → IsModule o bytes words
-    → IfOk r (λ s. IsShowing G bytes (output_of s) (is_text s)))
-    → IfSome known (λ xs. IfOk r (λ s. IsShowing G xs (output_of s) (is_text s)))
-known_showing G None words order r h v = tt
-known_showing G (Some xs) words order r h v = v xs order h
-
--- it was written whole
-pub shows : (G : Table) (known kept new : Option (List ℕ)) (s : Shown) (answer : Bool)
-    → IfSome known (λ bs. IsShowing G bs (output_of s) (is_text s)) → answer ≡ is_text s
-    → Appends kept new (output_of s) → IfSome known (λ bs. IfSome kept (λ old. Shows G bs old new answer))
-shows G None kept new s answer h e w = tt
-shows G (Some bs) None new s answer h e w = tt
-shows G (Some bs) (Some old) None s answer h e w = absurd w
-shows G (Some bs) (Some old) (Some xs) s answer h e w =
-    record { output = output_of s; showing = rw e h; written = ap Some w }
-
--- a beginning of it was
-pub begins_showing : (G : Table) (known kept new : Option (List ℕ)) (s : Shown)
-    → IfSome known (λ bs. IsShowing G bs (output_of s) (is_text s))
-    → IfSome kept (λ xs. (n : ℕ) × (n ≤ length (output_of s)) × (new ≡ Some (xs ++ take n (output_of s))))
-    → IfSome known (λ bs. IfSome kept (λ old. BeginsShowing G bs old new))
-begins_showing G None kept new s h w = tt
-begins_showing G (Some bs) None new s h w = tt
-begins_showing G (Some bs) (Some old) new s h w =
-    record { output = output_of s; answer = is_text s; showing = h; count = w.0; fits = w.1; written = w.2 }
 
 -- words have one header
 same_header : (ws : List ℕ) (h k : Header) → IsHeaderOf ws h → IsHeaderOf ws k → h ≡ k

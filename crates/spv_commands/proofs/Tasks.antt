@@ -7,6 +7,7 @@ use Rattle.spv_words.specs.declared.words.WordError.{WordError}
 use Rattle.spv_words.specs.declared.words.WordError.TheVariants.{W2}
 use Rattle.spv_table.specs.Table.{Table}
 use Rattle.spv_extended.specs.declared.reach.Reach.{Reach}
+use Rattle.spv_names.specs.declared.chosen.Chosen.{Chosen}
 use Rattle.spv_command_line.specs.declared.command_line.Command.{Command}
 use Rattle.spv_command_line.specs.declared.command_line.Command.TheVariants.{Judge, Show, Asm, Trace, Rules, Grammar}
 use Rattle.spv_command_line.specs.declared.command_line.Command.TheVariants.{Annotate, Graph}
@@ -15,16 +16,16 @@ use Rattle.spv_commands.specs.Example.{answer_of, empty_grammar}
 use Rattle.spv_commands.specs.Show.{BeginsShowing, IsShowing, Shows}
 use Rattle.spv_explain.specs.Lines.{refused_text}
 use Rattle.spv_explain.specs.Stream.{BeginsExplaining, Explains}
-use Rattle.spv_check.specs.Stream.{Begins, TellsVerdict}
+use Rattle.spv_check.specs.Stream.{TellsVerdict}
 use Rattle.spv_check.specs.Verdict.{IsVerdict}
 use Rattle.spv_check.proofs.Verdicts.{refused_is_not_valid}
 use Rattle.spv_commands.specs.Task.{DoesByText, MakesNothing, ReadsNoFile, WritesGrammar, detail_of, reach_of, taken}
 use Rattle.spv_commands.specs.Task.{view_of}
-use Rattle.spv_views.specs.View.{BeginsViewing, Views}
+use Rattle.spv_views.specs.View.{Views}
 use Rattle.spv_views.specs.declared.view.View.{View}
 use Rattle.spv_views.specs.declared.view.View.TheVariants as view
 use Rattle.spv_fault_lines.specs.declared.fact.Detail.{Detail}
-use Rattle.spv_commands.specs.Trace.{BeginsTracing, Traces}
+use Rattle.spv_commands.specs.Trace.{Traces}
 use Rattle.spv_builtin.specs.Source.{IsTableOf}
 use Rattle.spv_builtin.specs.Text.{IsGrammarText}
 use Rattle.spv_check.specs.Verdict.{line_end, refused_line}
@@ -110,10 +111,10 @@ pub does_short : (c : Command) (G : Table) → ¬ (ReadsNoFile c) → MakesNothi
     → Explains detail G reach (1 ∷ 2 ∷ 3 ∷ []) (9 ∷ [])
     (Some (9 ∷ codes "fault W2" ++ (line_end ++ refused_text W2 (1 ∷ 2 ∷ 3 ∷ [])))) false)
     → Shows G (1 ∷ 2 ∷ 3 ∷ []) (9 ∷ []) (Some (9 ∷ codes "fault W2" ++ line_end)) false
-    → ((reach : Reach) (function : ℕ) (choices : List ℕ) (limit : ℕ)
+    → ((reach : Reach) (function : Chosen) (choices : List ℕ) (limit : ℕ)
     → Traces G reach function choices limit (1 ∷ 2 ∷ 3 ∷ []) (9 ∷ [])
     (Some (9 ∷ codes "fault W2" ++ line_end)) false)
-    → ((how : View) (function : Option ℕ)
+    → ((how : View) (function : Option Chosen)
     → Views how G function (1 ∷ 2 ∷ 3 ∷ []) (9 ∷ []) (Some (9 ∷ codes "fault W2" ++ line_end)) false)
     → DoesByText c (Some empty_grammar) (1 ∷ 2 ∷ 3 ∷ []) (Some (9 ∷ [])) (Some (9 ∷ answer_of c)) None None false
 does_short (Judge tasks.Check g fs v e p q j) G r n given tells explains shows traces views =

@@ -1,9 +1,7 @@
 -- What is traced of bytes that were read.
-use Rattle.std.proofs.Common.{◌≡◌, ◌≢◌, ◌⊎◌, ◌↔◌, ◌≤◌, ◌++◌, ℕ, List, [], ◌∷◌, Option, Some, None, Result, Ok, Err}
-use Rattle.std.proofs.Common.{IfSome, IfOk, IfErr, IsErrOf, Bool, true, false, length, take, ap, refl, inl, inr, codes}
+use Rattle.std.proofs.Common.{◌≡◌, ◌⊎◌, ◌++◌, ℕ, List, [], ◌∷◌, Some, Ok, Bool, true, false, refl, inl, inr, codes}
 use Rattle.std.proofs.Common.{lit≤}
-use Rattle.std.specs.Io.KnownBytes.{Appends}
-use Rattle.spv_words.specs.Header.{IsFirstBroken, IsModule, RefusesBytes}
+use Rattle.spv_words.specs.Header.{IsFirstBroken, IsModule}
 use Rattle.spv_words.specs.declared.words.Order.{Order}
 use Rattle.spv_words.specs.declared.words.WordError.{WordError}
 use Rattle.spv_words.specs.declared.words.WordError.TheVariants as word
@@ -27,63 +25,22 @@ use Rattle.spv_check.proofs.Checks.{fault_judged}
 use Rattle.spv_check.proofs.Miscalls.{not_asked}
 use Rattle.spv_check.proofs.Verdicts.{fault_is_not_valid, refused_is_not_valid}
 use Rattle.spv_module.specs.declared.fault.Fault as fault
-use Rattle.spv_commands.specs.Trace.{BeginsTracing, HasNoEntry, IsProgram, IsTracing, Traces, judged, traced}
+use Rattle.spv_names.specs.Chosen.{IsChosen}
+use Rattle.spv_names.specs.declared.chosen.Chosen.{Chosen}
+use Rattle.spv_commands.specs.Trace.{BeginsTracing, HasNoEntry, HasSeveral, IsProgram, IsTracing, Traces, judged, traced}
 use Rattle.spv_commands.specs.Trace.{trace_text}
-use Rattle.spv_commands.specs.inner.Traced.{is_run, output_of, traced_refusal, traced_stop}
+use Rattle.spv_commands.specs.inner.Traced.{WhyNotChosen, traced_stop}
 use Rattle.spv_commands.specs.declared.trouble.Trouble.{Trouble}
 use Rattle.spv_commands.specs.declared.trouble.Trouble.TheVariants as trouble
-use Rattle.spv_commands.specs.declared.tracing.Traced.{Traced}
 
-refused_line_written : (G : Table) (reach : Reach) (function : ℕ) (choices : List ℕ) (limit : ℕ) (bytes : List ℕ)
+refused_line_written : (G : Table) (reach : Reach) (function : Chosen) (choices : List ℕ) (limit : ℕ) (bytes : List ℕ)
     (code : WordError) → IsFirstBroken code bytes
     → IsTracing G reach function choices limit bytes (refused_line code) false
 refused_line_written G reach function choices limit bytes code h =
     judged (refused_line code) (IsVerdict.refused code h) (λ e. refused_is_not_valid code e)
 
--- a code that was read
-pub refused_bytes : (G : Table) (reach : Reach) (function : ℕ) (choices : List ℕ) (limit : ℕ) (known : Option (List ℕ))
-    (code : WordError) → IfSome known (λ xs. RefusesBytes code xs)
-    → IfSome known (λ xs. IfOk (traced_refusal code)
-    (λ t. IsTracing G reach function choices limit xs (output_of t) (is_run t)))
-refused_bytes G reach function choices limit None code h = tt
-refused_bytes G reach function choices limit (Some xs) word.W1 h = tt
-refused_bytes G reach function choices limit (Some xs) word.W9 h = tt
-refused_bytes G reach function choices limit (Some xs) word.W2 h =
-    refused_line_written G reach function choices limit xs word.W2 h
-refused_bytes G reach function choices limit (Some xs) word.W3 h =
-    refused_line_written G reach function choices limit xs word.W3 h
-refused_bytes G reach function choices limit (Some xs) word.W4 h =
-    refused_line_written G reach function choices limit xs word.W4 h
-refused_bytes G reach function choices limit (Some xs) word.W5 h =
-    refused_line_written G reach function choices limit xs word.W5 h
-refused_bytes G reach function choices limit (Some xs) word.W6 h =
-    refused_line_written G reach function choices limit xs word.W6 h
-refused_bytes G reach function choices limit (Some xs) word.W7 h =
-    refused_line_written G reach function choices limit xs word.W7 h
-refused_bytes G reach function choices limit (Some xs) word.W8 h =
-    refused_line_written G reach function choices limit xs word.W8 h
-
-pub refused_only : (P : Type 0) (code : WordError)
-    → IfErr (traced_refusal code) (λ t. (t ≡ trouble.File) ⊎ ((t ≡ trouble.NoEntry) × P) ⊎ (t ≡ trouble.Memory))
-refused_only P word.W1 = inl refl
-refused_only P word.W9 = inr (inr refl)
-refused_only P word.W2 = tt
-refused_only P word.W3 = tt
-refused_only P word.W4 = tt
-refused_only P word.W5 = tt
-refused_only P word.W6 = tt
-refused_only P word.W7 = tt
-refused_only P word.W8 = tt
-
--- W1 is told where it was read
-pub refused_count : {X : Type 0} (P : Type 0) (code : WordError) (r : Result X WordError) → r ≡ Err code
-    → (P ↔ IsErrOf r word.W1) → (P ↔ IsErrOf (traced_refusal code) trouble.File)
-refused_count P word.W1 r q h = (λ p. refl, λ e. h.1 q)
-refused_count P word.W9 r q h = (λ p. let e = h.0 p in cc, λ e. cc)
-refused_count P code r q h = (λ p. let e = h.0 p in cc, λ e. cc)
-
 -- the line of words that are no valid module
-pub fault_traced : (G : Table) (reach : Reach) (function : ℕ) (choices : List ℕ) (limit : ℕ) (bytes words : List ℕ)
+pub fault_traced : (G : Table) (reach : Reach) (function : Chosen) (choices : List ℕ) (limit : ℕ) (bytes words : List ℕ)
     (order : Order) (v : Verdict) (f : fault.Fault) → v ≡ Fault f
     → IsModule order bytes words → IsAnswer G reach words v
     → IsTracing G reach function choices limit bytes (fault_line f.rule f.inst f.word) false
@@ -111,82 +68,61 @@ by_profile G reach bound is s _ _ (Broken.of_calls r n b) = s r n (Broken.of_cal
 by_profile G reach bound is s _ _ (Broken.of_extended r n b) = absurd (not_asked is r n b)
 
 -- its run, and that there is none
-pub run_traced : (G : Table) (reach : Reach) (function : ℕ) (choices : List ℕ) (limit : ℕ) (bytes words : List ℕ)
-    (order : Order) (p : Program) (t : Trace) → IsModule order bytes words → IsChecked G reach words p
-    → IsRunOf G p function choices limit t
+pub run_traced : (G : Table) (reach : Reach) (function : Chosen) (choices : List ℕ) (limit : ℕ) (bytes words : List ℕ)
+    (order : Order) (p : Program) (id : ℕ) (t : Trace) → IsModule order bytes words → IsChecked G reach words p
+    → IsChosen p.insts function (Ok id) → IsRunOf G p id choices limit t
     → IsTracing G reach function choices limit bytes (trace_text t.steps.items t.ending) true
-run_traced G reach function choices limit bytes words order p t h c r =
-    traced p t (program_of G reach bytes words order p h c) r
+run_traced G reach function choices limit bytes words order p id t h c k r =
+    traced p id t (program_of G reach bytes words order p h c) k r
 
-pub lacks_entry : (G : Table) (reach : Reach) (function : ℕ) (bytes words : List ℕ) (order : Order) (p : Program)
-    (e : TraceError) → IsModule order bytes words → IsChecked G reach words p
-    → RefusesEntry p.insts function e → traced_stop e ≡ trouble.NoEntry → HasNoEntry G reach bytes function
-lacks_entry G reach function bytes words order p NoEntry h c r q =
-    record { program = p; valid = program_of G reach bytes words order p h c; none = r }
-lacks_entry G reach function bytes words order p Memory h c r q = cc
+pub lacks_entry : (G : Table) (reach : Reach) (function : Chosen) (bytes words : List ℕ) (order : Order) (p : Program)
+    (id : ℕ) (e : TraceError) → IsModule order bytes words → IsChecked G reach words p
+    → IsChosen p.insts function (Ok id)
+    → RefusesEntry p.insts id e → traced_stop e ≡ trouble.NoEntry → HasNoEntry G reach bytes function
+lacks_entry G reach function bytes words order p id NoEntry h c k r q =
+    record { program = p; valid = program_of G reach bytes words order p h c; none = inr (id, k, r) }
+lacks_entry G reach function bytes words order p id Memory h c k r q = cc
 
--- what is written of the words that were read
-pub known_tracing : (G : Table) (reach : Reach) (function : ℕ) (choices : List ℕ) (limit : ℕ) (known : Option (List ℕ))
-    (words : List ℕ) (order : Order) (r : Result Traced Trouble)
-    → IfSome known (λ xs. IsModule order xs words)
-    → ((bytes : List ℕ) (o : Order) → IsModule o bytes words
-    → IfOk r (λ t. IsTracing G reach function choices limit bytes (output_of t) (is_run t)))
-    → IfSome known (λ xs. IfOk r (λ t. IsTracing G reach function choices limit xs (output_of t) (is_run t)))
-known_tracing G reach function choices limit None words order r h v = tt
-known_tracing G reach function choices limit (Some xs) words order r h v = v xs order h
+-- a function that has no id
+pub lacks_id : (G : Table) (reach : Reach) (function : Chosen) (bytes words : List ℕ) (order : Order) (p : Program)
+    (t : Trouble) → IsModule order bytes words → IsChecked G reach words p
+    → WhyNotChosen p.insts function t → t ≡ trouble.NoEntry → HasNoEntry G reach bytes function
+lacks_id G reach function bytes words order p trouble.NoEntry h c k q =
+    record { program = p; valid = program_of G reach bytes words order p h c; none = inl k }
+lacks_id G reach function bytes words order p trouble.SeveralFunctions h c k q = cc
+lacks_id G reach function bytes words order p trouble.NoFunction h c k q = absurd k
+lacks_id G reach function bytes words order p trouble.Use h c k q = absurd k
+lacks_id G reach function bytes words order p trouble.File h c k q = absurd k
+lacks_id G reach function bytes words order p trouble.NotText h c k q = absurd k
+lacks_id G reach function bytes words order p trouble.Memory h c k q = absurd k
+lacks_id G reach function bytes words order p (trouble.Grammar e) h c k q = absurd k
 
-pub known_stranger : (G : Table) (reach : Reach) (function : ℕ) (known : Option (List ℕ)) (words : List ℕ)
-    (order : Order) (P : Type 0) → IfSome known (λ xs. IsModule order xs words)
-    → ((bytes : List ℕ) (o : Order) → IsModule o bytes words → P → HasNoEntry G reach bytes function) → P
-    → IfSome known (λ bytes. HasNoEntry G reach bytes function)
-known_stranger G reach function None words order P h v p = tt
-known_stranger G reach function (Some xs) words order P h v p = v xs order h p
+pub has_several : (G : Table) (reach : Reach) (function : Chosen) (bytes words : List ℕ) (order : Order) (p : Program)
+    (t : Trouble) → IsModule order bytes words → IsChecked G reach words p
+    → WhyNotChosen p.insts function t → t ≡ trouble.SeveralFunctions → HasSeveral G reach bytes function
+has_several G reach function bytes words order p trouble.SeveralFunctions h c k q =
+    record { program = p; valid = program_of G reach bytes words order p h c; several = k }
+has_several G reach function bytes words order p trouble.NoEntry h c k q = cc
+has_several G reach function bytes words order p trouble.NoFunction h c k q = absurd k
+has_several G reach function bytes words order p trouble.Use h c k q = absurd k
+has_several G reach function bytes words order p trouble.File h c k q = absurd k
+has_several G reach function bytes words order p trouble.NotText h c k q = absurd k
+has_several G reach function bytes words order p trouble.Memory h c k q = absurd k
+has_several G reach function bytes words order p (trouble.Grammar e) h c k q = absurd k
 
-abbrev failing : Trouble → Result Traced Trouble
-failing t = Err t
-
-pub known_only : (G : Table) (reach : Reach) (function : ℕ) (known : Option (List ℕ)) (words : List ℕ) (order : Order)
-    (r : Result Traced Trouble)
-    → IfSome known (λ xs. IsModule order xs words)
-    → ((bytes : List ℕ) (o : Order) → IsModule o bytes words → IsErrOf r trouble.NoEntry
-    → HasNoEntry G reach bytes function)
-    → IfErr r (λ t. (t ≡ trouble.NoEntry) ⊎ (t ≡ trouble.Memory))
-    → IfErr r (λ t. (t ≡ trouble.File) ⊎ ((t ≡ trouble.NoEntry)
-    × IfSome known (λ bytes. HasNoEntry G reach bytes function)) ⊎ (t ≡ trouble.Memory))
-known_only G reach function known words order (Ok t) h v o = tt
-known_only G reach function known words order (Err t) h v (inl e) =
-    inr (inl (
-      e,
-      known_stranger G reach function known words order (IsErrOf (failing t) trouble.NoEntry) h v
-          (ap failing e),
-    ))
-known_only G reach function known words order (Err t) h v (inr e) = inr (inr e)
-
--- it was written whole
-pub traces : (G : Table) (reach : Reach) (function : ℕ) (choices : List ℕ) (limit : ℕ)
-    (known kept new : Option (List ℕ)) (t : Traced) (answer : Bool)
-    → IfSome known (λ bs. IsTracing G reach function choices limit bs (output_of t) (is_run t)) → answer ≡ is_run t
-    → Appends kept new (output_of t)
-    → IfSome known (λ bs. IfSome kept (λ old. Traces G reach function choices limit bs old new answer))
-traces G reach function choices limit None kept new t answer h e w = tt
-traces G reach function choices limit (Some bs) None new t answer h e w = tt
-traces G reach function choices limit (Some bs) (Some old) None t answer h e w = absurd w
-traces G reach function choices limit (Some bs) (Some old) (Some xs) t answer h e w =
-    record { output = output_of t; tracing = rw e h; written = ap Some w }
-
--- a beginning of it was
-pub begins_tracing : (G : Table) (reach : Reach) (function : ℕ) (choices : List ℕ) (limit : ℕ)
-    (known kept new : Option (List ℕ)) (t : Traced)
-    → IfSome known (λ bs. IsTracing G reach function choices limit bs (output_of t) (is_run t))
-    → IfSome kept (λ xs. (n : ℕ) × (n ≤ length (output_of t)) × (new ≡ Some (xs ++ take n (output_of t))))
-    → IfSome known (λ bs. IfSome kept (λ old. BeginsTracing G reach function choices limit bs old new))
-begins_tracing G reach function choices limit None kept new t h w = tt
-begins_tracing G reach function choices limit (Some bs) None new t h w = tt
-begins_tracing G reach function choices limit (Some bs) (Some old) new t h w =
-    record { output = output_of t; answer = is_run t; tracing = h; count = w.0; fits = w.1; written = w.2 }
+pub only_two : (is : List PlainInst) (function : Chosen) (t : Trouble) → WhyNotChosen is function t
+    → (t ≡ trouble.NoEntry) ⊎ (t ≡ trouble.SeveralFunctions) ⊎ (t ≡ trouble.Memory)
+only_two is function trouble.NoEntry k = inl refl
+only_two is function trouble.SeveralFunctions k = inr (inl refl)
+only_two is function trouble.NoFunction k = absurd k
+only_two is function trouble.Use k = absurd k
+only_two is function trouble.File k = absurd k
+only_two is function trouble.NotText k = absurd k
+only_two is function trouble.Memory k = absurd k
+only_two is function (trouble.Grammar e) k = absurd k
 
 -- three bytes are no module, and have no run
-pub short_traced : (G : Table) (reach : Reach) (function : ℕ) (choices : List ℕ) (limit : ℕ)
+pub short_traced : (G : Table) (reach : Reach) (function : Chosen) (choices : List ℕ) (limit : ℕ)
     → IsFirstBroken word.W2 (1 ∷ 2 ∷ 3 ∷ [])
     → Traces G reach function choices limit (1 ∷ 2 ∷ 3 ∷ []) (9 ∷ []) (Some (9 ∷ codes "fault W2" ++ line_end)) false
 short_traced G reach function choices limit h =
@@ -196,7 +132,7 @@ short_traced G reach function choices limit h =
       written = refl;
     }
 
-pub short_begun_tracing : (G : Table) (reach : Reach) (function : ℕ) (choices : List ℕ) (limit : ℕ)
+pub short_begun_tracing : (G : Table) (reach : Reach) (function : Chosen) (choices : List ℕ) (limit : ℕ)
     → IsFirstBroken word.W2 (1 ∷ 2 ∷ 3 ∷ [])
     → BeginsTracing G reach function choices limit (1 ∷ 2 ∷ 3 ∷ []) (9 ∷ []) (Some (9 ∷ codes "fault"))
 short_begun_tracing G reach function choices limit h =
@@ -210,8 +146,8 @@ short_begun_tracing G reach function choices limit h =
       written = refl;
     }
 
-pub no_run : (G : Table) (reach : Reach) (function : ℕ) (choices : List ℕ) (limit : ℕ) (bytes output : List ℕ)
+pub no_run : (G : Table) (reach : Reach) (function : Chosen) (choices : List ℕ) (limit : ℕ) (bytes output : List ℕ)
     (answer : Bool) → answer ≡ true → ((o : Order) (ws : List ℕ) → ¬ (IsModule o bytes ws))
     → ¬ (IsTracing G reach function choices limit bytes output answer)
 no_run G reach function choices limit bytes _ _ e never (IsTracing.judged line v n) = cc
-no_run G reach function choices limit bytes _ _ e never (IsTracing.traced p t h r) = never h.order h.words h.is_module
+no_run G reach function choices limit bytes _ _ e never (IsTracing.traced p id t h k r) = never h.order h.words h.is_module

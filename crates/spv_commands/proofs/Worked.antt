@@ -96,4 +96,5 @@ never_unread command file _ q (IsRefusal.unread G t f) = nothing_given G t
 never_unread command file _ q (IsRefusal.no_text G bytes t f n) = nothing_given G t
 never_unread command file _ q (IsRefusal.no_entry bytes f n) = nothing_given n.table n.given
 never_unread command file _ q (IsRefusal.no_function bytes f n) = nothing_given n.table n.given
+never_unread command file _ q (IsRefusal.several bytes f n) = nothing_given n.table n.given
 never_unread command file _ q IsRefusal.memory = differ 102 109 (omega arith) (sym (ap letter q))

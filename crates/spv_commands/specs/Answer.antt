@@ -5,9 +5,9 @@ use Rattle.spv_table.specs.Table.{Table}
 use Rattle.spv_builtin.specs.Source.{IsTableOf, breaks}
 use Rattle.spv_grammar.specs.declared.error.GrammarError.{GrammarError}
 use Rattle.spv_command_line.specs.declared.command_line.Command.{Command}
-use Rattle.spv_commands.specs.Task.{DoesByText, IsNoText, LacksAskedByText, LacksEntryByText, MakesNothing}
-use Rattle.spv_commands.specs.Task.{WritesRulesOf}
-use Rattle.spv_commands.specs.Trouble.{entry_line, file_line, function_line, grammar_text, memory_line}
+use Rattle.spv_commands.specs.Task.{DoesByText, IsAmbiguousByText, IsNoText, LacksAskedByText, LacksEntryByText}
+use Rattle.spv_commands.specs.Task.{MakesNothing, WritesRulesOf}
+use Rattle.spv_commands.specs.Trouble.{entry_line, file_line, function_line, grammar_text, memory_line, use_line}
 
 -- Why a command ends with an error, and the line that tells it, with a grammar file of this text or without one. FILE
 -- has these bytes, or none where it could not be read. No clause can tell when memory is refused, so the last stands
@@ -21,6 +21,8 @@ pub data IsRefusal (command : Command) (text file : Option (List ℕ)) : List �
       → IsRefusal command text file entry_line
   no_function : (bytes : List ℕ) → file ≡ Some bytes → LacksAskedByText command text (Some bytes)
       → IsRefusal command text file function_line
+  several : (bytes : List ℕ) → file ≡ Some bytes → IsAmbiguousByText command text (Some bytes)
+      → IsRefusal command text file use_line
   memory : IsRefusal command text file memory_line
 
 -- This is what the standard output, the file that is made and the standard error get, and the exit status.

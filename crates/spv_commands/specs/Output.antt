@@ -5,8 +5,8 @@ use Rattle.std.specs.Global.{Global}
 use Rattle.spv_check.specs.Text.{text_of}
 use Rattle.spv_commands.specs.Trace.{trace_text}
 use Rattle.spv_commands.specs.Trouble.{trouble_text}
-use Rattle.spv_commands.specs.declared.answering.Reply.{Reply}
-use Rattle.spv_commands.specs.declared.answering.Reply.TheVariants.{Done, Fault, Made}
+use Rattle.spv_commands.specs.declared.replying.Reply.{Reply}
+use Rattle.spv_commands.specs.declared.replying.Reply.TheVariants.{Done, Fault, Made}
 use Rattle.spv_commands.specs.declared.outgoing.Output.{Output}
 use Rattle.spv_commands.specs.declared.outgoing.Output.TheVariants.{Line, Bytes, Run}
 use Rattle.spv_explain.specs.declared.answers.Unread.{Unread}

@@ -4,7 +4,7 @@ use Rattle.std.specs.Prelude.{◌⊎◌, ◌↔◌, IsTrue, if◌then◌else◌}
 use Rattle.spv_table.specs.Table.{Table}
 use Rattle.spv_extended.specs.declared.reach.Reach.{Reach}
 use Rattle.spv_commands.specs.Task.{DoesTask, reach_of, taken}
-use Rattle.spv_commands.specs.Trouble.{file_line, memory_line}
+use Rattle.spv_commands.specs.Trouble.{file_line, memory_line, trouble_text, unread_trouble}
 use Rattle.spv_command_line.specs.declared.command_line.Task.{Task}
 use Rattle.spv_command_line.specs.declared.command_line.Task.TheVariants as tasks
 use Rattle.spv_check.specs.declared.verdict_line.Judgment.TheVariants.{Valid}
@@ -15,7 +15,7 @@ use Rattle.spv_explain.specs.declared.answers.Unread.TheVariants.{File, Memory}
 use Rattle.spv_commands.specs.declared.judging.Judging.{Judging}
 use Rattle.spv_commands.specs.declared.judging.Part.{Part}
 use Rattle.spv_commands.specs.declared.judging.Telling.{Telling}
-use Rattle.spv_commands.specs.declared.judging.Telling.TheVariants.{Bare, Named, Json}
+use Rattle.spv_commands.specs.declared.judging.Telling.TheVariants.{Named, Json}
 use Rattle.spv_commands.specs.Name.{label}
 
 -- what a file holds, where it is known: its bytes, or none where it does not open or a read of it fails
@@ -51,15 +51,10 @@ abbrev pub unread_text : Telling → List ℕ → Unread → List ℕ
 unread_text Json name why = json_line (error_object (Some name) why)
 unread_text _ name why = []
 
--- the line of why a file was not judged
-abbrev pub unread_line : Unread → List ℕ
-unread_line File = file_line
-unread_line Memory = memory_line
-
--- the same behind the name of the file, where it was not judged
+-- the line of why a file was not judged, behind its name; none of one that was
 abbrev pub told_line : List ℕ → Option Unread → List ℕ
 told_line name None = []
-told_line name (Some why) = label name ++ unread_line why
+told_line name (Some why) = label name ++ trouble_text (unread_trouble why)
 
 -- What is written of one file on the standard output and on the standard error, and the status for it.
 pub data IsPart (G : Table) (how : Judging) (name : List ℕ) (known : Known) (out err : List ℕ)

@@ -1,5 +1,5 @@
 -- What a command does, by the text of its grammar file, or by the built-in grammar (own).
-use Rattle.std.specs.Prelude.{◌≡◌, ℕ, List, Option, Some, None, Bool, true, false, IfSome, IsUtf8, option_map, if◌then◌else◌}
+use Rattle.std.specs.Prelude.{◌≡◌, ℕ, List, Option, Bool, true, false, IfSome, IsUtf8, option_map, if◌then◌else◌}
 use Rattle.std.specs.Borrow.{Bor}
 use Rattle.std.specs.Io.KnownBytes.{Appends}
 use Rattle.spv_table.specs.Table.{Table}
@@ -18,7 +18,7 @@ use Rattle.spv_command_line.specs.declared.command_line.Task.{Task}
 use Rattle.spv_command_line.specs.declared.command_line.Task.TheVariants as tasks
 use Rattle.spv_commands.specs.Assemble.{Assembles, order_of}
 use Rattle.spv_commands.specs.Show.{Shows}
-use Rattle.spv_commands.specs.Trace.{HasNoEntry, Traces}
+use Rattle.spv_commands.specs.Trace.{HasNoEntry, HasSeveral, Traces}
 use Rattle.spv_words.specs.Version.{as_1_6 as version_1_6}
 use Rattle.spv_check.specs.Stream.{TellsVerdict}
 use Rattle.spv_rules.specs.Codes.{told_text}
@@ -27,7 +27,7 @@ use Rattle.spv_explain.specs.Json.{told_json}
 use Rattle.spv_explain.specs.Stream.{Explains}
 use Rattle.spv_fault_lines.specs.declared.fact.Detail.{Detail}
 use Rattle.spv_fault_lines.specs.declared.fact.Detail.TheVariants.{Short, Full}
-use Rattle.spv_views.specs.View.{LacksFunction, Views}
+use Rattle.spv_views.specs.View.{LacksFunction, NamesSeveral, Views}
 use Rattle.spv_views.specs.declared.view.View.{View}
 use Rattle.spv_views.specs.declared.view.View.TheVariants as views
 
@@ -147,8 +147,8 @@ abbrev pub IsNoText : Command → Option (List ℕ) → Type 0
 IsNoText (Asm grammar file out big explain) known = IfSome known (λ bytes. ¬ (IsUtf8 bytes))
 IsNoText _ known = ⊥
 
--- the command asks for a run, and the bytes of its file, if they are known, are a valid module in which the id is no
--- entry point's function
+-- the command asks for a run, and the bytes of its file, if they are known, are a valid module in which the function
+-- is no entry point's
 abbrev pub LacksEntry : Command → Table → Option (List ℕ) → Type 0
 LacksEntry (Trace grammar file function choices limit as_1_6 extended) G known =
     IfSome known (λ bytes. HasNoEntry G (reach_of extended) bytes function)
@@ -161,7 +161,7 @@ pub record LacksEntryByText (command : Command) (text : Option (List ℕ)) (know
   pub lacks : LacksEntry command table (option_map (taken_by command) known)
 
 -- the command asks for a function, and the bytes of its file, if they are known, are a module in which functions can be
--- told apart, and which has none of that id
+-- told apart, and which has no such one
 abbrev pub LacksAsked : Command → Table → Option (List ℕ) → Type 0
 LacksAsked (Annotate grammar file as_1_6 function form color) G known =
     IfSome known (λ bytes. LacksFunction G bytes function)
@@ -173,3 +173,19 @@ pub record LacksAskedByText (command : Command) (text : Option (List ℕ)) (know
   pub table : Table
   pub given : IsTableOf text table
   pub lacks : LacksAsked command table (option_map (taken_by command) known)
+
+-- the command asks for a function by a name that several have, and the bytes of its file, if they are known, are a
+-- module in which they do
+abbrev pub IsAmbiguous : Command → Table → Option (List ℕ) → Type 0
+IsAmbiguous (Trace grammar file function choices limit as_1_6 extended) G known =
+    IfSome known (λ bytes. HasSeveral G (reach_of extended) bytes function)
+IsAmbiguous (Annotate grammar file as_1_6 function form color) G known =
+    IfSome known (λ bytes. NamesSeveral G bytes function)
+IsAmbiguous (Graph grammar file as_1_6 function) G known = IfSome known (λ bytes. NamesSeveral G bytes function)
+IsAmbiguous _ G known = ⊥
+
+-- the same of the bytes as the command takes them, under the table of a run
+pub record IsAmbiguousByText (command : Command) (text : Option (List ℕ)) (known : Option (List ℕ)) : Type 0 where
+  pub table : Table
+  pub given : IsTableOf text table
+  pub ambiguous : IsAmbiguous command table (option_map (taken_by command) known)

@@ -1,10 +1,14 @@
 -- What `trace` writes of a stream of bytes. (Own.)
-use Rattle.std.specs.Prelude.{◌≡◌, ◌≢◌, ◌≤◌, ◌++◌, ℕ, List, Option, Some, Bool, true, false}
+use Rattle.std.specs.Prelude.{◌≡◌, ◌≢◌, ◌≤◌, ◌⊎◌, ◌++◌, Ok, Err, ℕ, List, Option, Some, Bool, true, false}
 use Rattle.std.specs.Prelude.{length, take, codes, decimal, flat_map}
 use Rattle.spv_words.specs.Header.{IsModule}
 use Rattle.spv_words.specs.declared.words.Order.{Order}
 use Rattle.spv_table.specs.Table.{Table}
 use Rattle.spv_extended.specs.declared.reach.Reach.{Reach}
+use Rattle.spv_module.specs.Operand.{PlainInst}
+use Rattle.spv_names.specs.Chosen.{IsChosen}
+use Rattle.spv_names.specs.declared.chosen.Chosen.{Chosen}
+use Rattle.spv_names.specs.declared.chosen.NameError.TheVariants.{Absent, Several}
 use Rattle.spv_run.specs.Entry.{IsEntryId}
 use Rattle.spv_run.specs.declared.parts.Ending.{Ending}
 use Rattle.spv_run.specs.declared.parts.Ending.TheVariants.{Finished, Unreachable, Limit, NoChoice, BadChoice}
@@ -39,27 +43,28 @@ pub record IsProgram (G : Table) (reach : Reach) (bytes : List ℕ) (p : Program
   pub is_module : IsModule order bytes words
   pub checked : IsChecked G reach words p
 
--- This is what is written of all of these bytes for a function's id, choices and a limit, under the grammar table, and
+-- This is what is written of all of these bytes for a function, choices and a limit, under the grammar table, and
 -- whether it is the text of a trace.
-pub data IsTracing (G : Table) (reach : Reach) (function : ℕ) (choices : List ℕ) (limit : ℕ) (bytes : List ℕ) : List ℕ
+pub data IsTracing (G : Table) (reach : Reach) (function : Chosen) (choices : List ℕ) (limit : ℕ) (bytes : List ℕ) : List ℕ
     → Bool → Type 0 where
   -- they are no valid module: their verdict line
   judged : (line : List ℕ) → IsVerdict G reach bytes line → line ≢ valid_line
       → IsTracing G reach function choices limit bytes line false
-  -- they are a valid module, and the id is an entry point's function: the text of the trace of its run
-  traced : (p : Program) (t : Trace) → IsProgram G reach bytes p → IsRunOf G p function choices limit t
+  -- they are a valid module, and the function is an entry point's: the text of the trace of its run
+  traced : (p : Program) (id : ℕ) (t : Trace) → IsProgram G reach bytes p → IsChosen p.insts function (Ok id)
+      → IsRunOf G p id choices limit t
       → IsTracing G reach function choices limit bytes (trace_text t.steps.items t.ending) true
 
 -- A writer that held the bytes `old` now also holds what is written of the bytes, and nothing else; the answer tells
 -- whether it is the text of a trace.
-pub record Traces (G : Table) (reach : Reach) (function : ℕ) (choices : List ℕ) (limit : ℕ) (bytes old : List ℕ)
+pub record Traces (G : Table) (reach : Reach) (function : Chosen) (choices : List ℕ) (limit : ℕ) (bytes old : List ℕ)
     (new : Option (List ℕ)) (answer : Bool) : Type 0 where
   pub output : List ℕ
   pub tracing : IsTracing G reach function choices limit bytes output answer
   pub written : new ≡ Some (old ++ output)
 
 -- A writer that held the bytes `old` now also holds a beginning of what is written, and nothing else.
-pub record BeginsTracing (G : Table) (reach : Reach) (function : ℕ) (choices : List ℕ) (limit : ℕ)
+pub record BeginsTracing (G : Table) (reach : Reach) (function : Chosen) (choices : List ℕ) (limit : ℕ)
     (bytes old : List ℕ) (new : Option (List ℕ)) : Type 0 where
   pub output : List ℕ
   pub answer : Bool
@@ -68,8 +73,19 @@ pub record BeginsTracing (G : Table) (reach : Reach) (function : ℕ) (choices :
   pub fits : count ≤ length output
   pub written : new ≡ Some (old ++ take count output)
 
--- The bytes are a valid module, and the id is no entry point's function in it.
-pub record HasNoEntry (G : Table) (reach : Reach) (bytes : List ℕ) (function : ℕ) : Type 0 where
+-- The name is that of no function, or the id is no entry point's function.
+abbrev pub IsNoEntry : List PlainInst → Chosen → Type 0
+IsNoEntry is function =
+    IsChosen is function (Err Absent) ⊎ ((id : ℕ) × IsChosen is function (Ok id) × ¬ (IsEntryId is id))
+
+-- The bytes are a valid module, and the function is no entry point's in it.
+pub record HasNoEntry (G : Table) (reach : Reach) (bytes : List ℕ) (function : Chosen) : Type 0 where
   pub program : Program
   pub valid : IsProgram G reach bytes program
-  pub none : ¬ (IsEntryId program.insts function)
+  pub none : IsNoEntry program.insts function
+
+-- The bytes are a valid module, and several functions in it have the name of the function.
+pub record HasSeveral (G : Table) (reach : Reach) (bytes : List ℕ) (function : Chosen) : Type 0 where
+  pub program : Program
+  pub valid : IsProgram G reach bytes program
+  pub several : IsChosen program.insts function (Err Several)

@@ -18,11 +18,15 @@ memory_line = codes "error memory" ++ line_end
 abbrev pub file_line : List ℕ
 file_line = codes "error file" ++ line_end
 
--- the line that tells an id that is no entry point's function
+-- the line that tells words that fit no command, and a name that several functions have
+abbrev pub use_line : List ℕ
+use_line = codes "error use" ++ line_end
+
+-- the line that tells a function that is no entry point's
 abbrev pub entry_line : List ℕ
 entry_line = codes "error X1" ++ line_end
 
--- the line that tells an id that is no function's
+-- the line that tells a function that is none of the module
 abbrev pub function_line : List ℕ
 function_line = codes "error X2" ++ line_end
 
@@ -39,12 +43,13 @@ grammar_text grammar.J8 = memory_line
 
 -- the line of a trouble
 abbrev pub trouble_text : Trouble → List ℕ
-trouble_text trouble.Use = codes "error use" ++ line_end
+trouble_text trouble.Use = use_line
 trouble_text trouble.File = file_line
 trouble_text trouble.NotText = file_line
 trouble_text trouble.Memory = memory_line
 trouble_text trouble.NoEntry = entry_line
 trouble_text trouble.NoFunction = function_line
+trouble_text trouble.SeveralFunctions = use_line
 trouble_text (trouble.Grammar e) = grammar_text e
 
 -- what a file that could not be read is told as

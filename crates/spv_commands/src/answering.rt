@@ -1,352 +1,22 @@
 //! What a command answers, of the bytes that its files have. It reads and writes nothing.
-ghost use Rattle.std.specs.Prelude.{◌≡◌, ◌↔◌, ◌⊎◌, ◌*◌, ℕ, List, [], Option, Some, IfErr, IfOk, IsErrOf, IsTrue, IsUtf8};
-ghost use Rattle.std.specs.Prelude.{false, length, option_map, true};
+ghost use Rattle.std.specs.Prelude.{◌≡◌, ℕ, List, Option, IfErr, IfOk, option_map};
 ghost use Rattle.spv_builtin.specs.Source.{IsTableOf};
-ghost use Rattle.spv_words.specs.Header.{IsFirstBroken, IsModule};
-ghost use Rattle.spv_words.specs.Streams.{HoldsBytes};
-ghost use Rattle.spv_check.specs.Stream.{TellsVerdict};
-ghost use Rattle.spv_check.specs.Text.{line_of};
-ghost use Rattle.spv_check.specs.Verdict.{IsVerdict, valid_line};
-ghost use Rattle.spv_explain.specs.Stream.{Explains, IsExplanation};
-ghost use Rattle.spv_views.specs.View.{LacksFunction, Views};
 ghost use Rattle.spv_command_line.specs.declared.command_line.Command.{Command};
 ghost use Rattle.spv_commands.specs.Answer.{Answers, IsRefusal};
-ghost use Rattle.spv_commands.specs.Assemble.{Assembles};
-ghost use Rattle.spv_commands.specs.Output.{bytes_in, is_done, made_of, out_of, status_of, written_err, written_made};
-ghost use Rattle.spv_commands.specs.Output.{written_out};
-ghost use Rattle.spv_commands.specs.Show.{Shows};
-ghost use Rattle.spv_commands.specs.Task.{DoesTask, WritesGrammar, WritesRules, taken_by};
-ghost use Rattle.spv_commands.specs.Trace.{HasNoEntry, Traces};
+ghost use Rattle.spv_commands.specs.Output.{bytes_in, status_of, written_err, written_made, written_out};
 ghost use Rattle.spv_commands.specs.Trouble.{grammar_text, trouble_text};
-ghost use Rattle.spv_commands.specs.inner.Assembly.{ComesTo};
-ghost use Rattle.spv_commands.specs.inner.Answered.{Gives, IsAnswerBy, IsUnreadAnswer, WhyNot};
-ghost use Rattle.spv_commands.specs.declared.trouble.Trouble.TheVariants.{Memory, NoEntry, NoFunction, NotText};
 
-use crate::asked::{detail_by, is_as_1_6, order_by, reach_by, rules_bytes, view_by};
-use crate::assembling::{Assembly, assembly_of};
+use crate::asked::is_as_1_6;
 use crate::judging::take_as;
-use crate::outgoing::Output;
-use crate::showing::{Shown, shown_of};
-use crate::text_fault::text_fault;
-use crate::tracing::{Traced, traced_of};
+use crate::replying::{Reply, reply_to, ruled};
 use crate::trouble::Trouble;
-use spv_builtin::{grammar_text as text_of_grammar, table_of};
-use spv_command_line::{AnyCode, Command, Task};
-use spv_explain::{Detail, Explanation, Unread, explain_bytes, octets_told};
-use spv_extended::Reach;
+use spv_builtin::table_of;
+use spv_command_line::Command;
+use spv_explain::Unread;
 use spv_grammar::GrammarError;
 use spv_table::Table;
-use spv_verdict::{Judgment, Verdict, check, line_for};
-use spv_views::{View, ViewError, Viewed, view_image};
-use spv_words::{FromWrite, GREATEST_SIZE, Image, Order, WordError, image_from, write_image};
 use std::alloc::Global;
 use std::mem::forget;
-
-/// What a command comes to.
-#[derive(Drop)]
-pub enum Reply {
-    /// The module is valid, or its text, its run, what people look at, a grammar file or what codes say is written:
-    /// this. The exit status is 0.
-    Done(Output),
-    /// A fault is told: this is written. The exit status is 1.
-    Fault(Output),
-    /// A module is made: these are its bytes. The exit status is 0.
-    Made(Vec<u8>),
-}
-
-/// The image of a module's bytes, which become it, and their order.
-fn image_in(bytes: Vec<u8>) -> Result<(Image, Order), WordError>
-    ensures gives { IfOk result (λ p. IsModule p.1 bytes.items p.0) }
-    ensures refused { IfErr result (λ e. IsFirstBroken e bytes.items) }
-{
-    if bytes.len() > GREATEST_SIZE {
-        return Err(WordError::W8);
-    }
-    image_from(bytes)
-}
-
-/// The answer that tells a fault by the line of a verdict.
-fn fault(judgment: Judgment) -> Reply
-    ensures out { out_of result ≡ line_of judgment }
-    ensures made { made_of result ≡ [] }
-    ensures done { is_done result ≡ false }
-{
-    Reply::Fault(Output::Line(line_for(judgment)))
-}
-
-/// What `check` answers of a module's bytes.
-fn checked(alloc: Global, table: &Table, reach: Reach, bytes: Vec<u8>) -> Result<Reply, Trouble>
-    ensures gives { IfOk result (Gives (TellsVerdict table.now reach) bytes.items) }
-    ensures only { IfErr result (λ t. t ≡ Memory) }
-{
-    let image = match image_in(bytes) {
-        Ok((image, _)) => image,
-        Err(code) => return Ok(fault(Judgment::Refused(code))),
-    };
-    match check(alloc, table, reach, &image) {
-        Ok(Verdict::Valid(_)) => Ok(Reply::Done(Output::Line(line_for(Judgment::Valid)))),
-        Ok(Verdict::Fault(found)) => Ok(fault(Judgment::Broken(found))),
-        Err(_) => Err(Trouble::Memory),
-    }
-}
-
-/// The answer that a verdict is told by this text.
-fn verdict(judgment: Judgment, text: Vec<u8>) -> Reply
-    ensures out { out_of result ≡ text.items }
-    ensures made { made_of result ≡ [] }
-    ensures done { IsTrue (is_done result) ↔ (line_of judgment ≡ valid_line) }
-{
-    match judgment {
-        Judgment::Valid => Reply::Done(Output::Bytes(text)),
-        Judgment::Refused(_) => Reply::Fault(Output::Bytes(text)),
-        Judgment::Broken(_) => Reply::Fault(Output::Bytes(text)),
-    }
-}
-
-/// The verdict on a module's bytes, with the lines that explain it.
-fn explanation_of(
-    alloc: Global,
-    table: &Table,
-    reach: Reach,
-    detail: Detail,
-    bytes: Vec<u8>,
-) -> Result<Explanation, Trouble>
-    ensures explains { IfOk result (λ e. IsExplanation detail table.now reach bytes.items e) }
-    ensures only { IfErr result (λ t. t ≡ Memory) }
-{
-    if bytes.len() > GREATEST_SIZE {
-        return match explain_bytes(alloc, table, reach, detail, &bytes) {
-            Ok(explanation) => Ok(explanation),
-            Err(_) => Err(Trouble::Memory),
-        };
-    }
-    match octets_told(alloc, table, reach, detail, bytes) {
-        Ok(explanation) => Ok(explanation),
-        Err(_) => Err(Trouble::Memory),
-    }
-}
-
-/// What `explain` answers of a module's bytes.
-fn explained(
-    alloc: Global,
-    table: &Table,
-    reach: Reach,
-    detail: Detail,
-    bytes: Vec<u8>,
-) -> Result<Reply, Trouble>
-    ensures gives { IfOk result (Gives (Explains detail table.now reach) bytes.items) }
-    ensures only { IfErr result (λ t. t ≡ Memory) }
-{
-    let explanation = explanation_of(alloc, table, reach, detail, bytes)?;
-    match explanation.bytes(alloc) {
-        Ok(text) => Ok(verdict(explanation.judgment, text)),
-        Err(_) => Err(Trouble::Memory),
-    }
-}
-
-/// What a task answers of a module's bytes.
-fn judged(
-    alloc: Global,
-    task: Task,
-    table: &Table,
-    reach: Reach,
-    bytes: Vec<u8>,
-) -> Result<Reply, Trouble>
-    ensures gives { IfOk result (Gives (DoesTask task table.now reach) bytes.items) }
-    ensures only { IfErr result (λ t. t ≡ Memory) }
-{
-    match task {
-        Task::Check => checked(alloc, table, reach, bytes),
-        Task::Explain { full } => explained(alloc, table, reach, detail_by(full), bytes),
-    }
-}
-
-/// What `show` answers of a module's bytes.
-fn shown(alloc: Global, table: &Table, bytes: Vec<u8>) -> Result<Reply, Trouble>
-    ensures gives { IfOk result (Gives (Shows table.now) bytes.items) }
-    ensures only { IfErr result (λ t. t ≡ Memory) }
-{
-    let image = match image_in(bytes) {
-        Ok((image, _)) => image,
-        Err(code) => return Ok(fault(Judgment::Refused(code))),
-    };
-    match shown_of(alloc, table, &image) {
-        Ok(Shown::Text(text)) => Ok(Reply::Done(Output::Bytes(text.into_bytes()))),
-        Ok(Shown::Line(judgment)) => Ok(fault(judgment)),
-        Err(_) => Err(Trouble::Memory),
-    }
-}
-
-/// What `trace` answers of a module's bytes.
-fn traced(
-    alloc: Global,
-    table: &Table,
-    reach: Reach,
-    function: u32,
-    choices: &[u32],
-    limit: u32,
-    bytes: Vec<u8>,
-) -> Result<Reply, Trouble>
-    ensures gives { IfOk result (Gives (Traces table.now reach function choices.now limit) bytes.items) }
-    ensures only { IfErr result (λ t.
-        ((t ≡ NoEntry) × HasNoEntry table.now reach bytes.items function) ⊎ (t ≡ Memory)) }
-{
-    let image = match image_in(bytes) {
-        Ok((image, _)) => image,
-        Err(code) => return Ok(fault(Judgment::Refused(code))),
-    };
-    match traced_of(alloc, table, reach, &image, function, choices, limit) {
-        Ok(Traced::Run(run)) => Ok(Reply::Done(Output::Run(run))),
-        Ok(Traced::Line(judgment)) => Ok(fault(judgment)),
-        Err(trouble) => Err(trouble),
-    }
-}
-
-/// What `annotate` and `graph` answer of a module's bytes.
-fn viewed(
-    alloc: Global,
-    table: &Table,
-    how: View<'_>,
-    function: Option<u32>,
-    bytes: Vec<u8>,
-) -> Result<Reply, Trouble>
-    ensures gives { IfOk result (Gives (Views how.entry table.now function) bytes.items) }
-    ensures only { IfErr result (λ t.
-        ((t ≡ NoFunction) × LacksFunction table.now bytes.items function) ⊎ (t ≡ Memory)) }
-{
-    spv_words::laws::one_refusal();
-    let image = match image_in(bytes) {
-        Ok((image, _)) => image,
-        Err(code) => return Ok(fault(Judgment::Refused(code))),
-    };
-    match view_image(alloc, table, how, function, &image) {
-        Ok(Viewed::Text(text)) => Ok(Reply::Done(Output::Bytes(text.into_bytes()))),
-        Ok(Viewed::Beginning(text)) => Ok(Reply::Fault(Output::Bytes(text.into_bytes()))),
-        Ok(Viewed::Line(judgment)) => Ok(fault(judgment)),
-        Err(ViewError::NoFunction) => Err(Trouble::NoFunction),
-        Err(_) => Err(Trouble::Memory),
-    }
-}
-
-/// The answer of the bytes of an image in an order.
-fn made(alloc: Global, order: Order, image: &Image) -> Result<Reply, Trouble>
-    ensures made { IfOk result (λ a. HoldsBytes order image.now [] (Some (made_of a)) (4 * length image.now)) }
-    ensures out { IfOk result (λ a. out_of a ≡ []) }
-    ensures done { IfOk result (λ a. is_done a ≡ true) }
-    ensures only { IfErr result (λ t. t ≡ Memory) }
-{
-    let mut bytes = FromWrite::new(Vec::new(alloc));
-    // They stand in memory, so it can only be its growth that fails.
-    match write_image(image, order, &mut bytes) {
-        Ok(()) => Ok(Reply::Made(bytes.inner)),
-        Err(_) => Err(Trouble::Memory),
-    }
-}
-
-/// What bytes come to as a text, which are given back before a module is written.
-fn assembly_in(
-    alloc: Global,
-    table: &Table,
-    explain: bool,
-    bytes: Vec<u8>,
-) -> Result<Assembly, Trouble>
-    ensures comes { IfOk result (ComesTo table.now explain bytes.items) }
-    ensures only { IfErr result (λ t. ((t ≡ NotText) × (¬ IsUtf8 bytes.items)) ⊎ (t ≡ Memory)) }
-{
-    assembly_of(alloc, table, explain, &bytes)
-}
-
-/// What `asm` answers of the bytes of a text.
-fn assembled(
-    alloc: Global,
-    table: &Table,
-    order: Order,
-    explain: bool,
-    bytes: Vec<u8>,
-) -> Result<Reply, Trouble>
-    ensures gives { IfOk result (λ a. Assembles table.now order explain bytes.items
-        (Some []) (Some (out_of a)) (Some []) (Some (made_of a)) (is_done a)) }
-    ensures only { IfErr result (λ t. ((t ≡ NotText) × (¬ IsUtf8 bytes.items)) ⊎ (t ≡ Memory)) }
-{
-    match assembly_in(alloc, table, explain, bytes) {
-        Ok(Assembly::Made(image)) => made(alloc, order, &image),
-        Ok(Assembly::Fault(error)) => Ok(Reply::Fault(Output::Line(text_fault(error)))),
-        Ok(Assembly::Told(lines)) => Ok(Reply::Fault(Output::Bytes(lines))),
-        Err(trouble) => Err(trouble),
-    }
-}
-
-/// What `rules` answers.
-fn ruled(alloc: Global, code: Option<AnyCode>, json: bool) -> Result<Reply, Trouble>
-    ensures gives { IfOk result (IsUnreadAnswer (WritesRules code json)) }
-    ensures only { IfErr result (λ t. t ≡ Memory) }
-{
-    match rules_bytes(alloc, code, json) {
-        Ok(text) => Ok(Reply::Done(Output::Bytes(text))),
-        Err(_) => Err(Trouble::Memory),
-    }
-}
-
-/// What `grammar` answers of a table.
-fn written(alloc: Global, table: &Table) -> Result<Reply, Trouble>
-    ensures gives { IfOk result (IsUnreadAnswer (WritesGrammar table.now)) }
-    ensures only { IfErr result (λ t. t ≡ Memory) }
-{
-    match text_of_grammar(alloc, table) {
-        Ok(text) => Ok(Reply::Done(Output::Bytes(text.into_bytes()))),
-        Err(_) => Err(Trouble::Memory),
-    }
-}
-
-/// What a command answers by a table of the bytes of its file.
-fn answer_on(
-    alloc: Global,
-    command: &Command,
-    table: &Table,
-    bytes: Vec<u8>,
-) -> Result<Reply, Trouble>
-    ensures does { IfOk result (IsAnswerBy command.now table.now (taken_by command.now bytes.items)) }
-    ensures why { IfErr result (WhyNot command.now table.now (taken_by command.now bytes.items)) }
-{
-    let mut bytes = bytes;
-    take_as(is_as_1_6(command), &mut bytes);
-    match command {
-        Command::Judge { task, extended, .. } => {
-            let reach = reach_by(*extended);
-            judged(alloc, *task, table, reach, bytes)
-        }
-        Command::Show { .. } => shown(alloc, table, bytes),
-        Command::Asm { big, explain, .. } => {
-            assembled(alloc, table, order_by(*big), *explain, bytes)
-        }
-        Command::Trace {
-            function,
-            choices,
-            limit,
-            extended,
-            ..
-        } => {
-            let reach = reach_by(*extended);
-            traced(alloc, table, reach, *function, choices, *limit, bytes)
-        }
-        Command::Annotate {
-            file: name,
-            function,
-            form,
-            color,
-            ..
-        } => viewed(
-            alloc,
-            table,
-            view_by(*form, *color, *name),
-            *function,
-            bytes,
-        ),
-        Command::Graph { function, .. } => viewed(alloc, table, View::Graph, *function, bytes),
-        Command::Rules { code, json } => ruled(alloc, *code, *json),
-        Command::Grammar { .. } => written(alloc, table),
-    }
-}
 
 /// What a command answers by a table of what its file gave.
 fn answer_by(
@@ -360,7 +30,11 @@ fn answer_by(
         (status_of result) }
 {
     match file {
-        Ok(bytes) => answer_on(alloc, command, table, bytes),
+        Ok(bytes) => {
+            let mut bytes = bytes;
+            take_as(is_as_1_6(command), &mut bytes);
+            reply_to(alloc, command, table, bytes)
+        }
         Err(why) => Err(Trouble::from(why)),
     }
 }
@@ -382,7 +56,8 @@ fn grammar_trouble(error: GrammarError) -> Trouble
 /// `Grammar`: the text is refused. `Memory`: a growth of memory was refused. There is no other.
 pub fn table_in(alloc: Global, grammar: Option<&[u8]>) -> Result<Table, Trouble>
     ensures table { IfOk result (IsTableOf (option_map (λ g. g.now) grammar.entry)) }
-    ensures refused { (command : Command) (file : Option (List ℕ)) → IfErr result (λ t. IsRefusal command (option_map (λ g. g.now) grammar.entry) file (trouble_text t)) }
+    ensures refused { (command : Command) (file : Option (List ℕ)) → IfErr result
+        (λ t. IsRefusal command (option_map (λ g. g.now) grammar.entry) file (trouble_text t)) }
 {
     match table_of(alloc, grammar) {
         Ok(table) => Ok(table),

@@ -2,13 +2,25 @@
 ghost use Rattle.std.specs.Prelude.{◌≡◌, IfOk};
 ghost use Rattle.spv_commands.specs.Assemble.{order_of};
 ghost use Rattle.spv_commands.specs.Task.{AreRules, detail_of, is_colored, reach_of, takes_as_1_6, view_of};
+ghost use Rattle.spv_commands.specs.inner.Asked as asked;
 
-use spv_command_line::{AnyCode, Color, Command, Form};
+use spv_command_line::{AnyCode, Color, Command, Form, Task};
 use spv_explain::{Detail, rules_json, rules_text};
 use spv_extended::Reach;
 use spv_views::View;
 use spv_words::Order;
 use std::alloc::{AllocError, Global};
+
+/// What a command reads of its file.
+#[derive(Clone, Copy)]
+pub enum Reads {
+    /// It has none.
+    Nothing,
+    /// The bytes of a module: as many as one has at most, and one more where there are more.
+    Module,
+    /// All the bytes of a text.
+    Text,
+}
 
 /// How much an explanation tells, where it is to be full or not.
 pub fn detail_by(full: bool) -> Detail
@@ -46,7 +58,7 @@ fn is_in_color(color: Color) -> bool
 }
 
 /// What `annotate` writes of the file of a name.
-pub fn view_by(form: Form, color: Color, file: &str) -> View<'_>
+fn view_by(form: Form, color: Color, file: &str) -> View<'_>
     ensures { result ≡ view_of form color file.entry }
 {
     match form {
@@ -54,6 +66,21 @@ pub fn view_by(form: Form, color: Color, file: &str) -> View<'_>
             color: is_in_color(color),
         },
         Form::Page => View::Page { title: file },
+    }
+}
+
+/// What a command shows people of its file: a picture, where it is not `annotate`.
+pub fn how_by<'a>(command: &Command<'a>) -> View<'a>
+    ensures { result ≡ asked.how_of command.now }
+{
+    match command {
+        Command::Annotate {
+            file,
+            form,
+            color,
+            ..
+        } => view_by(*form, *color, *file),
+        _ => View::Graph,
     }
 }
 
@@ -68,6 +95,41 @@ pub fn is_as_1_6(command: &Command) -> bool
         | Command::Annotate { as_1_6, .. }
         | Command::Graph { as_1_6, .. } => *as_1_6,
         Command::Asm { .. } | Command::Rules { .. } | Command::Grammar { .. } => false,
+    }
+}
+
+/// What a command reads of its file.
+pub fn reads_of(command: &Command) -> Reads
+    ensures { result ≡ asked.reads_of command.now }
+{
+    match command {
+        Command::Judge { .. }
+        | Command::Show { .. }
+        | Command::Trace { .. }
+        | Command::Annotate { .. }
+        | Command::Graph { .. } => Reads::Module,
+        Command::Asm { .. } => Reads::Text,
+        Command::Rules { .. } | Command::Grammar { .. } => Reads::Nothing,
+    }
+}
+
+/// Whether a task explains.
+fn explains(task: Task) -> bool
+    ensures { result ≡ asked.explains task }
+{
+    match task {
+        Task::Check => false,
+        Task::Explain { .. } => true,
+    }
+}
+
+/// Whether a command explains a verdict.
+pub fn is_explaining(command: &Command) -> bool
+    ensures { result ≡ asked.is_explaining command.now }
+{
+    match command {
+        Command::Judge { task, .. } => explains(*task),
+        _ => false,
     }
 }
 

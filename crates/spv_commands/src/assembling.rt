@@ -1,10 +1,9 @@
-//! What `asm` makes of the text of a stream.
+//! What `asm` makes of a text.
 ghost use Rattle.std.specs.Prelude.{◌≡◌, ◌⊎◌, ◌↔◌, IfOk, IfErr, IfSome, IsErrOf};
 ghost use Rattle.std.specs.Prelude.{IsUtf8, true};
 ghost use Rattle.spv_check.specs.Outcome.{HasFailed};
-ghost use Rattle.spv_commands.specs.Streams.{IsDone, reading, writing};
 ghost use Rattle.spv_lines.specs.Fault.{IsFailure};
-ghost use Rattle.spv_commands.specs.Assemble.{Assembles, BeginsAssembling, TellsFault};
+ghost use Rattle.spv_commands.specs.Assemble.{TellsFault};
 ghost use Rattle.spv_commands.specs.inner.Assembly.{ComesTo};
 ghost use Rattle.spv_commands.specs.declared.trouble.Trouble.TheVariants as trouble;
 
@@ -15,7 +14,7 @@ use spv_command_line::ErrorCode;
 use spv_parser::{AsmCode, AsmError, assemble};
 use spv_table::Table;
 use spv_views::text_fault::reason_lines;
-use spv_words::{Image, Order, Sink, Source, write_all, write_image};
+use spv_words::{Image, Source};
 use std::alloc::{AllocError, Global};
 
 /// How many bytes are read at a time.
@@ -123,64 +122,6 @@ pub fn assembly_of(
         Err(error) => match error.code {
             AsmCode::S6 => Err(Trouble::Memory),
             _ => faulty(alloc, table, explain, text, error),
-        },
-    }
-}
-
-/// What all the bytes of a reader come to as a text.
-#[tactic(auto, using(crate::proofs::Assemblings::all_known))]
-fn assembly_on<R: Source>(
-    alloc: Global,
-    table: &Table,
-    explain: bool,
-    r: &mut R,
-) -> Result<Assembly, Trouble>
-    ensures comes { IfSome (R.remaining r.old) (λ bytes. IfOk result (λ a. ComesTo table.now explain bytes a)) }
-    ensures count { HasFailed R.failures r.old r.new ↔ IsErrOf result trouble.File }
-    ensures only { IfErr result (λ t. (t ≡ trouble.File)
-        ⊎ ((t ≡ trouble.NotText) × IfSome (R.remaining r.old) (λ bytes. ¬ IsUtf8 bytes)) ⊎ (t ≡ trouble.Memory)) }
-{
-    let bytes = read_all(alloc, r)?;
-    assembly_of(alloc, table, explain, &bytes)
-}
-
-/// Makes the module of the text that a reader's bytes up to the end of input are: writes its bytes in an order to
-/// `made`, and answers true; or, where the text fails, writes the line of its fault to `out`, and answers false. Where
-/// it is to `explain`, lines behind that one say what is wanted at that place and what is found.
-///
-/// # Errors
-///
-/// `File`: a read or a write failed. After a failed read nothing was written, after a failed write a beginning of the
-/// bytes or of the lines. `NotText`: the bytes are not UTF-8, and `Memory`: a growth of memory was refused; nothing was
-/// written then.
-pub fn assemble_stream<R: Source, W: Sink, O: Sink>(
-    alloc: Global,
-    table: &Table,
-    order: Order,
-    explain: bool,
-    r: &mut R,
-    out: &mut W,
-    made: &mut O,
-) -> Result<bool, Trouble>
-    // The bytes or the line of all the bytes that the reader still gave were written, and nothing else.
-    ensures ends { IsDone (Assembles table.now order explain) (BeginsAssembling table.now order explain) trouble.File
-        (reading R.remaining R.failures r.old r.new) (writing W.contents W.failures out.old out.new)
-        (writing O.contents O.failures made.old made.new) result }
-    ensures only { IfErr result (λ t. (t ≡ trouble.File)
-        ⊎ ((t ≡ trouble.NotText) × IfSome (R.remaining r.old) (λ bytes. ¬ IsUtf8 bytes)) ⊎ (t ≡ trouble.Memory)) }
-{
-    match assembly_on(alloc, table, explain, r)? {
-        Assembly::Made(image) => match write_image(&image, order, made) {
-            Ok(()) => Ok(true),
-            Err(_) => Err(Trouble::File),
-        },
-        Assembly::Fault(error) => match write_all(text_fault(error).as_slice(), out) {
-            Ok(()) => Ok(false),
-            Err(_) => Err(Trouble::File),
-        },
-        Assembly::Told(lines) => match write_all(lines.as_slice(), out) {
-            Ok(()) => Ok(false),
-            Err(_) => Err(Trouble::File),
         },
     }
 }

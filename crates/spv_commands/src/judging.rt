@@ -1,22 +1,26 @@
 //! What is written of one file.
-ghost use Rattle.std.specs.Prelude.{◌≡◌, ◌⊎◌, ◌↔◌, ◌≤◌, [], Some, None, IfErr, IfOk, IsErrOf, IsTrue};
+ghost use Rattle.std.specs.Prelude.{◌≡◌, ◌⊎◌, ◌↔◌, ◌≤◌, ◌++◌, [], Some, None, IfErr, IfOk, IsErrOf, IsTrue};
 ghost use Rattle.spv_check.specs.declared.verdict_line.Judgment.TheVariants.{Valid};
+ghost use Rattle.spv_commands.specs.Output.{is_done, out_of, output_of};
 ghost use Rattle.spv_commands.specs.Task.{DoesTask, reach_of, taken};
-ghost use Rattle.spv_commands.specs.Part.{IsAnswerOf, IsPart, IsUnread, Judges, heading, told_line, unread_line};
-ghost use Rattle.spv_commands.specs.Part.{unread_text};
+ghost use Rattle.spv_commands.specs.Part.{IsAnswerOf, IsPart, IsUnread, Judges, heading, told_line, unread_text};
 ghost use Rattle.spv_commands.specs.Name.{label};
+ghost use Rattle.spv_commands.specs.inner.Answered.{Gives};
 ghost use Rattle.spv_commands.specs.inner.Progress.{Adds};
 ghost use Rattle.spv_explain.specs.declared.answers.Unread.TheVariants.{File, Memory};
 
-use crate::asked::{detail_by, reach_by};
+use crate::asked::reach_by;
 use crate::name::write_label;
+use crate::outgoing::Output;
+use crate::replying::{Reply, judged};
+use crate::trouble::{Trouble, trouble_line};
 use crate::writing::write_on;
 use spv_command_line::Task;
-use spv_explain::{Answer, Detail, Unread, check_json, error_json, explain_json, explain_stream};
+use spv_explain::{Answer, Unread, check_json, error_json, explain_json};
 use spv_extended::Reach;
 use spv_table::Table;
-use spv_verdict::{Judgment, check_stream};
-use spv_words::{FromRead, FromWrite, Sink, replace_version};
+use spv_verdict::Judgment;
+use spv_words::{FromWrite, Sink, replace_version};
 use std::alloc::Global;
 
 /// How a verdict is told.
@@ -54,30 +58,40 @@ pub struct Part {
     pub status: u8,
 }
 
-/// Adds what a task writes of a module's bytes: whether it is valid.
-fn add_judgment(
-    alloc: Global,
-    task: Task,
-    table: &Table,
-    reach: Reach,
-    bytes: &[u8],
-    text: &mut FromWrite<Vec<u8>>,
-) -> Result<bool, Unread>
-    ensures done { IfOk result (λ valid.
-        DoesTask task table.now reach bytes.now text.old.inner.items (Some text.new.inner.items) valid) }
+/// What a task answers of a module's bytes.
+fn reply_by(alloc: Global, how: Judging, table: &Table, bytes: Vec<u8>) -> Result<Reply, Unread>
+    ensures gives { IfOk result (Gives (DoesTask how.task table.now (reach_of how.extended)) bytes.items) }
     ensures only { ¬ (IsErrOf result File) }
 {
-    let mut bytes = FromRead::new(bytes);
-    // The bytes stand in memory, so it can only be a growth of the text that fails.
-    let answer = match task {
-        Task::Check => check_stream(alloc, table, reach, &mut bytes, text),
-        Task::Explain { full } => {
-            explain_stream(alloc, table, reach, detail_by(full), &mut bytes, text)
-        }
-    };
-    match answer {
-        Ok(valid) => Ok(valid),
+    match judged(alloc, how.task, table, reach_by(how.extended), bytes) {
+        Ok(reply) => Ok(reply),
         Err(_) => Err(Unread::Memory),
+    }
+}
+
+/// Adds an output to a text, and answers `valid`.
+fn add_output(output: &Output, valid: bool, text: &mut FromWrite<Vec<u8>>) -> Result<bool, Unread>
+    ensures added { IfOk result (λ answer. (answer ≡ valid)
+        × (text.new.inner.items ≡ text.old.inner.items ++ output_of output.now)) }
+    ensures only { ¬ (IsErrOf result File) }
+{
+    // The text stands in memory, so it can only be its growth that fails.
+    match output.write(text) {
+        Ok(()) => Ok(valid),
+        Err(_) => Err(Unread::Memory),
+    }
+}
+
+/// Adds what a reply has for the standard output to a text: whether it is done, and no fault told.
+fn add_reply(reply: &Reply, text: &mut FromWrite<Vec<u8>>) -> Result<bool, Unread>
+    ensures added { IfOk result (λ answer. (answer ≡ is_done reply.now)
+        × (text.new.inner.items ≡ text.old.inner.items ++ out_of reply.now)) }
+    ensures only { ¬ (IsErrOf result File) }
+{
+    match reply {
+        Reply::Done(output) => add_output(output, true, text),
+        Reply::Fault(output) => add_output(output, false, text),
+        Reply::Made(_) => Ok(true),
     }
 }
 
@@ -120,16 +134,16 @@ fn lines_of(
     how: Judging,
     table: &Table,
     name: &str,
-    bytes: &[u8],
+    bytes: Vec<u8>,
 ) -> Result<(Vec<u8>, bool), Unread>
     ensures done { IfOk result (λ p.
-        DoesTask how.task table.now (reach_of how.extended) bytes.now (heading how.telling name.now) (Some p.0.items)
+        DoesTask how.task table.now (reach_of how.extended) bytes.items (heading how.telling name.now) (Some p.0.items)
         p.1) }
     ensures only { ¬ (IsErrOf result File) }
 {
+    let reply = reply_by(alloc, how, table, bytes)?;
     let mut text = headed(alloc, how.telling, name)?;
-    let reach = reach_by(how.extended);
-    let valid = add_judgment(alloc, how.task, table, reach, bytes, &mut text)?;
+    let valid = add_reply(&reply, &mut text)?;
     Ok((text.inner, valid))
 }
 
@@ -167,21 +181,21 @@ fn is_valid(judgment: Judgment) -> bool
 }
 
 /// What is written of a module's bytes, and whether it is valid.
-fn judged(
+fn told_of(
     alloc: Global,
     how: Judging,
     table: &Table,
     name: &str,
-    bytes: &[u8],
+    bytes: Vec<u8>,
 ) -> Result<(Vec<u8>, bool), Unread>
     ensures done { IfOk result (λ p.
-        Judges how.telling how.task table.now (reach_of how.extended) name.now bytes.now p.0.items p.1) }
+        Judges how.telling how.task table.now (reach_of how.extended) name.now bytes.items p.0.items p.1) }
     ensures only { ¬ (IsErrOf result File) }
 {
     match how.telling {
         Telling::Json => {
             let reach = reach_by(how.extended);
-            let answer = answer_of(alloc, how.task, table, reach, name, bytes)?;
+            let answer = answer_of(alloc, how.task, table, reach, name, bytes.as_slice())?;
             let valid = is_valid(answer.judgment);
             Ok((answer.text, valid))
         }
@@ -204,7 +218,7 @@ fn judged_part(
 {
     let mut bytes = bytes;
     take_as(how.as_1_6, &mut bytes);
-    let (text, valid) = judged(alloc, how, table, name, bytes.as_slice())?;
+    let (text, valid) = told_of(alloc, how, table, name, bytes)?;
     Ok(Part {
         text,
         unread: None,
@@ -233,8 +247,8 @@ fn unread_part(alloc: Global, telling: Telling, name: &str, why: Unread) -> Part
     part
 }
 
-/// What is written of a file of this name that has these bytes, or was not read: the text on the standard output, why it
-/// was not judged, and the exit status for it alone. Of a module that is too long 16,777,217 of its bytes are enough.
+/// What is written of a file of this name that has these bytes, or was not read: the text on the standard output, why
+/// it was not judged, and the exit status for it alone. Of a module that is too long 16,777,217 of its bytes are enough.
 pub fn judge_file(
     alloc: Global,
     how: Judging,
@@ -257,16 +271,6 @@ pub fn judge_file(
     }
 }
 
-/// Why a file was not judged, as a line.
-fn line_of(why: Unread) -> &'static [u8]
-    ensures { result.now ≡ unread_line why }
-{
-    match why {
-        Unread::File => b"error file\n",
-        Unread::Memory => b"error memory\n",
-    }
-}
-
 /// Tells why a file was not judged, if it was not, where no write failed before: whether none has. It takes no memory.
 pub fn tell<E: Sink>(name: &str, unread: Option<Unread>, sound: bool, err: &mut E) -> bool
     ensures { Adds E.contents E.failures err.old err.new sound (told_line name.now unread) result }
@@ -274,7 +278,7 @@ pub fn tell<E: Sink>(name: &str, unread: Option<Unread>, sound: bool, err: &mut 
     match unread {
         Some(why) => {
             let heard = write_label(name, sound, err);
-            write_on(line_of(why), heard, err)
+            write_on(trouble_line(Trouble::from(why)), heard, err)
         }
         None => sound,
     }

@@ -16,7 +16,8 @@ ghost use Rattle.spv_explain.specs.Stream.{BeginsExplaining, Explains};
 ghost use Rattle.spv_words.specs.declared.words.WordError.TheVariants.{W2};
 ghost use Rattle.spv_commands.specs.Show.{BeginsShowing, IsShowing, Shows};
 ghost use Rattle.spv_commands.specs.Assemble.{Assembles, BeginsAssembling};
-ghost use Rattle.spv_commands.specs.Trace.{BeginsTracing, HasNoEntry, Traces, step_line, trace_text};
+ghost use Rattle.spv_names.specs.declared.chosen.Chosen.{Chosen};
+ghost use Rattle.spv_commands.specs.Trace.{BeginsTracing, HasNoEntry, HasSeveral, Traces, step_line, trace_text};
 ghost use Rattle.spv_run.specs.declared.parts.Ending.TheVariants.{Finished, Limit};
 ghost use Rattle.spv_commands.specs.Task.{DoesByText, MakesNothing, ReadsNoFile};
 ghost use Rattle.spv_commands.specs.Task.{AreRules, WritesGrammar, taken};
@@ -118,16 +119,18 @@ pub fn trace_examples()
         ++ codes "end limit" ++ line_end }
     ensures other_text { ¬ (trace_text [] Finished ≡ codes "end limit" ++ line_end) }
     // A writer that held the byte 9 got the verdict line of three bytes, which are no module and have no run.
-    ensures traces { (G : Table) (reach : Reach) (function : ℕ) (choices : List ℕ) (limit : ℕ)
+    ensures traces { (G : Table) (reach : Reach) (function : Chosen) (choices : List ℕ) (limit : ℕ)
         → Traces G reach function choices limit (1 ∷ 2 ∷ 3 ∷ []) (9 ∷ [])
         (Some (9 ∷ codes "fault W2" ++ line_end)) false }
-    ensures traces_none { (G : Table) (reach : Reach) (function : ℕ) (choices : List ℕ) (limit : ℕ)
+    ensures traces_none { (G : Table) (reach : Reach) (function : Chosen) (choices : List ℕ) (limit : ℕ)
         (new : Option (List ℕ)) → ¬ (Traces G reach function choices limit (1 ∷ 2 ∷ 3 ∷ []) [] new true) }
     // The first five bytes of that line.
-    ensures begins { (G : Table) (reach : Reach) (function : ℕ) (choices : List ℕ) (limit : ℕ)
+    ensures begins { (G : Table) (reach : Reach) (function : Chosen) (choices : List ℕ) (limit : ℕ)
         → BeginsTracing G reach function choices limit (1 ∷ 2 ∷ 3 ∷ []) (9 ∷ []) (Some (9 ∷ codes "fault")) }
-    // No id is told of bytes that are no module.
-    ensures no_entry { (G : Table) (reach : Reach) (function : ℕ) → ¬ (HasNoEntry G reach (1 ∷ 2 ∷ 3 ∷ []) function) }
+    // No function is told of bytes that are no module, nor a name of two.
+    ensures no_entry { (G : Table) (reach : Reach) (function : Chosen) → ¬ (HasNoEntry G reach (1 ∷ 2 ∷ 3 ∷ []) function) }
+    ensures no_several { (G : Table) (reach : Reach) (function : Chosen)
+        → ¬ (HasSeveral G reach (1 ∷ 2 ∷ 3 ∷ []) function) }
 {
     spv_words::laws::examples();
     spv_words::laws::one_refusal();
@@ -183,6 +186,8 @@ pub fn name_examples()
     ensures control { shown_byte 10 ≡ codes "\\x0a" }
     ensures feed { ¬ (shown_byte 10 ≡ 10 ∷ []) }
     ensures label_of { label (codes "a\\") ≡ codes "a\\\\: " }
+    // U+0085, of two octets.
+    ensures late { label (194 ∷ 133 ∷ []) ≡ codes "\\xc2\\x85: " }
     ensures no_label { ¬ (label (codes "a") ≡ codes "a") }
 {}
 

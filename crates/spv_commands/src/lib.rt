@@ -10,6 +10,7 @@ pub mod laws;
 mod name;
 mod outgoing;
 mod reasons;
+mod replying;
 mod showing;
 mod text_fault;
 mod trace_lines;
@@ -17,13 +18,13 @@ mod tracing;
 mod trouble;
 mod writing;
 
-pub use answering::{Reply, answer, table_in};
-pub use assembling::{assemble_stream, read_all};
+pub use answering::{answer, table_in};
+pub use assembling::read_all;
 pub use judging::{Judging, Part, Telling, judge_file, tell};
 pub use name::write_label;
 pub use outgoing::Output;
-pub use reasons::entry_points;
-pub use showing::show_stream;
+pub use reasons::{entry_points, refusal_help};
+pub use replying::{Reply, assembled, fault, reply_to, shown, too_long, traced};
 pub use spv_builtin::grammar_reason;
 pub use spv_command_line::{
     AnyCode, Code, Color, Command, ErrorCode, Form, Naming, Task, UseError, advice, arguments,
@@ -33,6 +34,5 @@ pub use spv_explain::Unread;
 pub use spv_extended::Reach;
 pub use spv_table::Table;
 pub use spv_words::{VersionSource, Versioned};
-pub use tracing::trace_stream;
 pub use trouble::{Trouble, report};
 pub use writing::write_on;

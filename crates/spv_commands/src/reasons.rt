@@ -1,6 +1,8 @@
 //! What is told to people behind the line of an error. Nothing is promised of its words.
+use crate::asked::is_as_1_6;
 use spv_builtin::table_of;
-use spv_command_line::shown_word;
+use spv_command_line::{Command, Task, shown_word};
+use spv_fault_lines::{front_of, help_for};
 use spv_grammar::GrammarError;
 use spv_inst::decode;
 use spv_module::{Inst, Operand, Stop, opcode};
@@ -86,6 +88,47 @@ pub fn entry_points(
         Ok(table) => push_module(alloc, &mut out, &table, bytes)?,
         Err(GrammarError::J8) => return Err(AllocError),
         Err(_) => {}
+    }
+    Ok(out)
+}
+
+/// Whether a command writes the verdict line alone where it is a fault, and so tells nothing of what helps.
+fn is_terse(command: &Command) -> bool {
+    match command {
+        Command::Judge { task, quiet, .. } => *task == Task::Check && !*quiet,
+        Command::Show { .. }
+        | Command::Annotate { .. }
+        | Command::Graph { .. }
+        | Command::Trace { .. } => true,
+        Command::Asm { .. } | Command::Rules { .. } | Command::Grammar { .. } => false,
+    }
+}
+
+/// What helps where the bytes of its file are none of a module, as a command takes them: the line of the key `help` that
+/// `explain` writes, where it writes one. Nothing of a command that writes that line itself, or no verdict.
+///
+/// # Errors
+///
+/// Where a growth of memory was refused; there is no other.
+pub fn refusal_help(alloc: Global, command: &Command, bytes: &[u8]) -> Result<String, AllocError> {
+    let mut out = String::new(alloc);
+    if !is_terse(command) {
+        return Ok(out);
+    }
+    let mut bytes = Vec::from_slice(alloc, bytes)?;
+    if is_as_1_6(command) {
+        replace_version(&mut bytes);
+    }
+    match image_of(alloc, &bytes) {
+        Ok(_) => {}
+        Err(WordError::W9) => return Err(AllocError),
+        Err(code) => {
+            if let Some(text) = help_for(code, front_of(&bytes)) {
+                out.push_str("help: ")?;
+                out.push_str(text)?;
+                out.push_str("\n")?;
+            }
+        }
     }
     Ok(out)
 }

@@ -24,12 +24,15 @@ pub enum Trouble {
     /// A growth of memory was refused: `error memory`.
     #[error("out of memory")]
     Memory,
-    /// The id whose run is asked for is no entry point's function: `error X1`.
-    #[error("the id is no entry point's function")]
+    /// The function whose run is asked for is no entry point's: `error X1`.
+    #[error("the id is no entry point's function, or the name that of no function")]
     NoEntry,
-    /// The id of the function that is asked for is none of the module: `error X2`.
-    #[error("the id is the result of no function")]
+    /// The function that is asked for is none of the module: `error X2`.
+    #[error("the id is the result of no function, or the name that of none")]
     NoFunction,
+    /// The name of the function that is asked for is that of several: `error use`.
+    #[error("several functions have the name")]
+    SeveralFunctions,
     /// The grammar file is refused: `error J1` to `error J7`, and `error memory` for J8.
     #[error("{0}")]
     Grammar(GrammarError),
@@ -71,12 +74,12 @@ impl From<Unread> for Trouble {
     }
 }
 
-/// The line that tells a trouble.
-fn trouble_line(trouble: Trouble) -> &'static [u8]
+/// The line that tells a trouble, its line feed included.
+pub fn trouble_line(trouble: Trouble) -> &'static [u8]
     ensures { result.now ≡ trouble_text trouble }
 {
     match trouble {
-        Trouble::Use => b"error use\n",
+        Trouble::Use | Trouble::SeveralFunctions => b"error use\n",
         Trouble::File | Trouble::NotText => b"error file\n",
         Trouble::Memory => b"error memory\n",
         Trouble::NoEntry => b"error X1\n",

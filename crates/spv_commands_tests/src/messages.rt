@@ -12,13 +12,15 @@ const MESSAGES: &str = "the words fit no command
 a read or a write failed
 the text is not UTF-8
 out of memory
-the id is no entry point's function
-the id is the result of no function
+the id is no entry point's function, or the name that of no function
+the id is the result of no function, or the name that of none
+several functions have the name
 the grammar names a kind that it does not have
 the file could not be read
 out of memory
 a read or a write failed
-the id is the result of no function
+the id is the result of no function, or the name that of none
+several functions have the name
 out of memory
 the words fit no command
 out of memory
@@ -40,12 +42,17 @@ fn show_each<E: Display>(
 
 /// Adds those of why a run ends with an error.
 fn show_troubles(alloc: Global, lines: &mut String) -> Result<(), AllocError> {
-    use Trouble::{File, Grammar, Memory, NoEntry, NoFunction, NotText, Use};
-    show_each(
-        alloc,
-        &[Use, File, NotText, Memory, NoEntry, NoFunction],
-        lines,
-    )?;
+    use Trouble::{File, Grammar, Memory, NoEntry, NoFunction, NotText, SeveralFunctions, Use};
+    let troubles = &[
+        Use,
+        File,
+        NotText,
+        Memory,
+        NoEntry,
+        NoFunction,
+        SeveralFunctions,
+    ];
+    show_each(alloc, troubles, lines)?;
     show_each(alloc, &[Grammar(GrammarError::J4)], lines)
 }
 
@@ -63,7 +70,12 @@ fn messages(rt: HostRuntime) -> Result<(), Fail> {
     show_each(alloc, &[Unread::File, Unread::Memory], &mut lines)?;
     show_each(
         alloc,
-        &[ViewError::Failed, ViewError::NoFunction, ViewError::Memory],
+        &[
+            ViewError::Failed,
+            ViewError::NoFunction,
+            ViewError::SeveralFunctions,
+            ViewError::Memory,
+        ],
         &mut lines,
     )?;
     show_uses(alloc, &mut lines)?;

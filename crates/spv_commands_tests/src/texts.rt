@@ -1,8 +1,9 @@
 //! A text that fails, and what is told of it.
 
 use spv_builtin::{FromGrammar, Table};
-use spv_commands::{Trouble, assemble_stream};
+use spv_commands::Trouble;
 use spv_samples::{PROFILE, Told, each_refused};
+use spv_streams::assemble_stream;
 use spv_words::{FromRead, FromWrite, Order};
 use std::alloc::Global;
 use std::test::Fail;

@@ -1,6 +1,7 @@
 //! What is written of a module for people to look at.
 
 use spv_builtin::{FromGrammar, Table};
+use spv_names::Chosen;
 use spv_samples::{LOOP_WITH_PHI, PROFILE, Told, each_refused, image_of};
 use spv_views::{View, ViewError, view_stream};
 use spv_words::{FromRead, FromWrite};
@@ -11,7 +12,7 @@ use std::test::Fail;
 #[derive(Clone, Copy)]
 struct Call {
     how: View<'static>,
-    function: Option<u32>,
+    function: Option<Chosen<'static>>,
     begin: &'static str,
 }
 
@@ -24,7 +25,7 @@ const CALLS: [Call; 5] = [
     },
     Call {
         how: View::Text { color: true },
-        function: Some(10),
+        function: Some(Chosen::Id(10)),
         begin: "",
     },
     Call {
@@ -39,7 +40,7 @@ const CALLS: [Call; 5] = [
     },
     Call {
         how: View::Graph,
-        function: Some(10),
+        function: Some(Chosen::Name("k")),
         begin: "",
     },
 ];
@@ -85,10 +86,18 @@ fn no_such_function(rt: HostRuntime) -> Result<(), Fail> {
     let image = image_of(rt.alloc(), LOOP_WITH_PHI.words)?;
     let call = Call {
         how: View::Graph,
-        function: Some(11),
+        function: None,
         begin: "",
     };
-    let answer = written(rt.alloc(), &table, call, image.octets());
-    assert!(rt; matches!(answer, Err(ViewError::NoFunction)));
+    for function in [Chosen::Id(11), Chosen::Name("11"), Chosen::Name("kk")] {
+        let function = Some(function);
+        let answer = written(
+            rt.alloc(),
+            &table,
+            Call { function, ..call },
+            image.octets(),
+        );
+        assert!(rt; matches!(answer, Err(ViewError::NoFunction)));
+    }
     Ok(())
 }

@@ -169,7 +169,7 @@ refuses word.W7 bytes h = h
 refuses word.W8 bytes h = h
 
 -- too many bytes, or a reader that failed, told by whatever stands in front
-too_large : (bytes : List ℕ) → 16777216 < length bytes → IsFirstBroken word.W8 bytes
+pub too_large : (bytes : List ℕ) → 16777216 < length bytes → IsFirstBroken word.W8 bytes
 too_large bytes l = record { broken = λ h. absurd (omega (arith, l, h)); before = before }
   where
     before : (d : WordError) → place_of d < 1 → BytesKeep d bytes

@@ -1,11 +1,14 @@
 //! What is written of the bytes of a stream.
 ghost use Rattle.std.specs.Prelude.{◌≡◌, ◌⊎◌, ◌↔◌, ◌++◌, ◌-◌, ◌≤◌, ℕ, List, [], Ok, drop, vec_len};
 ghost use Rattle.std.specs.Prelude.{IfOk, IfErr, IfSome, IsErrOf, IsSomeAnd, IsTrue, string_bytes};
-ghost use Rattle.spv_words.specs.Header.{IsModule, greatest_size};
+ghost use Rattle.spv_words.specs.Header.{IsFirstBroken, IsModule, greatest_size};
 ghost use Rattle.spv_words.specs.declared.words.Order.{Order};
-ghost use Rattle.spv_words.specs.declared.words.WordError.TheVariants.{W1, W9};
+ghost use Rattle.spv_words.specs.declared.words.WordError.TheVariants.{W1, W8, W9};
 ghost use Rattle.spv_module.specs.Module.{plain_insts};
+ghost use Rattle.spv_table.specs.Table.{Table};
+ghost use Rattle.spv_extended.specs.declared.reach.Reach.{Reach};
 ghost use Rattle.spv_extended.specs.declared.reach.Reach.TheVariants.{Profile};
+ghost use Rattle.spv_fault_lines.specs.declared.fact.Detail.{Detail};
 ghost use Rattle.spv_check.specs.Outcome.{HasFailed, OfKnown};
 ghost use Rattle.spv_check.specs.Verdict.{valid_line};
 ghost use Rattle.spv_check.specs.Text.{line_of, refusal_of};
@@ -381,6 +384,21 @@ pub fn explain_bytes(
         },
     };
     match told_by(alloc, table, reach, detail, &image) {
+        Ok(told) => Ok(told),
+        Err(_) => Err(Memory),
+    }
+}
+
+/// The verdict on more bytes than a module has, W8, and its lines, as `explain_bytes` answers them of any such bytes.
+///
+/// `Memory` comes only where a growth of memory was refused.
+pub fn too_long_told(alloc: Global) -> Result<Explanation, Memory>
+    // The verdict is that of the bytes, and the lines explain it.
+    ensures { (detail : Detail) (G : Table) (reach : Reach) (bytes : List ℕ) → IsFirstBroken W8 bytes
+        → IfOk result (λ e. IsExplanation detail G reach bytes e) }
+{
+    spv_words::laws::one_refusal();
+    match refused_told(alloc, WordError::W8, front_of(&[])) {
         Ok(told) => Ok(told),
         Err(_) => Err(Memory),
     }

@@ -1,6 +1,7 @@
 pub mod Classes
 pub mod Conditions
 pub mod Definition
+pub mod Example
 pub mod Facts
 pub mod Keys
 pub mod Lines

@@ -1,14 +1,14 @@
 -- The text of the lines that explain a fault, each `KEY: TEXT`: a key, a colon, and the rest. (Own.)
 use Rattle.std.specs.Prelude.{◌++◌, ◌-◌, ℕ, List, [], ◌∷◌, Option, Some, None, Bool, true, false, codes}
 use Rattle.std.specs.Prelude.{decimal, drop, flat_map, length, nat_eq, nat_le, nat_lt, option_and_then, option_map}
-use Rattle.std.specs.Prelude.{slice_get, unwrap_or, if◌then◌else◌}
+use Rattle.std.specs.Prelude.{slice_get, take, unwrap_or, if◌then◌else◌}
 use Rattle.spv_table.specs.Table.{Table, entry_of, enumerant_of, kind_of}
 use Rattle.spv_table.specs.Lookups.{number_named}
 use Rattle.spv_module.specs.Operand.{Plain, OfType, Result, Id, Word, Value, Mask, Argument, Mention}
 use Rattle.spv_module.specs.Operand.{PlainInst, result_in}
 use Rattle.spv_module.specs.declared.opcode.TheConstants.{TYPE_INT, TYPE_FLOAT, TYPE_VECTOR}
 use Rattle.spv_lines.specs.Digits.{hex_digits}
-use Rattle.spv_lines.specs.Operand.{id_text}
+use Rattle.spv_lines.specs.Operand.{id_text, quoted}
 use Rattle.spv_lines.specs.Text.{inst_line}
 use Rattle.spv_evidence.specs.declared.evidence.EntryPart.{EntryPart}
 use Rattle.spv_evidence.specs.declared.evidence.EntryPart.TheVariants as part
@@ -107,15 +107,15 @@ abbrev pub function_part : List PlainInst → Option ℕ → List ℕ
 function_part is None = []
 function_part is (Some n) = result_part is n
 
--- the name of the function that an OpFunction of that number begins, and it after a space
+-- the name of the function that an OpFunction of that number begins, and it in quotes after a space
 abbrev pub name_at : List PlainInst → Option ℕ → Option (List ℕ)
 name_at is n = option_and_then (function_name is) (option_and_then (result_of is) n)
 
 abbrev pub named_part : Option (List ℕ) → List ℕ
 named_part None = []
-named_part (Some name) = name_part name
+named_part (Some name) = name_part (quoted name)
 
--- ` function %10 main, block %16`
+-- ` function %10 "main", block %16`
 abbrev pub place_part : List PlainInst → Place → List ℕ
 place_part is p =
     codes " function" ++ function_part is p.function ++ named_part (name_at is p.function) ++ block_part is p.block
@@ -339,8 +339,12 @@ key_of (fact.Most n) = key.Most
 abbrev pub owner_part : Table → List PlainInst → ℕ → ℕ → List ℕ
 owner_part G is n k = codes ", of operand" ++ numbered_part G is n k
 
+-- `, and 3 more`, where there are more than eight operands
+abbrev pub more_part : ℕ → List ℕ
+more_part count = if nat_le count 8 then [] else codes ", and " ++ (decimal (count - 8) ++ codes " more")
+
 abbrev pub owners_part : Table → List PlainInst → ℕ → List ℕ → List ℕ
-owners_part G is n ks = flat_map (owner_part G is n) ks
+owners_part G is n ks = flat_map (owner_part G is n) (take 8 ks) ++ more_part (length ks)
 
 -- `%5 = OpTypeInt 32 0, of operand 1 %17`
 abbrev pub owned_text : Table → List PlainInst → List (List ℕ) → ℕ → Thing → List ℕ → List ℕ

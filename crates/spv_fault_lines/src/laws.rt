@@ -1,17 +1,21 @@
 //! Laws of the definitions, and worked examples. Each function does nothing: its contract is what is proved.
 
-ghost use Rattle.std.specs.Prelude.{◌≡◌, ◌<◌, ℕ, List, [], ◌∷◌, Some, None, codes, length, MatchOption};
+ghost use Rattle.std.specs.Prelude.{◌≡◌, ◌<◌, ℕ, List, [], ◌∷◌, Some, None, codes, length, true, MatchOption};
 ghost use Rattle.spv_module.specs.Example.{small};
-ghost use Rattle.spv_module.specs.Operand.{PlainInst};
+ghost use Rattle.spv_module.specs.Operand.{Id, Number, OfType, PlainInst, Result, Word};
 ghost use Rattle.spv_module.specs.declared.opcode.TheConstants as opcode;
 ghost use Rattle.spv_layout.specs.Layout.{IsLayout, classes};
 ghost use Rattle.spv_layout.specs.Place.{IsOfFunction, IsOfBlock};
 ghost use Rattle.spv_layout.specs.Example.{bare, small_function};
 ghost use Rattle.spv_words.specs.declared.words.WordError.TheVariants.{W3, W4};
+ghost use Rattle.spv_evidence.specs.declared.condition.Condition.TheVariants as condition;
 ghost use Rattle.spv_evidence.specs.declared.evidence.Lister.TheVariants as lister;
 ghost use Rattle.spv_fault_lines.specs.Facts.{lister_facts};
 ghost use Rattle.spv_fault_lines.specs.Keys.{line_name, member_name};
-ghost use Rattle.spv_fault_lines.specs.Lines.{raw_of};
+ghost use Rattle.spv_fault_lines.specs.Example.{vector};
+ghost use Rattle.spv_fault_lines.specs.Lines.{more_part, raw_of};
+ghost use Rattle.spv_fault_lines.specs.Owners.{operand_type, own_place, places_from, places_in, short_number, size_in};
+ghost use Rattle.spv_fault_lines.specs.Owners.{size_of, tells_size, types_at, without};
 ghost use Rattle.spv_fault_lines.specs.Place.{nowhere, place_of};
 ghost use Rattle.spv_fault_lines.specs.Refused.{front_of, help_text};
 ghost use Rattle.spv_fault_lines.specs.Shapes.{row_text};
@@ -86,4 +90,35 @@ pub fn help_examples()
     ensures neither { help_text W4 (front_of (127 ∷ 69 ∷ 76 ∷ 70 ∷ [])) ≡ None }
     ensures not_text { ¬ (help_text W4 (front_of (127 ∷ 69 ∷ 76 ∷ 70 ∷ []))
         ≡ Some (codes "it begins as a text, of which spv asm makes a module")) }
+{}
+
+/// Whose types are that are told, and how many parts they have.
+pub fn owner_examples()
+    // Where the types of operands are %5, none, %6 and %5, operands 0 and 3 are of %5; of no type none is.
+    ensures places { places_from 5 0 (Some 5 ∷ None ∷ Some 6 ∷ Some 5 ∷ []) ≡ 0 ∷ 3 ∷ [] }
+    ensures no_places { ¬ (places_from 5 0 (Some 6 ∷ []) ≡ 0 ∷ []) }
+    ensures all { places_in (Some 6) (Some 5 ∷ Some 6 ∷ []) ≡ 1 ∷ [] }
+    ensures not_all { ¬ (places_in None (Some 5 ∷ []) ≡ 0 ∷ []) }
+    // Without that of operand 1; without that of none all are left.
+    ensures less { without (Some 1) (Some 5 ∷ Some 6 ∷ []) ≡ Some 5 ∷ None ∷ [] }
+    ensures not_less { ¬ (without None (Some 5 ∷ []) ≡ None ∷ []) }
+    // Operand 0 is of %5, and there is no operand 1.
+    ensures own { own_place 5 (Some 0) (Some 5 ∷ []) ≡ 0 ∷ [] }
+    ensures not_own { ¬ (own_place 5 (Some 1) (Some 5 ∷ []) ≡ 1 ∷ []) }
+    // An id that nothing defines stands for itself, as a type does; a word is of no type.
+    ensures id { operand_type [] (Id 7) ≡ Some 7 }
+    ensures no_type { ¬ (operand_type [] (Word 7) ≡ Some 7) }
+    ensures types { types_at (vector ∷ []) 0 ≡ None ∷ Some 2 ∷ None ∷ [] }
+    ensures no_types { ¬ (types_at (vector ∷ []) 1 ≡ None ∷ Some 2 ∷ None ∷ []) }
+    // A vector of four, and a constant of 64 bits that is above 4294967295.
+    ensures parts { size_in [] vector ≡ Some 4 }
+    ensures no_parts { ¬ (size_of [] 3 ≡ Some 4) }
+    ensures short { short_number (OfType 1 ∷ Result 2 ∷ Number 7 0 1 ∷ []) ≡ Some 7 }
+    ensures not_short { ¬ (short_number (OfType 1 ∷ Result 2 ∷ Number 7 1 2 ∷ []) ≡ Some 7) }
+    // How many parts it has is told of a type in which a component is chosen, and not of the type of weights.
+    ensures sized { tells_size condition.Within ≡ true }
+    ensures not_sized { ¬ (tells_size condition.Weights ≡ true) }
+    // Of eight operands none is left out, and of nine one is.
+    ensures few { more_part 8 ≡ [] }
+    ensures many { ¬ (more_part 9 ≡ []) }
 {}

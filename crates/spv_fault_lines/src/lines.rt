@@ -1,15 +1,16 @@
 //! The lines of facts.
 ghost use Rattle.std.specs.Prelude.{◌≡◌, ◌++◌, ℕ, List, [], Some, codes, decimal, flat_map, option_map, slice_get};
-ghost use Rattle.std.specs.Prelude.{string_bytes, OnOk};
+ghost use Rattle.std.specs.Prelude.{string_bytes, take, Option, OnOk};
 ghost use Rattle.spv_table.specs.Table.{entry_of};
 ghost use Rattle.spv_module.specs.Module.{plain_inst, plain_insts, plain_operand};
 ghost use Rattle.spv_lines.specs.Text.{ShownLines};
+ghost use Rattle.spv_lines.specs.Operand.{quoted};
 ghost use Rattle.spv_fault_lines.specs.Lines as lines;
 ghost use Rattle.spv_fault_lines.specs.Keys.{line_name};
 ghost use Rattle.spv_fault_lines.specs.Lines.{bit_name, keyed, key_of, line_of, name_part, needed_part, number_part};
 ghost use Rattle.spv_fault_lines.specs.Lines.{operand_at, plain_line, raw_of, read_line, rest_of, text_of, thing_text};
 ghost use Rattle.spv_fault_lines.specs.Lines.{type_line};
-ghost use Rattle.spv_fault_lines.specs.Owners.{places_in};
+ghost use Rattle.spv_fault_lines.specs.inner.Owned.{listed_of, AreOwners};
 ghost use Rattle.spv_fault_lines.specs.inner.Parts.{named_text};
 
 use crate::about::{
@@ -21,12 +22,14 @@ use crate::conditions::condition_words;
 use crate::fact::{Detail, Fact, Place, Thing};
 use crate::key::Key;
 use crate::needs::needs_of;
-use crate::owners;
+use crate::owners::Owners;
 use crate::shapes::{push_row_of, role_name};
+use itoa::Buffer;
 use spv_evidence::{EntryPart, Lister, Side};
 use spv_lines::{push_hex, push_plain};
 use spv_module::{Inst, Operand};
 use spv_names::function_name;
+use spv_printer::push_quoted;
 use spv_table::{NameList, Table};
 use std::alloc::AllocError;
 
@@ -36,6 +39,37 @@ fn push_name(out: &mut String, text: &str) -> Result<(), AllocError>
 {
     out.push_str(" ")?;
     out.push_str(text)
+}
+
+/// The first eight operands, or all of fewer.
+fn first_eight(operands: &[u32]) -> &[u32]
+    ensures { result.now ≡ take 8 operands.now }
+{
+    if operands.len() > 8 {
+        return &operands[..8];
+    }
+    operands
+}
+
+/// Adds how many operands there are beyond eight, if there are more.
+fn push_more(out: &mut String, count: usize) -> Result<(), AllocError>
+    ensures { OnOk result (string_bytes out.new ≡ string_bytes out.old ++ lines.more_part count) }
+{
+    if count <= 8 {
+        return Ok(());
+    }
+    let mut buffer = Buffer::new();
+    out.push_str(", and ")?;
+    out.push_str(buffer.format(count - 8))?;
+    out.push_str(" more")
+}
+
+/// Adds a space and a text in quotes.
+fn push_quoted_name(out: &mut String, text: &str) -> Result<(), AllocError>
+    ensures { OnOk result (string_bytes out.new ≡ string_bytes out.old ++ name_part (quoted text.now)) }
+{
+    out.push_str(" ")?;
+    push_quoted(out, text)
 }
 
 /// Adds the number of an opcode, and its name if the grammar has one.
@@ -196,13 +230,13 @@ impl<'m, 'a> About<'m, 'a> {
         function_name(self.module.insts.as_slice(), id)
     }
 
-    /// Adds a space and the name of a function, if it has one.
+    /// Adds a space and the name of a function in quotes, if it has one.
     fn push_function_name(&self, out: &mut String, inst: Option<u32>) -> Result<(), AllocError>
         ensures { OnOk result (string_bytes out.new ≡ string_bytes out.old ++ lines.named_part (lines.name_at
             (plain_insts self.now.«module».now) inst)) }
     {
         match self.name_at(inst) {
-            Some(name) => push_name(out, name),
+            Some(name) => push_quoted_name(out, name),
             None => Ok(()),
         }
     }
@@ -338,15 +372,29 @@ impl<'m, 'a> About<'m, 'a> {
         self.push_operand_text(out, inst, operand)
     }
 
-    /// Adds the operands of an instruction that are of a type.
-    fn push_owners(&self, out: &mut String, inst: u32, operands: &[u32]) -> Result<(), AllocError>
-        ensures { OnOk result (string_bytes out.new ≡ string_bytes out.old ++ lines.owners_part self.now.table.now
-            (plain_insts self.now.«module».now) inst operands.now) }
+    /// Adds each of these operands of an instruction, which are of a type.
+    fn push_each_owner(
+        &self,
+        out: &mut String,
+        inst: u32,
+        operands: &[u32],
+    ) -> Result<(), AllocError>
+        ensures { OnOk result (string_bytes out.new ≡ string_bytes out.old ++ flat_map (lines.owner_part
+            self.now.table.now (plain_insts self.now.«module».now) inst) operands.now) }
     {
         for operand in operands {
             self.push_owner(out, inst, *operand)?;
         }
         Ok(())
+    }
+
+    /// Adds the operands of an instruction that are of a type: the first eight, and how many more there are.
+    fn push_owners(&self, out: &mut String, inst: u32, operands: &[u32]) -> Result<(), AllocError>
+        ensures { OnOk result (string_bytes out.new ≡ string_bytes out.old ++ lines.owners_part self.now.table.now
+            (plain_insts self.now.«module».now) inst operands.now) }
+    {
+        self.push_each_owner(out, inst, first_eight(operands))?;
+        push_more(out, operands.len())
     }
 
     /// Adds a space and a type, and the operands of an instruction that are of it.
@@ -392,20 +440,19 @@ impl<'m, 'a> About<'m, 'a> {
         }
     }
 
-    /// Adds the operands of an instruction that are of a type, where these are their types, or that none is.
+    /// Adds the operands of an instruction that are of a type, or that none is.
     fn push_whose(
         &self,
         out: &mut String,
         inst: u32,
-        operands: &[Option<u32>],
+        owners: &Owners,
         thing: Thing,
     ) -> Result<(), AllocError>
         ensures { OnOk result (string_bytes out.new ≡ string_bytes out.old ++ lines.whose_part self.now.table.now
-            (plain_insts self.now.«module».now) inst (places_in (lines.thing_id (plain_insts self.now.«module».now)
-            thing) operands.now)) }
+            (plain_insts self.now.«module».now) inst (listed_of owners.now (lines.thing_id
+            (plain_insts self.now.«module».now) thing))) }
     {
-        let places = owners::places_in(self.alloc, self.thing_id(thing), operands)?;
-        self.push_owners_or_none(out, inst, places.as_slice())
+        self.push_owners_or_none(out, inst, owners.places(self.thing_id(thing)))
     }
 
     /// Adds the functions of a cycle, and before them the last of them, the caller.
@@ -528,26 +575,46 @@ impl<'m, 'a> About<'m, 'a> {
         Ok(())
     }
 
-    /// Adds the line of a type that is read at an instruction, whose operands are of these types.
+    /// Adds the line of a type that is read at an instruction.
     fn push_read_line(
         &self,
         out: &mut String,
         inst: u32,
-        operands: &[Option<u32>],
+        owners: &Owners,
         thing: Thing,
     ) -> Result<(), AllocError>
-        ensures { (shown : List (List ℕ)) → ShownLines self.now.table.now [] (plain_insts self.now.«module».now) shown
+        ensures { (operands : List (Option ℕ)) (shown : List (List ℕ)) → AreOwners owners.now operands
+            → ShownLines self.now.table.now [] (plain_insts self.now.«module».now) shown
             → OnOk result (string_bytes out.new ≡ string_bytes out.old ++ read_line self.now.table.now
-            (plain_insts self.now.«module».now) shown inst operands.now thing) }
+            (plain_insts self.now.«module».now) shown inst operands thing) }
     {
         let mut raw = String::new(self.alloc);
         push_key(&mut raw, Key::Type)?;
         self.push_thing(&mut raw, thing)?;
-        self.push_whose(&mut raw, inst, operands, thing)?;
+        self.push_whose(&mut raw, inst, owners, thing)?;
         push_raw(out, raw.as_str())
     }
 
-    /// Adds the lines of types that are read, one each.
+    /// Adds the lines of types that are read at an instruction, one each.
+    fn push_each_read_line(
+        &self,
+        out: &mut String,
+        inst: u32,
+        owners: &Owners,
+        things: &[Thing],
+    ) -> Result<(), AllocError>
+        ensures { (operands : List (Option ℕ)) (shown : List (List ℕ)) → AreOwners owners.now operands
+            → ShownLines self.now.table.now [] (plain_insts self.now.«module».now) shown
+            → OnOk result (string_bytes out.new ≡ string_bytes out.old ++ flat_map (read_line self.now.table.now
+            (plain_insts self.now.«module».now) shown inst operands) things.now) }
+    {
+        for thing in things {
+            self.push_read_line(out, inst, owners, *thing)?;
+        }
+        Ok(())
+    }
+
+    /// Adds the lines of types that are read at an instruction, whose operands are of these types, one each.
     fn push_read_lines(
         &self,
         out: &mut String,
@@ -559,10 +626,8 @@ impl<'m, 'a> About<'m, 'a> {
             → OnOk result (string_bytes out.new ≡ string_bytes out.old ++ flat_map (read_line self.now.table.now
             (plain_insts self.now.«module».now) shown inst operands.now) things.now) }
     {
-        for thing in things {
-            self.push_read_line(out, inst, operands, *thing)?;
-        }
-        Ok(())
+        let owners = Owners::of(self.alloc, operands)?;
+        self.push_each_read_line(out, inst, &owners, things)
     }
 
     /// Adds the line of a fact, or the lines of its types.

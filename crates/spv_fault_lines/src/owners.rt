@@ -1,6 +1,6 @@
 //! Whose a type is that is told: the operands of an instruction that are of it. How many parts it has.
 ghost use Rattle.std.specs.Prelude.{◌≡◌, ◌<◌, ◌≤◌, ℕ, [], None, Some, get_or, length, map, option_map, unwrap_or, IfOk};
-ghost use Rattle.std.specs.Prelude.{option_and_then, slice_get, take};
+ghost use Rattle.std.specs.Prelude.{◌++◌, ◌∷◌, OnOk, nat_eq, if◌then◌else◌, option_and_then, slice_get, take};
 ghost use Rattle.spv_table.specs.Lookups.{is_number};
 ghost use Rattle.spv_module.specs.Module.{plain_inst, plain_insts, plain_operand, plain_operands};
 ghost use Rattle.spv_module.specs.Operand.{type_in};
@@ -8,11 +8,13 @@ ghost use Rattle.spv_layout.specs.Place.{AreFew};
 ghost use Rattle.spv_fault_lines.specs.Definition.{defined_by, definition_from};
 ghost use Rattle.spv_fault_lines.specs.Owners as owners;
 ghost use Rattle.spv_fault_lines.specs.Owners.{places_from, types_at};
+ghost use Rattle.spv_fault_lines.specs.inner.Owned.{listed, listed_of, AreOwners};
 
 use crate::about::About;
 use spv_evidence::Condition;
 use spv_module::{Inst, Operand, opcode};
 use std::alloc::{AllocError, Global};
+use std::collections::BTreeMap;
 
 /// More operands than an instruction can have, which has at most 65,535 words.
 const MOST: usize = 65_535;
@@ -52,6 +54,69 @@ fn first_types(types: &[Option<u32>]) -> &[Option<u32>]
         return &types[..MOST];
     }
     types
+}
+
+/// For each type the numbers of the operands that are of it.
+#[derive(Drop)]
+pub struct Owners {
+    places: BTreeMap<u32, Vec<u32>>,
+}
+
+impl Owners {
+    /// Notes an operand that is of a type.
+    fn note(&mut self, alloc: Global, of: u32, place: u32) -> Result<(), AllocError>
+        ensures { OnOk result ((t : ℕ) → listed self.new t
+            ≡ (if nat_eq of t then listed self.old t ++ place ∷ [] else listed self.old t)) }
+    {
+        let mut list = match self.places.remove(&of) {
+            Some(list) => list,
+            None => Vec::new(alloc),
+        };
+        list.push(place)?;
+        self.places.insert(of, list)?;
+        Ok(())
+    }
+
+    /// The operands of each type, where these are the types of a few.
+    fn of_few(alloc: Global, types: &[Option<u32>]) -> Result<Owners, AllocError>
+        requires { length types.now ≤ 65535 }
+        ensures { IfOk result (λ o. (t : ℕ) → listed o t ≡ places_from t 0 types.now) }
+    {
+        let mut owners = Owners {
+            places: BTreeMap::new(alloc),
+        };
+        let mut place = 0u32;
+        for found in types {
+            if let Some(of) = *found {
+                owners.note(alloc, of, place)?;
+            }
+            place += 1;
+        }
+        Ok(owners)
+    }
+
+    /// The operands of each type, where these are the types of all.
+    ///
+    /// Time is that of a look-up in a map for each operand.
+    pub fn of(alloc: Global, types: &[Option<u32>]) -> Result<Owners, AllocError>
+        ensures { IfOk result (λ o. AreOwners o types.now) }
+    {
+        let few = first_types(types);
+        Owners::of_few(alloc, few)
+    }
+
+    /// The numbers of the operands of a type, if there is one.
+    pub fn places(&self, of: Option<u32>) -> &[u32]
+        ensures { result.now ≡ listed_of self.now of }
+    {
+        let Some(of) = of else {
+            return &[];
+        };
+        match self.places.get(&of) {
+            Some(list) => list.as_slice(),
+            None => &[],
+        }
+    }
 }
 
 /// The numbers of the operands of a type, if there is one, where these are the types of all.

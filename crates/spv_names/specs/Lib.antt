@@ -1,2 +1,4 @@
+pub mod Chosen
 pub mod Example
 pub mod Names
+pub mod inner

@@ -30,4 +30,5 @@ pub use encoding::{
 };
 pub use image::show_image;
 pub use inst::{show_inst, show_insts};
+pub use quoted::push_quoted;
 pub use shown::{show, show_listed};

@@ -1,26 +1,20 @@
 -- How far a run on several files is.
-use Rattle.std.proofs.Common.{◌≡◌, ◌≢◌, ◌≤◌, ◌<◌, ◌↔◌, ◌⊎◌, inl, inr, ◌+◌, ◌-◌, ◌∙◌, ◌++◌, ◌∷◌, [], ℕ, List, Bool, true}
-use Rattle.std.proofs.Common.{false, IsTrue, Option, Some, None, IfSome, codes, length, max, take, drop, map, ap, sym}
-use Rattle.std.proofs.Common.{refl, subst, arith, append_assoc, append-nil, length-append, get_or, if◌then◌else◌}
-use Rattle.std.specs.Io.KnownBytes.{Appends}
-use Rattle.std.proofs.KnownBytes.{Appends-nil, Appends-trans}
-use Rattle.std.proofs.Math.Seq.{take-add, take-append-add}
-use Rattle.std.proofs.lemmas.List.{flat_map_more, length-drop, length-map, length-take-le, map_more, take-append-le}
-use Rattle.std.proofs.lemmas.List.{take-map, take_all, take_more}
-use Rattle.std.proofs.lemmas.Grind.{flat_map-append}
+use Rattle.std.proofs.Common.{◌≡◌, ◌≢◌, ◌≤◌, ◌<◌, ◌⊎◌, inl, inr, ◌+◌, ◌∙◌, ◌++◌, ◌∷◌, [], ℕ, List, Bool, true}
+use Rattle.std.proofs.Common.{false, Option, Some, None, IfSome, length, max, take, map, ap, sym}
+use Rattle.std.proofs.Common.{refl, subst, arith, length-append, get_or}
+use Rattle.std.proofs.lemmas.List.{length-map, length-take-le, map_more}
+use Rattle.std.proofs.lemmas.List.{take-map, take_all}
 use Rattle.std.specs.Borrow.{Bor}
 use Rattle.spv_table.specs.Table.{Table}
-use Rattle.std.specs.Prelude.{Result, Ok, Err, IfErr, IfOk, IsErrOf, OnOk, Vec, flat_map, is_ok}
+use Rattle.std.specs.Prelude.{Result, Ok, Err, IfErr, IfOk, IsErrOf, Vec}
 use Rattle.std.specs.Global.{Global}
-use Rattle.spv_words.specs.declared.words.WordError.{WordError}
-use Rattle.spv_words.specs.declared.words.WordError.TheVariants.{W1}
 use Rattle.spv_builtin.specs.Source.{IsTableOf, breaks}
 use Rattle.spv_grammar.specs.declared.error.GrammarError.{GrammarError}
 use Rattle.spv_grammar.specs.declared.error.GrammarError.TheVariants.{J1, J2, J3, J4, J5, J6, J7, J8}
-use Rattle.spv_commands.specs.Trouble.{BeginsWith, Writes, file_line, grammar_text, memory_line}
+use Rattle.spv_commands.specs.Trouble.{Writes, file_line, grammar_text, trouble_text, unread_trouble}
 use Rattle.spv_commands.specs.declared.judging.Judging.{Judging}
-use Rattle.spv_commands.specs.Part.{IsPart, IsUnread, Known, told_line, unread_line, unread_text}
-use Rattle.spv_commands.specs.Name.{label, shown_byte}
+use Rattle.spv_commands.specs.Part.{IsPart, IsUnread, Known, told_line, unread_text}
+use Rattle.spv_commands.specs.Name.{label}
 use Rattle.spv_commands.specs.inner.Progress.{HasGot, WritesOn}
 use Rattle.spv_commands.specs.declared.judging.Part.{Part}
 use Rattle.spv_explain.specs.declared.answers.Unread.{Unread}
@@ -121,7 +115,7 @@ cut_on text G how known all at word any status own told heard last part line old
 -- what is written of a file that was not judged is its part
 unread_by : (G : Table) (how : Judging) (name : List ℕ) (known : Known) (why : Unread) (out : List ℕ)
     → (why ≡ File → IfSome known (λ file. file ≡ None))
-    → out ≡ unread_text how.telling name why → IsPart G how name known out (label name ++ unread_line why) 2
+    → out ≡ unread_text how.telling name why → IsPart G how name known out (label name ++ trouble_text (unread_trouble why)) 2
 unread_by G how name known File out h o = IsPart.unread (h refl) o refl refl
 unread_by G how name known Memory out h o = IsPart.starved (inl o) refl refl
 

@@ -1,33 +1,26 @@
 -- What a command begins to do with three bytes.
-use Rattle.std.proofs.Common.{ap, length, length-append, ◌≤◌, ◌+◌, ℕ, List, [], ◌∷◌, ◌++◌, Option, Some, None, Bool}
-use Rattle.std.proofs.Common.{true, false, ◌≡◌, codes, refl, sym, subst, arith, lit≤}
-use Rattle.spv_words.specs.Header.{IsFirstBroken, IsModule}
-use Rattle.spv_words.specs.declared.words.Order.{Order}
-use Rattle.spv_words.specs.declared.words.WordError.{WordError}
-use Rattle.spv_words.specs.declared.words.WordError.TheVariants.{W2}
+use Rattle.std.proofs.Common.{ℕ, List, [], ◌∷◌, Option, Some, None}
+use Rattle.std.proofs.Common.{codes, refl, arith}
 use Rattle.spv_table.specs.Table.{Table}
 use Rattle.spv_extended.specs.declared.reach.Reach.{Reach}
+use Rattle.spv_names.specs.declared.chosen.Chosen.{Chosen}
 use Rattle.spv_command_line.specs.declared.command_line.Command.{Command}
 use Rattle.spv_command_line.specs.declared.command_line.Command.TheVariants.{Judge, Show, Asm, Trace, Rules, Grammar}
 use Rattle.spv_command_line.specs.declared.command_line.Command.TheVariants.{Annotate, Graph}
 use Rattle.spv_command_line.specs.declared.command_line.Task.TheVariants as tasks
-use Rattle.spv_commands.specs.Example.{answer_of, empty_grammar}
-use Rattle.spv_commands.specs.Show.{BeginsShowing, IsShowing, Shows}
-use Rattle.spv_explain.specs.Lines.{refused_text}
-use Rattle.spv_explain.specs.Stream.{BeginsExplaining, Explains}
-use Rattle.spv_check.specs.Stream.{Begins, TellsVerdict}
-use Rattle.spv_check.specs.Verdict.{IsVerdict}
-use Rattle.spv_check.proofs.Verdicts.{refused_is_not_valid}
-use Rattle.spv_commands.specs.Task.{DoesByText, MakesNothing, ReadsNoFile, WritesGrammar, detail_of, reach_of, taken}
+use Rattle.spv_commands.specs.Example.{empty_grammar}
+use Rattle.spv_commands.specs.Show.{BeginsShowing}
+use Rattle.spv_explain.specs.Stream.{BeginsExplaining}
+use Rattle.spv_check.specs.Stream.{Begins}
+use Rattle.spv_commands.specs.Task.{MakesNothing, ReadsNoFile, detail_of, reach_of}
 use Rattle.spv_commands.specs.Task.{view_of}
-use Rattle.spv_views.specs.View.{BeginsViewing, Views}
+use Rattle.spv_views.specs.View.{BeginsViewing}
 use Rattle.spv_views.specs.declared.view.View.{View}
 use Rattle.spv_views.specs.declared.view.View.TheVariants as view
 use Rattle.spv_fault_lines.specs.declared.fact.Detail.{Detail}
-use Rattle.spv_commands.specs.Trace.{BeginsTracing, Traces}
+use Rattle.spv_commands.specs.Trace.{BeginsTracing}
 use Rattle.spv_builtin.specs.Source.{IsTableOf}
 use Rattle.spv_builtin.specs.Text.{IsGrammarText}
-use Rattle.spv_check.specs.Verdict.{line_end, refused_line}
 use Rattle.spv_commands.proofs.Tasks.{as_taken}
 use Rattle.spv_streams.specs.Begin.{BeginsByText, BeginsGrammar}
 
@@ -36,9 +29,9 @@ pub begins_short : (c : Command) (G : Table) → ¬ (ReadsNoFile c) → MakesNot
     → ((reach : Reach) (detail : Detail)
     → BeginsExplaining detail G reach (1 ∷ 2 ∷ 3 ∷ []) (9 ∷ []) (Some (9 ∷ codes "fault")))
     → BeginsShowing G (1 ∷ 2 ∷ 3 ∷ []) (9 ∷ []) (Some (9 ∷ codes "fault"))
-    → ((reach : Reach) (function : ℕ) (choices : List ℕ) (limit : ℕ)
+    → ((reach : Reach) (function : Chosen) (choices : List ℕ) (limit : ℕ)
     → BeginsTracing G reach function choices limit (1 ∷ 2 ∷ 3 ∷ []) (9 ∷ []) (Some (9 ∷ codes "fault")))
-    → ((how : View) (function : Option ℕ)
+    → ((how : View) (function : Option Chosen)
     → BeginsViewing how G function (1 ∷ 2 ∷ 3 ∷ []) (9 ∷ []) (Some (9 ∷ codes "fault")))
     → BeginsByText c (Some empty_grammar) (1 ∷ 2 ∷ 3 ∷ []) (Some (9 ∷ [])) (Some (9 ∷ codes "fault")) None None
 begins_short (Judge tasks.Check g fs v e p q j) G r n given begins explained shown traced viewed =

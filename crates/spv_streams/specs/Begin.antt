@@ -1,5 +1,5 @@
 -- What a writer has got of what a command writes, where a write failed: a beginning. (Own.)
-use Rattle.std.specs.Prelude.{ℕ, List, Option, Some, None, IfSome, Bool}
+use Rattle.std.specs.Prelude.{ℕ, List, Option, IfSome, Bool}
 use Rattle.spv_table.specs.Table.{Table}
 use Rattle.spv_extended.specs.declared.reach.Reach.{Reach}
 use Rattle.spv_builtin.specs.Source.{IsTableOf}

@@ -4,19 +4,21 @@ use Rattle.spv_command_line.specs.declared.command_line.Command.{Command}
 use Rattle.spv_commands.specs.Streams.{AnyFailed, Reading, Writing}
 use Rattle.spv_builtin.specs.Source.{breaks}
 use Rattle.spv_grammar.specs.declared.error.GrammarError.{GrammarError}
-use Rattle.spv_commands.specs.Task.{DoesByText, IsNoText, LacksAskedByText, LacksEntryByText, WritesRulesOf}
-use Rattle.spv_commands.specs.Trouble.{entry_line, file_line, function_line, grammar_text, memory_line}
+use Rattle.spv_commands.specs.Task.{DoesByText, IsAmbiguousByText, IsNoText, LacksAskedByText, LacksEntryByText}
+use Rattle.spv_commands.specs.Task.{WritesRulesOf}
+use Rattle.spv_commands.specs.Trouble.{entry_line, file_line, function_line, grammar_text, memory_line, use_line}
 use Rattle.spv_streams.specs.Begin.{BeginsByText, BeginsRulesOf}
 
 -- The error line of a run whose grammar file has this text, or which has none, for a reason: the grammar breaks a code,
--- a read or a write `failed`, an id is `strange`, a function `absent`, or memory was refused. No clause can tell when
+-- a read or a write `failed`, a function is `strange` or `absent`, its name `ambiguous`, or memory was refused. No clause can tell when
 -- memory is refused, so the last stands for itself.
-pub data IsErrorLine (text : Option (List ℕ)) (failed strange absent : Type 0) : List ℕ → Type 0 where
-  refused : (e : GrammarError) → breaks text e → IsErrorLine text failed strange absent (grammar_text e)
-  file : failed → IsErrorLine text failed strange absent file_line
-  entry : strange → IsErrorLine text failed strange absent entry_line
-  function : absent → IsErrorLine text failed strange absent function_line
-  memory : IsErrorLine text failed strange absent memory_line
+pub data IsErrorLine (text : Option (List ℕ)) (failed strange absent ambiguous : Type 0) : List ℕ → Type 0 where
+  refused : (e : GrammarError) → breaks text e → IsErrorLine text failed strange absent ambiguous (grammar_text e)
+  file : failed → IsErrorLine text failed strange absent ambiguous file_line
+  entry : strange → IsErrorLine text failed strange absent ambiguous entry_line
+  function : absent → IsErrorLine text failed strange absent ambiguous function_line
+  several : ambiguous → IsErrorLine text failed strange absent ambiguous use_line
+  memory : IsErrorLine text failed strange absent ambiguous memory_line
 
 -- Of a command that needs a table, with a grammar file of this text or without one. `Tells` says that the standard
 -- error has got a line.
@@ -30,7 +32,8 @@ pub record Runs (command : Command) (text : Option (List ℕ)) (file : Reading) 
       → IfSome file.left (λ bytes. DoesByText command text bytes out.held out.holds made.held made.holds (status == 0))
   -- With 2 an error line was written to the standard error, and there is a reason for it.
   pub error : status ≡ 2 → (line : List ℕ) × IsErrorLine text (AnyFailed file out made ⊎ IsNoText command file.left)
-      (LacksEntryByText command text file.left) (LacksAskedByText command text file.left) line × Tells line
+      (LacksEntryByText command text file.left) (LacksAskedByText command text file.left)
+      (IsAmbiguousByText command text file.left) line × Tells line
   -- A failed read or write is told by `error file`.
   pub failed : AnyFailed file out made → (status ≡ 2) × Tells file_line
   -- With 2 the standard output and the file that is made are as they were, or, after a failed write, have got a

@@ -9,7 +9,7 @@ ghost use Rattle.spv_command_line.specs.declared.command_line.Command.TheVariant
 ghost use Rattle.spv_commands.specs.Example.{empty_grammar, reader_of, writer_of};
 ghost use Rattle.spv_commands.specs.Part.{Known, unread_text};
 ghost use Rattle.spv_commands.specs.Task.{MakesNothing, ReadsNoFile};
-ghost use Rattle.spv_commands.specs.Trouble.{Writes, entry_line, file_line, function_line, memory_line};
+ghost use Rattle.spv_commands.specs.Trouble.{Writes, entry_line, file_line, function_line, memory_line, use_line};
 ghost use Rattle.spv_commands.specs.declared.judging.Judging.{Judging};
 ghost use Rattle.spv_explain.specs.declared.answers.Unread.TheVariants.{File};
 ghost use Rattle.spv_check.specs.Verdict.{line_end};
@@ -45,13 +45,14 @@ pub fn ending_examples()
         → Runs command text (reader_of []) (writer_of []) (writer_of []) (λ line. line ≡ memory_line) 2 }
     ensures never_runs { (command : Command) (text : Option (List ℕ))
         → ¬ (Runs command text (reader_of []) (writer_of []) (writer_of []) (λ line. ⊥) 2) }
-    // No text at all breaks J1, memory can always be told, `error X1` of an id that is strange, `error X2` of a
-    // function that is absent, and `error file` only after a failed call.
-    ensures refused { IsErrorLine (Some []) ⊥ ⊥ ⊥ (codes "error J1" ++ line_end) }
-    ensures memory { (text : Option (List ℕ)) → IsErrorLine text ⊥ ⊥ ⊥ memory_line }
-    ensures no_entry { (text : Option (List ℕ)) → IsErrorLine text ⊥ (Unit {0}) ⊥ entry_line }
-    ensures no_function { (text : Option (List ℕ)) → IsErrorLine text ⊥ ⊥ (Unit {0}) function_line }
-    ensures no_failure { (text : Option (List ℕ)) → ¬ (IsErrorLine text ⊥ ⊥ ⊥ file_line) }
+    // No text at all breaks J1, memory can always be told, `error X1` of a function that is strange, `error X2` of one
+    // that is absent, `error use` of a name of several, and `error file` only after a failed call.
+    ensures refused { IsErrorLine (Some []) ⊥ ⊥ ⊥ ⊥ (codes "error J1" ++ line_end) }
+    ensures memory { (text : Option (List ℕ)) → IsErrorLine text ⊥ ⊥ ⊥ ⊥ memory_line }
+    ensures no_entry { (text : Option (List ℕ)) → IsErrorLine text ⊥ (Unit {0}) ⊥ ⊥ entry_line }
+    ensures no_function { (text : Option (List ℕ)) → IsErrorLine text ⊥ ⊥ (Unit {0}) ⊥ function_line }
+    ensures several { (text : Option (List ℕ)) → IsErrorLine text ⊥ ⊥ ⊥ (Unit {0}) use_line }
+    ensures no_failure { (text : Option (List ℕ)) → ¬ (IsErrorLine text ⊥ ⊥ ⊥ ⊥ file_line) }
     ensures rules { (code : Option AnyCode) → RunsRules (Rules code false) (writer_of (told_text code)) (λ line. ⊥) 0 }
     ensures no_rules { (command : Command) → ¬ (RunsRules command (writer_of []) (λ line. ⊥) 1) }
 {}

@@ -1,100 +1,31 @@
 //! The run of a command over readers and writers.
-ghost use Rattle.std.specs.Prelude.{◌≡◌, ◌≤◌, ◌⊎◌, IfErr, IfSome, IsErrOf, false, option_map};
+ghost use Rattle.std.specs.Prelude.{◌≡◌, ◌≤◌, ◌⊎◌, ◌↔◌, [], IfErr, IfOk, IfSome, IsErrOf, false, option_map};
 ghost use Rattle.spv_builtin.specs.Source.{breaks};
 ghost use Rattle.spv_grammar.specs.declared.error.GrammarError.{GrammarError};
 ghost use Rattle.spv_grammar.specs.declared.error.GrammarError.TheVariants.{J8};
-ghost use Rattle.spv_commands.specs.Show.{BeginsShowing, Shows};
-ghost use Rattle.spv_commands.specs.Streams.{IsAnswered, reading, writing};
-ghost use Rattle.spv_commands.specs.Task.{DoesTask, MakesNothing, ReadsGrammar, ReadsNoFile, WritesGrammar};
+ghost use Rattle.spv_check.specs.Outcome.{HasFailed};
+ghost use Rattle.spv_commands.specs.Output.{made_of};
+ghost use Rattle.spv_commands.specs.Streams.{reading, writing};
+ghost use Rattle.spv_commands.specs.Task.{Does, MakesNothing, ReadsGrammar, ReadsNoFile};
 ghost use Rattle.spv_commands.specs.Task.{WritesRules, WritesRulesOf, taken};
 ghost use Rattle.spv_commands.specs.Trouble.{Gets, grammar_text, memory_line};
-ghost use Rattle.spv_commands.specs.declared.trouble.Trouble.TheVariants.{File, Grammar, Memory, NoFunction};
-ghost use Rattle.spv_views.specs.View.{BeginsViewing, LacksFunction, Views};
-ghost use Rattle.spv_streams.specs.Begin.{BeginsGrammar, BeginsRules, BeginsRulesOf, BeginsTask};
+ghost use Rattle.spv_commands.specs.declared.trouble.Trouble.TheVariants.{File, Grammar};
+ghost use Rattle.spv_streams.specs.Begin.{BeginsRules, BeginsRulesOf};
 ghost use Rattle.spv_streams.specs.Run.{Runs, RunsRules};
-ghost use Rattle.spv_streams.specs.inner.Ending.{EndsByTable, EndsByText, EndsUnread, reading_by, trouble_from};
+ghost use Rattle.spv_streams.specs.inner.Ending.{EndsByTable, EndsByText, EndsUnread, IsReason, reading_by};
+ghost use Rattle.spv_streams.specs.inner.Put.{GivesBoth};
 
+use crate::reading::content_on;
+use crate::writing::write_reply;
 use spv_builtin::laws::one_table;
-use spv_builtin::{grammar_text as text_of_grammar, table_of};
-use spv_command_line::{AnyCode, Command, Task};
-use spv_commands::asked::{detail_by, is_as_1_6, order_by, reach_by, rules_bytes, view_by};
-use spv_commands::{Trouble, assemble_stream, report, show_stream, trace_stream};
-use spv_explain::explain_stream;
-use spv_extended::Reach;
+use spv_builtin::table_of;
+use spv_command_line::{AnyCode, Command};
+use spv_commands::asked::{is_as_1_6, rules_bytes};
+use spv_commands::{Reply, Trouble, reply_to, report, too_long};
 use spv_table::Table;
-use spv_verdict::check_stream;
-use spv_views::{View, ViewError, view_stream};
-use spv_words::{Sink, Source, VersionSource, WordError, write_all};
+use spv_words::{Sink, Source, VersionSource, write_all};
 use std::alloc::Global;
 use std::mem::forget;
-
-/// What an error of a check is told as: out of memory, or else a failed read or write.
-fn stream_trouble(code: WordError) -> Trouble
-    ensures { result ≡ trouble_from code }
-{
-    match code {
-        WordError::W9 => Trouble::Memory,
-        _ => Trouble::File,
-    }
-}
-
-/// Does a task on the module by a table: whether it is valid.
-fn tasked<S: Source, W: Sink>(
-    alloc: Global,
-    task: Task,
-    table: &Table,
-    reach: Reach,
-    file: &mut S,
-    out: &mut W,
-) -> Result<bool, Trouble>
-    ensures ends { IsAnswered (DoesTask task table.now reach) (BeginsTask task table.now reach) File
-        (reading S.remaining S.failures file.old file.new) (writing W.contents W.failures out.old out.new) result }
-    ensures only { IfErr result (λ t. (t ≡ File) ⊎ (t ≡ Memory)) }
-{
-    match task {
-        Task::Check => check_stream(alloc, table, reach, file, out).map_err(stream_trouble),
-        Task::Explain { full } => {
-            explain_stream(alloc, table, reach, detail_by(full), file, out).map_err(stream_trouble)
-        }
-    }
-}
-
-/// Shows the module by a table: whether it is one that has a text.
-fn shown<S: Source, W: Sink>(
-    alloc: Global,
-    table: &Table,
-    file: &mut S,
-    out: &mut W,
-) -> Result<bool, Trouble>
-    ensures ends { IsAnswered (Shows table.now) (BeginsShowing table.now) File
-        (reading S.remaining S.failures file.old file.new) (writing W.contents W.failures out.old out.new) result }
-    ensures only { IfErr result (λ t. (t ≡ File) ⊎ (t ≡ Memory)) }
-{
-    show_stream(alloc, table, file, out).map_err(stream_trouble)
-}
-
-/// Writes what people look at of the module by a table: whether it is that, and not a verdict line.
-fn viewed<S: Source, W: Sink>(
-    alloc: Global,
-    table: &Table,
-    how: View<'_>,
-    function: Option<u32>,
-    file: &mut S,
-    out: &mut W,
-) -> Result<bool, Trouble>
-    ensures ends { IsAnswered (Views how.entry table.now function) (BeginsViewing how.entry table.now function) File
-        (reading S.remaining S.failures file.old file.new) (writing W.contents W.failures out.old out.new) result }
-    ensures only { IfErr result (λ t. (t ≡ File)
-        ⊎ ((t ≡ NoFunction) × IfSome (S.remaining file.old) (λ bytes. LacksFunction table.now bytes function))
-        ⊎ (t ≡ Memory)) }
-{
-    match view_stream(alloc, table, how, function, file, out) {
-        Ok(answer) => Ok(answer),
-        Err(ViewError::Failed) => Err(Trouble::File),
-        Err(ViewError::NoFunction) => Err(Trouble::NoFunction),
-        Err(ViewError::Memory) => Err(Trouble::Memory),
-    }
-}
 
 /// Writes what codes say, or one of them: it is written.
 fn ruled<W: Sink>(
@@ -116,23 +47,27 @@ fn ruled<W: Sink>(
     }
 }
 
-/// Writes the grammar file of a table: it is written.
-fn grammar_written<W: Sink>(alloc: Global, table: &Table, out: &mut W) -> Result<bool, Trouble>
-    ensures { EndsUnread (WritesGrammar table.now) (BeginsGrammar table.now)
-        (writing W.contents W.failures out.old out.new) result }
+/// What a command answers by a table of what its file gives.
+fn reply_on<S: Source>(
+    alloc: Global,
+    command: &Command,
+    table: &Table,
+    file: &mut S,
+) -> Result<Reply, Trouble>
+    ensures does { IfSome (S.remaining file.old) (λ bytes. IfOk result (GivesBoth (Does command.now table.now) bytes)) }
+    ensures nothing { MakesNothing command.now → IfOk result (λ a. made_of a ≡ []) }
+    ensures count { HasFailed S.failures file.old file.new ↔ IsErrOf result File }
+    ensures why { IfErr result (IsReason command.now table.now (S.remaining file.old)) }
+    ensures unread { ReadsNoFile command.now → file.new ≡ file.old }
 {
-    let text = match text_of_grammar(alloc, table) {
-        Ok(text) => text,
-        Err(_) => return Err(Trouble::Memory),
-    };
-    match write_all(text.as_bytes(), out) {
-        Ok(()) => Ok(true),
-        Err(_) => Err(Trouble::File),
+    let content = content_on(alloc, command, file)?;
+    match content {
+        Some(bytes) => reply_to(alloc, command, table, bytes),
+        None => too_long(alloc, command),
     }
 }
 
 /// Does what a command asks by a table: whether the module is valid, has a text, was made, has a run or was viewed.
-/// `rules` asks for no table, and is done; so is `grammar`.
 fn done_by<S: Source, W: Sink, O: Sink>(
     alloc: Global,
     command: &Command,
@@ -146,43 +81,8 @@ fn done_by<S: Source, W: Sink, O: Sink>(
     ensures nothing { MakesNothing command.now → made.new ≡ made.old }
     ensures unread { ReadsNoFile command.now → file.new ≡ file.old }
 {
-    match command {
-        Command::Judge { task, extended, .. } => {
-            let reach = reach_by(*extended);
-            tasked(alloc, *task, table, reach, file, out)
-        }
-        Command::Show { .. } => shown(alloc, table, file, out),
-        Command::Asm { big, explain, .. } => {
-            assemble_stream(alloc, table, order_by(*big), *explain, file, out, made)
-        }
-        Command::Trace {
-            function,
-            choices,
-            limit,
-            extended,
-            ..
-        } => {
-            let reach = reach_by(*extended);
-            trace_stream(alloc, table, reach, *function, choices, *limit, file, out)
-        }
-        Command::Annotate {
-            file: name,
-            function,
-            form,
-            color,
-            ..
-        } => viewed(
-            alloc,
-            table,
-            view_by(*form, *color, *name),
-            *function,
-            file,
-            out,
-        ),
-        Command::Graph { function, .. } => viewed(alloc, table, View::Graph, *function, file, out),
-        Command::Rules { code, json } => ruled(alloc, *code, *json, out),
-        Command::Grammar { .. } => grammar_written(alloc, table, out),
-    }
+    let reply = reply_on(alloc, command, table, file)?;
+    write_reply(&reply, out, made)
 }
 
 /// Has the bytes of a file taken as those of a module of 1.6, if that is asked for.
@@ -284,10 +184,10 @@ fn done<S: VersionSource, W: Sink, O: Sink>(
 /// written only where it is asked for in any case. 0: the module is valid, or its text, the module of a text, a run,
 /// what people look at, a grammar file or what codes say was written. 1: a fault line was written. 2: one line was
 /// written to `err`: `error J1` to `error J7` where the grammar file is refused, which is told first, `error file`
-/// where a read or a write failed or a text is not UTF-8, `error X1` where the id whose run is asked for is no entry
-/// point's function, `error X2` where the function that is asked for is none of the module, `error memory` where a
-/// growth of memory was refused. Where the write to `err` fails too, it has got a beginning of that line, and the
-/// status is 2 all the same.
+/// where a read or a write failed or a text is not UTF-8, `error X1` where the function whose run is asked for is no
+/// entry point's, `error X2` where the function that is asked for is none of the module, `error use` where its name is
+/// that of several, `error memory` where a growth of memory was refused. Where the write to `err` fails too, it has got
+/// a beginning of that line, and the status is 2 all the same.
 pub fn run<S: VersionSource, W: Sink, O: Sink, E: Sink>(
     alloc: Global,
     command: &Command,

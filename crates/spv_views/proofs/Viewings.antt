@@ -17,7 +17,6 @@ use Rattle.spv_layout.specs.First.{stage_of}
 use Rattle.spv_layout.specs.Stage.{of_layout}
 use Rattle.spv_check.specs.Text.{line_of}
 use Rattle.spv_check.specs.Verdict.{IsVerdict, line_end, refused_line}
-use Rattle.spv_check.specs.declared.verdict_line.Judgment.{Judgment}
 use Rattle.spv_module.specs.Module.{plain_insts}
 use Rattle.spv_module.specs.declared.module.Module.{Module}
 use Rattle.spv_fault_lines.specs.declared.fact.Detail.TheVariants.{Short}
@@ -30,13 +29,13 @@ use Rattle.spv_words.specs.Header.{greatest_length}
 use Rattle.spv_layout.specs.Place.{IsShort, word_count}
 use Rattle.spv_explain.specs.Stream.{IsModuleOf}
 use Rattle.spv_annotate.specs.Document.{IsSpelled}
-use Rattle.spv_views.specs.View.{AreLaidOut, AreListed, BeginsViewing, HasNoText, HasPart, IsTextOf, IsViewing}
-use Rattle.spv_views.specs.View.{KeepsLayout, LacksFunction, Views, begun, has_function, judged, lacks, mislaid}
+use Rattle.spv_names.specs.declared.chosen.Chosen.{Chosen}
+use Rattle.spv_views.specs.View.{AreLaidOutFor, AreListed, BeginsViewing, HasNoText, IsPart, IsViewing}
+use Rattle.spv_views.specs.View.{LacksFunction, NamesSeveral, Views, begun, judged, mislaid}
 use Rattle.spv_views.specs.View.{shows_beginning, unlisted, viewed, wordless}
 use Rattle.spv_views.specs.inner.Beginning.{IsBegun}
-use Rattle.spv_views.specs.inner.Viewed.{IsWrittenBy, is_behind_layout, is_text, output_of, viewed_refusal}
+use Rattle.spv_views.specs.inner.Viewed.{IsLaid, IsMislaid, IsWrittenBy, WhyNoPart, is_behind_layout, is_text, output_of, viewed_refusal}
 use Rattle.spv_views.specs.declared.view.View.{View}
-use Rattle.spv_views.specs.declared.view.View.TheVariants.{Text, Page, Graph}
 use Rattle.spv_views.specs.declared.view.ViewError.{ViewError}
 use Rattle.spv_views.specs.declared.view.ViewError.TheVariants as trouble
 use Rattle.spv_views.specs.declared.viewing.Viewed.{Viewed}
@@ -61,12 +60,12 @@ behind rule.L2 = (λ e. cc, λ h. absurd (omega (arith, h)))
 behind _ = (λ e. omega arith, λ h. refl)
 
 -- bytes that are no words have no list
-pub no_words : (how : View) (G : Table) (bytes : List ℕ) (code : WordError) (function : Option ℕ)
+pub no_words : (how : View) (G : Table) (bytes : List ℕ) (code : WordError) (function : Option Chosen)
     → ((e : WordError) (o : Order) (bs ws : List ℕ) → IsModule o bs ws → ¬ IsFirstBroken e bs)
     → IsFirstBroken code bytes → HasNoText how G bytes function
 no_words how G bytes code function never h = wordless function (λ o ws m. never code o bytes ws m h)
 
-refused_line_written : (how : View) (G : Table) (function : Option ℕ) (bytes : List ℕ) (code : WordError)
+refused_line_written : (how : View) (G : Table) (function : Option Chosen) (bytes : List ℕ) (code : WordError)
     → ((e : WordError) (o : Order) (bs ws : List ℕ) → IsModule o bs ws → ¬ IsFirstBroken e bs)
     → IsFirstBroken code bytes
     → IsViewing how G function bytes (refused_line code) false
@@ -75,7 +74,7 @@ refused_line_written how G function bytes code never h =
 
 -- a code that was read
 pub refused_bytes : ((e : WordError) (o : Order) (bs ws : List ℕ) → IsModule o bs ws → ¬ IsFirstBroken e bs)
-    → (how : View) (G : Table) (function : Option ℕ) (known : Option (List ℕ)) (code : WordError)
+    → (how : View) (G : Table) (function : Option Chosen) (known : Option (List ℕ)) (code : WordError)
     → IfSome known (λ xs. RefusesBytes code xs)
     → IfSome known (λ xs. IfOk (viewed_refusal code) (λ v. IsViewing how G function xs (output_of v) (is_text v)))
 refused_bytes never how G function None code h = tt
@@ -94,6 +93,11 @@ refused_stranger P word.W1 e = cc
 refused_stranger P word.W9 e = cc
 refused_stranger P code e = cc
 
+pub refused_several : (P : Type 0) (code : WordError) → IsErrOf (viewed_refusal code) trouble.SeveralFunctions → P
+refused_several P word.W1 e = cc
+refused_several P word.W9 e = cc
+refused_several P code e = cc
+
 -- W1 is told where it was read
 pub refused_count : {X : Type 0} (P : Type 0) (code : WordError) (r : Result X WordError) → r ≡ Err code
     → (P ↔ IsErrOf r word.W1)
@@ -104,7 +108,7 @@ refused_count P code r q h = (λ p. let e = h.0 p in cc, λ e. cc)
 
 -- words that are no list of instructions
 pub no_list : ((o p : Order) (bs ws vs : List ℕ) → IsModule o bs ws → IsModule p bs vs → (o ≡ p) × (ws ≡ vs))
-    → (how : View) (G : Table) (bytes words : List ℕ) (order : Order) (function : Option ℕ) → IsModule order bytes words
+    → (how : View) (G : Table) (bytes words : List ℕ) (order : Order) (function : Option Chosen) → IsModule order bytes words
     → ((is : List PlainInst) → ¬ (IsListing G is (drop 5 words)))
     → shows_beginning how function ≡ false → HasNoText how G bytes function
 no_list once how G bytes words order function h none s =
@@ -114,7 +118,7 @@ no_list once how G bytes words order function h none s =
 
 -- of words that are no list, the verdict line; and so where a function is asked for, and functions cannot be told apart
 pub unlisted_line : ((o p : Order) (bs ws vs : List ℕ) → IsModule o bs ws → IsModule p bs vs → (o ≡ p) × (ws ≡ vs))
-    → (how : View) (G : Table) (function : Option ℕ) (bytes words : List ℕ) (order : Order) (e : Explanation)
+    → (how : View) (G : Table) (function : Option Chosen) (bytes words : List ℕ) (order : Order) (e : Explanation)
     → IsModule order bytes words → ((is : List PlainInst) → ¬ (IsListing G is (drop 5 words)))
     → shows_beginning how function ≡ false → IsExplanation Short G Profile bytes e
     → IsViewing how G function bytes (line_of e.judgment) false
@@ -122,11 +126,11 @@ unlisted_line once how G function bytes words order e h none s x =
     judged (line_of e.judgment) (no_list once how G bytes words order function h none s) x.verdict
 
 -- or the instructions before the one that is malformed
-begun_by : (how : View) (G : Table) (function : Option ℕ) (bytes words : List ℕ) (order : Order) (e : Explanation)
-    (m : Module) (text : List ℕ) → IsModule order bytes words
+pub begun_viewed : (how : View) (G : Table) (function : Option Chosen) (bytes words : List ℕ) (order : Order)
+    (e : Explanation) (m : Module) (text : List ℕ) → IsModule order bytes words
     → IsBegun G words m → shows_beginning how function ≡ true → IsExplanation Short G Profile bytes e
-    → IsTextOf how G function bytes m text → IsViewing how G function bytes text false
-begun_by how G function bytes words order e m text h b s x t = begun m text s (record {
+    → IsWrittenBy how G m e None text → IsViewing how G function bytes text false
+begun_viewed how G function bytes words order e m text h b s x w = begun m text s (record {
   words = words;
   order = order;
   is_module = h;
@@ -138,27 +142,14 @@ begun_by how G function bytes words order e m text h b s x t = begun m text s (r
   rule = b.rule;
   word = b.word;
   malformed = b.malformed;
-}) t
+}) (record { explanation = e; explains = x; finding = w.finding; of = w.of; written = w.written })
 
-never_shown : (how : View) (id : ℕ) → shows_beginning how (Some id) ≡ true → ⊥
-never_shown (Text color) id e = cc
-never_shown (Page title) id e = cc
-never_shown Graph id e = cc
-
-pub begun_viewed : (how : View) (G : Table) (function : Option ℕ) (bytes words : List ℕ) (order : Order)
-    (e : Explanation) (m : Module) (text : List ℕ) → IsModule order bytes words
-    → IsBegun G words m → shows_beginning how function ≡ true → IsExplanation Short G Profile bytes e
-    → IsWrittenBy how G m e None text → IsViewing how G function bytes text false
-begun_viewed how G None bytes words order e m text h b s x w =
-    begun_by how G None bytes words order e m text h b s x
-    (record { explanation = e; explains = x; finding = w.finding; of = w.of; written = w.written })
-begun_viewed how G (Some id) bytes words order e m text h b s x w = absurd (never_shown how id s)
-
-pub mislaid_line : (how : View) (G : Table) (id : ℕ) (bytes : List ℕ) (e : Explanation)
-    → IsExplanation Short G Profile bytes e → ¬ (KeepsLayout e.judgment)
-    → IsViewing how G (Some id) bytes (line_of e.judgment) false
-mislaid_line how G id bytes e x n =
-    judged (line_of e.judgment) (mislaid id (record { judgment = e.judgment; verdict = x.verdict; breaks = n }))
+pub mislaid_line : (how : View) (G : Table) (function : Option Chosen) (bytes : List ℕ) (e : Explanation)
+    → IsExplanation Short G Profile bytes e → IsMislaid function e.judgment
+    → IsViewing how G function bytes (line_of e.judgment) false
+mislaid_line how G None bytes e x n = absurd n
+mislaid_line how G (Some chosen) bytes e x n =
+    judged (line_of e.judgment) (mislaid chosen (record { judgment = e.judgment; verdict = x.verdict; breaks = n }))
     x.verdict
 
 -- a module that was read
@@ -166,23 +157,46 @@ are_listed : (G : Table) (bytes words : List ℕ) (order : Order) (m : Module) �
     → IsModuleOf G words m → AreListed G bytes m
 are_listed G bytes words order m h l = record { words = words; order = order; is_module = h; listed = l }
 
-pub laid_out : (G : Table) (bytes : List ℕ) (e : Explanation) → IsExplanation Short G Profile bytes e
-    → KeepsLayout e.judgment → AreLaidOut G bytes
-laid_out G bytes e x k = record { judgment = e.judgment; verdict = x.verdict; keeps = k }
+laid_out : (G : Table) (bytes : List ℕ) (function : Option Chosen) (e : Explanation)
+    → IsExplanation Short G Profile bytes e → IsLaid function e.judgment → AreLaidOutFor G bytes function
+laid_out G bytes None e x k = tt
+laid_out G bytes (Some chosen) e x k = record { judgment = e.judgment; verdict = x.verdict; keeps = k }
 
-pub lacking : (G : Table) (id : ℕ) (bytes words : List ℕ) (order : Order) (e : Explanation) (m : Module)
-    → IsModule order bytes words
-    → IsModuleOf G words m → IsExplanation Short G Profile bytes e → KeepsLayout e.judgment
-    → has_function (plain_insts m) id ≡ false → LacksFunction G bytes (Some id)
-lacking G id bytes words order e m h l x k n =
-    lacks id m (are_listed G bytes words order m h l) (laid_out G bytes e x k) n
+pub lacking : (G : Table) (function : Option Chosen) (bytes words : List ℕ) (order : Order) (e : Explanation)
+    (m : Module) (t : ViewError) → IsModule order bytes words
+    → IsModuleOf G words m → IsExplanation Short G Profile bytes e → IsLaid function e.judgment
+    → WhyNoPart (plain_insts m) function t → t ≡ trouble.NoFunction → LacksFunction G bytes function
+lacking G function bytes words order e m trouble.NoFunction h l x k n q = record {
+  of = m;
+  listed = are_listed G bytes words order m h l;
+  laid = laid_out G bytes function e x k;
+  none = n;
+}
+lacking G function bytes words order e m trouble.SeveralFunctions h l x k n q = cc
+lacking G function bytes words order e m trouble.Failed h l x k n q = cc
+lacking G function bytes words order e m trouble.Memory h l x k n q = cc
 
-pub module_viewed : (how : View) (G : Table) (function : Option ℕ) (bytes words : List ℕ) (order : Order)
-    (e : Explanation) (m : Module) (text : List ℕ) → IsModule order bytes words
-    → IsModuleOf G words m → IsExplanation Short G Profile bytes e → HasPart G bytes (plain_insts m) function
-    → IsWrittenBy how G m e function text → IsViewing how G function bytes text true
-module_viewed how G function bytes words order e m text h l x p w =
-    viewed m text (are_listed G bytes words order m h l) p
+pub several : (G : Table) (function : Option Chosen) (bytes words : List ℕ) (order : Order) (e : Explanation)
+    (m : Module) (t : ViewError) → IsModule order bytes words
+    → IsModuleOf G words m → IsExplanation Short G Profile bytes e → IsLaid function e.judgment
+    → WhyNoPart (plain_insts m) function t → t ≡ trouble.SeveralFunctions → NamesSeveral G bytes function
+several G function bytes words order e m trouble.SeveralFunctions h l x k n q = record {
+  of = m;
+  listed = are_listed G bytes words order m h l;
+  laid = laid_out G bytes function e x k;
+  several = n;
+}
+several G function bytes words order e m trouble.NoFunction h l x k n q = cc
+several G function bytes words order e m trouble.Failed h l x k n q = cc
+several G function bytes words order e m trouble.Memory h l x k n q = cc
+
+pub module_viewed : (how : View) (G : Table) (function : Option Chosen) (id : Option ℕ) (bytes words : List ℕ)
+    (order : Order) (e : Explanation) (m : Module) (text : List ℕ) → IsModule order bytes words
+    → IsModuleOf G words m → IsExplanation Short G Profile bytes e → IsLaid function e.judgment
+    → IsPart (plain_insts m) function id
+    → IsWrittenBy how G m e id text → IsViewing how G function bytes text true
+module_viewed how G function id bytes words order e m text h l x k p w =
+    viewed m id text (are_listed G bytes words order m h l) (laid_out G bytes function e x k) p
     (record { explanation = e; explains = x; finding = w.finding; of = w.of; written = w.written })
 
 -- what the text, the page and the graph ask of a module
@@ -199,7 +213,7 @@ pub short : (words : List ℕ) (is : List PlainInst) → length words ≤ greate
 short words is l e = let d : length (drop 5 words) ≡ length words - 5 = length-drop 5 words in omega (arith, l, e, d)
 
 -- what is written of the words that were read
-pub known_viewing : (how : View) (G : Table) (function : Option ℕ) (known : Option (List ℕ)) (words : List ℕ)
+pub known_viewing : (how : View) (G : Table) (function : Option Chosen) (known : Option (List ℕ)) (words : List ℕ)
     (order : Order) (r : Result Viewed ViewError)
     → IfSome known (λ xs. IsModule order xs words)
     → ((bytes : List ℕ) (o : Order) → IsModule o bytes words
@@ -208,15 +222,14 @@ pub known_viewing : (how : View) (G : Table) (function : Option ℕ) (known : Op
 known_viewing how G function None words order r h v = tt
 known_viewing how G function (Some xs) words order r h v = v xs order h
 
-pub known_stranger : (G : Table) (function : Option ℕ) (known : Option (List ℕ)) (words : List ℕ) (order : Order)
+pub known_reason : (Q : List ℕ → Type 0) (known : Option (List ℕ)) (words : List ℕ) (order : Order)
     (P : Type 0) → IfSome known (λ xs. IsModule order xs words)
-    → ((bytes : List ℕ) (o : Order) → IsModule o bytes words → P → LacksFunction G bytes function) → P
-    → IfSome known (λ bytes. LacksFunction G bytes function)
-known_stranger G function None words order P h v p = tt
-known_stranger G function (Some xs) words order P h v p = v xs order h p
+    → ((bytes : List ℕ) (o : Order) → IsModule o bytes words → P → Q bytes) → P → IfSome known Q
+known_reason Q None words order P h v p = tt
+known_reason Q (Some xs) words order P h v p = v xs order h p
 
 -- it was written whole
-pub views : (how : View) (G : Table) (function : Option ℕ) (known kept new : Option (List ℕ)) (v : Viewed)
+pub views : (how : View) (G : Table) (function : Option Chosen) (known kept new : Option (List ℕ)) (v : Viewed)
     (answer : Bool)
     → IfSome known (λ bs. IsViewing how G function bs (output_of v) (is_text v)) → answer ≡ is_text v
     → Appends kept new (output_of v)
@@ -228,7 +241,7 @@ views how G function (Some bs) (Some old) (Some xs) v answer h e w =
     record { output = output_of v; viewing = rw e h; written = ap Some w }
 
 -- a beginning of it was
-pub begins_viewing : (how : View) (G : Table) (function : Option ℕ) (known kept new : Option (List ℕ)) (v : Viewed)
+pub begins_viewing : (how : View) (G : Table) (function : Option Chosen) (known kept new : Option (List ℕ)) (v : Viewed)
     → IfSome known (λ bs. IsViewing how G function bs (output_of v) (is_text v))
     → IfSome kept (λ xs. (n : ℕ) × (n ≤ length (output_of v)) × (new ≡ Some (xs ++ take n (output_of v))))
     → IfSome known (λ bs. IfSome kept (λ old. BeginsViewing how G function bs old new))
@@ -239,7 +252,7 @@ begins_viewing how G function (Some bs) (Some old) new v h w =
 
 -- three bytes are no module, and have nothing to look at
 pub short_viewed : ((e : WordError) (o : Order) (bs ws : List ℕ) → IsModule o bs ws → ¬ IsFirstBroken e bs)
-    → (G : Table) (how : View) (function : Option ℕ) → IsFirstBroken word.W2 (1 ∷ 2 ∷ 3 ∷ [])
+    → (G : Table) (how : View) (function : Option Chosen) → IsFirstBroken word.W2 (1 ∷ 2 ∷ 3 ∷ [])
     → Views how G function (1 ∷ 2 ∷ 3 ∷ []) (9 ∷ []) (Some (9 ∷ codes "fault W2" ++ line_end)) false
 short_viewed never G how function h =
     record {
@@ -249,7 +262,7 @@ short_viewed never G how function h =
     }
 
 pub short_begun_viewing : ((e : WordError) (o : Order) (bs ws : List ℕ) → IsModule o bs ws → ¬ IsFirstBroken e bs)
-    → (G : Table) (how : View) (function : Option ℕ) → IsFirstBroken word.W2 (1 ∷ 2 ∷ 3 ∷ [])
+    → (G : Table) (how : View) (function : Option Chosen) → IsFirstBroken word.W2 (1 ∷ 2 ∷ 3 ∷ [])
     → BeginsViewing how G function (1 ∷ 2 ∷ 3 ∷ []) (9 ∷ []) (Some (9 ∷ codes "fault"))
 short_begun_viewing never G how function h =
     record {
@@ -262,13 +275,17 @@ short_begun_viewing never G how function h =
       written = refl;
     }
 
-pub no_view : (how : View) (G : Table) (function : Option ℕ) (bytes output : List ℕ) (answer : Bool) → answer ≡ true
+pub no_view : (how : View) (G : Table) (function : Option Chosen) (bytes output : List ℕ) (answer : Bool) → answer ≡ true
     → ((o : Order) (ws : List ℕ) → ¬ (IsModule o bytes ws))
     → ¬ (IsViewing how G function bytes output answer)
 no_view how G function bytes _ _ e never (judged line n v) = cc
 no_view how G function bytes _ _ e never (begun m text s a t) = cc
-no_view how G function bytes _ _ e never (viewed m text l p t) = never l.order l.words l.is_module
+no_view how G function bytes _ _ e never (viewed m id text l k p t) = never l.order l.words l.is_module
 
-pub none_lacking : (G : Table) (bytes : List ℕ) (function : Option ℕ)
+pub none_lacking : (G : Table) (bytes : List ℕ) (function : Option Chosen)
     → ((o : Order) (ws : List ℕ) → ¬ (IsModule o bytes ws)) → ¬ (LacksFunction G bytes function)
-none_lacking G bytes _ never (lacks id m l laid none) = never l.order l.words l.is_module
+none_lacking G bytes function never l = never l.listed.order l.listed.words l.listed.is_module
+
+pub none_several : (G : Table) (bytes : List ℕ) (function : Option Chosen)
+    → ((o : Order) (ws : List ℕ) → ¬ (IsModule o bytes ws)) → ¬ (NamesSeveral G bytes function)
+none_several G bytes function never l = never l.listed.order l.listed.words l.listed.is_module

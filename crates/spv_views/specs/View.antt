@@ -1,6 +1,6 @@
 -- What is written of a stream of bytes for people to look at. (Own.)
 use Rattle.std.specs.Prelude.{◌≡◌, ◌<◌, ◌≤◌, ◌++◌, ℕ, List, [], Option, Some, None, Bool, true, false, drop, length}
-use Rattle.std.specs.Prelude.{take}
+use Rattle.std.specs.Prelude.{◌⊎◌, Ok, Err, take}
 use Rattle.std.specs.List.{flat_map, list_any}
 use Rattle.spv_words.specs.Header.{IsModule}
 use Rattle.spv_words.specs.declared.words.Order.{Order}
@@ -23,7 +23,10 @@ use Rattle.spv_check.specs.declared.verdict_line.Judgment.TheVariants.{Valid, Re
 use Rattle.spv_fault_lines.specs.declared.fact.Detail.TheVariants.{Short}
 use Rattle.spv_explain.specs.Stream.{IsExplanation, IsModuleOf}
 use Rattle.spv_explain.specs.declared.stream.Explanation.{Explanation}
-use Rattle.spv_annotate.specs.Document.{IsSubject, Subject, document, is_function}
+use Rattle.spv_names.specs.Chosen.{IsChosen, is_function}
+use Rattle.spv_names.specs.declared.chosen.Chosen.{Chosen}
+use Rattle.spv_names.specs.declared.chosen.NameError.TheVariants.{Absent, Several}
+use Rattle.spv_annotate.specs.Document.{IsSubject, Subject, document}
 use Rattle.spv_annotate.specs.Page.{IsPage, walk_of}
 use Rattle.spv_annotate.specs.Piece.{text_of}
 use Rattle.spv_annotate.specs.declared.finding.Finding as annotate
@@ -37,6 +40,23 @@ use Rattle.spv_views.specs.declared.view.View.TheVariants.{Text, Page, Graph}
 -- has a module a function of that id
 abbrev pub has_function : List PlainInst → ℕ → Bool
 has_function is id = list_any (is_function id) is
+
+-- The id is that of the function that is asked for, or none is asked for.
+abbrev pub IsPart : List PlainInst → Option Chosen → Option ℕ → Type 0
+IsPart is None None = Unit {0}
+IsPart is (Some chosen) (Some id) = IsChosen is chosen (Ok id) × (has_function is id ≡ true)
+IsPart is function id = ⊥
+
+-- A function is asked for, and there is none of its name or of its id.
+abbrev pub IsNoPart : List PlainInst → Option Chosen → Type 0
+IsNoPart is None = ⊥
+IsNoPart is (Some chosen) =
+    IsChosen is chosen (Err Absent) ⊎ ((id : ℕ) × IsChosen is chosen (Ok id) × (has_function is id ≡ false))
+
+-- A function is asked for by a name that several have.
+abbrev pub AreParts : List PlainInst → Option Chosen → Type 0
+AreParts is None = ⊥
+AreParts is (Some chosen) = IsChosen is chosen (Err Several)
 
 -- The bytes are words that spell the module, under the grammar table.
 pub record AreListed (G : Table) (bytes : List ℕ) (m : Module) : Type 0 where
@@ -67,7 +87,7 @@ pub record AreBegun (G : Table) (bytes : List ℕ) (m : Module) : Type 0 where
 
 -- is the beginning of a module shown, where its words are no list of instructions: in the text and the page, where no
 -- function is asked for
-abbrev pub shows_beginning : View → Option ℕ → Bool
+abbrev pub shows_beginning : View → Option Chosen → Bool
 shows_beginning (Text color) None = true
 shows_beginning (Page title) None = true
 shows_beginning how function = false
@@ -83,19 +103,19 @@ pub record AreMislaid (G : Table) (bytes : List ℕ) : Type 0 where
   pub verdict : IsVerdict G Profile bytes (line_of judgment)
   pub breaks : ¬ (KeepsLayout judgment)
 
--- Of these instructions all are asked for, or those of one function that there is.
-pub data HasPart (G : Table) (bytes : List ℕ) (is : List PlainInst) : Option ℕ → Type 0 where
-  whole : HasPart G bytes is None
-  part : (id : ℕ) → AreLaidOut G bytes → has_function is id ≡ true → HasPart G bytes is (Some id)
+-- Where a function is asked for, functions can be told apart.
+abbrev pub AreLaidOutFor : Table → List ℕ → Option Chosen → Type 0
+AreLaidOutFor G bytes None = Unit {0}
+AreLaidOutFor G bytes (Some chosen) = AreLaidOut G bytes
 
 -- No text is written of the bytes: they are no words; they are those of no list of instructions, and the beginning of
 -- one is not shown; or a function is asked for, and where one begins and ends cannot be told.
-pub data HasNoText (how : View) (G : Table) (bytes : List ℕ) : Option ℕ → Type 0 where
-  wordless : (function : Option ℕ) → ((order : Order) (words : List ℕ) → ¬ (IsModule order bytes words))
+pub data HasNoText (how : View) (G : Table) (bytes : List ℕ) : Option Chosen → Type 0 where
+  wordless : (function : Option Chosen) → ((order : Order) (words : List ℕ) → ¬ (IsModule order bytes words))
       → HasNoText how G bytes function
-  unlisted : (function : Option ℕ) → shows_beginning how function ≡ false
+  unlisted : (function : Option Chosen) → shows_beginning how function ≡ false
       → ((m : Module) → ¬ (AreListed G bytes m)) → HasNoText how G bytes function
-  mislaid : (id : ℕ) → AreMislaid G bytes → HasNoText how G bytes (Some id)
+  mislaid : (chosen : Chosen) → AreMislaid G bytes → HasNoText how G bytes (Some chosen)
 
 -- what the graph marks: the instruction of the fault and the labels of the blocks of its walk
 abbrev pub mark_in : annotate.Finding → graph.Finding → Type 0
@@ -139,29 +159,29 @@ pub record IsTextOf (how : View) (G : Table) (function : Option ℕ) (bytes : Li
   pub written : IsWritten how G m finding function text
 
 -- This is what is written of all of these bytes, under the grammar table, and whether it is the text of a whole module.
-pub data IsViewing (how : View) (G : Table) (function : Option ℕ) (bytes : List ℕ) : List ℕ → Bool → Type 0 where
+pub data IsViewing (how : View) (G : Table) (function : Option Chosen) (bytes : List ℕ) : List ℕ → Bool
+    → Type 0 where
   -- there is none: their verdict line
   judged : (line : List ℕ) → HasNoText how G bytes function → IsVerdict G Profile bytes line
       → IsViewing how G function bytes line false
   -- they are those of no list of instructions: the instructions before the one that is malformed, and what explains it
   begun : (m : Module) (text : List ℕ) → shows_beginning how function ≡ true → AreBegun G bytes m
-      → IsTextOf how G function bytes m text
-      → IsViewing how G function bytes text false
+      → IsTextOf how G None bytes m text → IsViewing how G function bytes text false
   -- there is one, and it has the function that is asked for
-  viewed : (m : Module) (text : List ℕ) → AreListed G bytes m → HasPart G bytes (plain_insts m) function
-      → IsTextOf how G function bytes m text
+  viewed : (m : Module) (id : Option ℕ) (text : List ℕ) → AreListed G bytes m → AreLaidOutFor G bytes function
+      → IsPart (plain_insts m) function id → IsTextOf how G id bytes m text
       → IsViewing how G function bytes text true
 
 -- A writer that held the bytes `old` now also holds what is written of the bytes, and nothing else; the answer tells
 -- whether it is the text of a module.
-pub record Views (how : View) (G : Table) (function : Option ℕ) (bytes old : List ℕ) (new : Option (List ℕ))
+pub record Views (how : View) (G : Table) (function : Option Chosen) (bytes old : List ℕ) (new : Option (List ℕ))
     (answer : Bool) : Type 0 where
   pub output : List ℕ
   pub viewing : IsViewing how G function bytes output answer
   pub written : new ≡ Some (old ++ output)
 
 -- A writer that held the bytes `old` now also holds a beginning of what is written, and nothing else.
-pub record BeginsViewing (how : View) (G : Table) (function : Option ℕ) (bytes old : List ℕ)
+pub record BeginsViewing (how : View) (G : Table) (function : Option Chosen) (bytes old : List ℕ)
     (new : Option (List ℕ)) : Type 0 where
   pub output : List ℕ
   pub answer : Bool
@@ -170,8 +190,16 @@ pub record BeginsViewing (how : View) (G : Table) (function : Option ℕ) (bytes
   pub fits : count ≤ length output
   pub written : new ≡ Some (old ++ take count output)
 
--- A function is asked for, and the bytes are a module in which functions can be told apart, and which has none of that
--- id.
-pub data LacksFunction (G : Table) (bytes : List ℕ) : Option ℕ → Type 0 where
-  lacks : (id : ℕ) (m : Module) → AreListed G bytes m → AreLaidOut G bytes
-      → has_function (plain_insts m) id ≡ false → LacksFunction G bytes (Some id)
+-- A function is asked for, and the bytes are a module in which functions can be told apart, and which has no such one.
+pub record LacksFunction (G : Table) (bytes : List ℕ) (function : Option Chosen) : Type 0 where
+  pub of : Module
+  pub listed : AreListed G bytes of
+  pub laid : AreLaidOutFor G bytes function
+  pub none : IsNoPart (plain_insts of) function
+
+-- The same, and the function is asked for by a name that several have.
+pub record NamesSeveral (G : Table) (bytes : List ℕ) (function : Option Chosen) : Type 0 where
+  pub of : Module
+  pub listed : AreListed G bytes of
+  pub laid : AreLaidOutFor G bytes function
+  pub several : AreParts (plain_insts of) function

@@ -11,22 +11,26 @@ ghost use Rattle.spv_module.specs.declared.fault.Rule.TheVariants.{D1, L2};
 ghost use Rattle.spv_check.specs.Verdict.{line_end};
 ghost use Rattle.spv_check.specs.declared.verdict_line.Judgment.TheVariants.{Broken, Valid};
 ghost use Rattle.spv_views.specs.Finding.{told_by};
-ghost use Rattle.spv_views.specs.View.{AreBegun, BeginsViewing, KeepsLayout, LacksFunction, Views, shows_beginning};
+ghost use Rattle.spv_names.specs.declared.chosen.Chosen.{Chosen};
+ghost use Rattle.spv_names.specs.declared.chosen.Chosen.TheVariants.{Id};
+ghost use Rattle.spv_views.specs.View.{AreBegun, BeginsViewing, KeepsLayout, LacksFunction, NamesSeveral, Views};
+ghost use Rattle.spv_views.specs.View.{shows_beginning};
 ghost use Rattle.spv_views.specs.declared.view.View.{View};
 ghost use Rattle.spv_views.specs.declared.view.View.TheVariants.{Graph, Text};
 
 /// Worked examples of what is written of bytes.
 pub fn view_examples()
     // A writer that held the byte 9 got the line of three bytes, which are no module and have nothing to look at.
-    ensures views { (G : Table) (how : View) (function : Option ℕ) → Views how G function (1 ∷ 2 ∷ 3 ∷ []) (9 ∷ [])
+    ensures views { (G : Table) (how : View) (function : Option Chosen) → Views how G function (1 ∷ 2 ∷ 3 ∷ []) (9 ∷ [])
         (Some (9 ∷ codes "fault W2" ++ line_end)) false }
-    ensures views_none { (G : Table) (how : View) (function : Option ℕ) (new : Option (List ℕ))
+    ensures views_none { (G : Table) (how : View) (function : Option Chosen) (new : Option (List ℕ))
         → ¬ (Views how G function (1 ∷ 2 ∷ 3 ∷ []) [] new true) }
     // The first five bytes of that line.
-    ensures begins { (G : Table) (how : View) (function : Option ℕ)
+    ensures begins { (G : Table) (how : View) (function : Option Chosen)
         → BeginsViewing how G function (1 ∷ 2 ∷ 3 ∷ []) (9 ∷ []) (Some (9 ∷ codes "fault")) }
-    // No function is missed in bytes that are no module.
-    ensures no_function { (G : Table) (function : Option ℕ) → ¬ (LacksFunction G (1 ∷ 2 ∷ 3 ∷ []) function) }
+    // No function is missed in bytes that are no module, and no name is that of two.
+    ensures no_function { (G : Table) (function : Option Chosen) → ¬ (LacksFunction G (1 ∷ 2 ∷ 3 ∷ []) function) }
+    ensures no_functions { (G : Table) (function : Option Chosen) → ¬ (NamesSeveral G (1 ∷ 2 ∷ 3 ∷ []) function) }
 {
     spv_words::laws::examples();
     spv_words::laws::one_refusal();
@@ -40,7 +44,7 @@ pub fn beginning_examples()
     // It is shown as a text, and not as a graph, nor of a function.
     ensures text { (color : Bool) → shows_beginning (Text color) None ≡ true }
     ensures graph { shows_beginning Graph None ≡ false }
-    ensures part { (color : Bool) → shows_beginning (Text color) (Some 3) ≡ false }
+    ensures part { (color : Bool) → shows_beginning (Text color) (Some (Id 3)) ≡ false }
 {}
 
 /// Worked examples of what is told of a fault.

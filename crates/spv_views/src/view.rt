@@ -18,9 +18,12 @@ pub enum ViewError {
     /// A read or a write failed.
     #[error("a read or a write failed")]
     Failed,
-    /// The function that is asked for is none of the module.
-    #[error("the id is the result of no function")]
+    /// The function that is asked for is none of the module: its id is the result of none, or its name that of none.
+    #[error("the id is the result of no function, or the name that of none")]
     NoFunction,
+    /// The name of the function that is asked for is that of several.
+    #[error("several functions have the name")]
+    SeveralFunctions,
     /// A growth of memory was refused.
     #[error("out of memory")]
     Memory,

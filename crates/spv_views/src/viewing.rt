@@ -1,7 +1,7 @@
 //! What is written of the bytes of a stream for people to look at.
 ghost use Rattle.std.specs.Prelude.{◌≡◌, ◌≢◌, ◌≤◌, ◌⊎◌, ◌↔◌, ◌++◌, [], ℕ, List, Some};
 ghost use Rattle.std.specs.Prelude.{IfErr, IfOk, IfSome, IsErr, IsErrOf, IsTrue, None, OnOk, drop, length};
-ghost use Rattle.std.specs.Prelude.{string_bytes, take};
+ghost use Rattle.std.specs.Prelude.{false, string_bytes, take, true};
 ghost use Rattle.std.specs.Io.KnownBytes.{Appends};
 ghost use Rattle.spv_words.specs.Header.{IsModule};
 ghost use Rattle.spv_words.specs.declared.words.Order.{Order};
@@ -17,24 +17,26 @@ ghost use Rattle.spv_check.specs.Outcome.{HasFailed, IsUntouched, OfKnown};
 ghost use Rattle.spv_fault_lines.specs.declared.fact.Detail.TheVariants.{Short};
 ghost use Rattle.spv_explain.specs.Stream.{IsExplanation};
 ghost use Rattle.spv_annotate.specs.Document.{IsSpelled};
-ghost use Rattle.spv_views.specs.View.{BeginsViewing, IsBlockGraph, IsViewing, IsWritten, KeepsLayout, LacksFunction};
+ghost use Rattle.spv_views.specs.View.{BeginsViewing, IsBlockGraph, IsPart, IsViewing, IsWritten, KeepsLayout};
 ghost use Rattle.spv_views.specs.View as view;
-ghost use Rattle.spv_views.specs.View.{Views};
+ghost use Rattle.spv_views.specs.View.{LacksFunction, NamesSeveral, Views};
 ghost use Rattle.spv_views.specs.inner.Beginning.{IsBegun};
 ghost use Rattle.spv_views.specs.inner.Viewed as viewed;
-ghost use Rattle.spv_views.specs.inner.Viewed.{IsReading, IsWrittenBy, is_text, output_of, viewed_refusal};
+ghost use Rattle.spv_views.specs.inner.Viewed.{IsLaid, IsMislaid, IsReading, IsWrittenBy, WhyNoPart, is_text};
+ghost use Rattle.spv_views.specs.inner.Viewed.{output_of, viewed_refusal};
 ghost use Rattle.spv_views.specs.declared.view.ViewError.TheVariants as trouble;
 
 use crate::beginning::beginning_of;
 use crate::finding::{found_in, lent};
 use crate::view::{View, ViewError};
-use spv_annotate::{Finding, annotate, has_function, page, walk_labels};
+use spv_annotate::{Finding, annotate, page, walk_labels};
 use spv_check::{Judgment, line_for};
 use spv_explain::{Detail, Explanation, Told, explained};
 use spv_inst::{decode, one_listing};
 use spv_layout::laws::word_counts;
 use spv_lines::shown_reads_back;
 use spv_module::{Module, Rule, Stop};
+use spv_names::{Chosen, NameError, function_of, has_function};
 use spv_pictures::{block_graph, call_graph};
 use spv_table::Table;
 use spv_words::{Image, Sink, Source, WordError, read_image, write_all};
@@ -173,8 +175,8 @@ fn text_of(
 }
 
 /// Whether the beginning of a module is shown, where its words are no list of instructions.
-fn shows_beginning(how: View<'_>, function: Option<u32>) -> bool
-    ensures { result ≡ view.shows_beginning how.entry function }
+fn shows_beginning(how: View<'_>, function: Option<Chosen<'_>>) -> bool
+    ensures { result ≡ view.shows_beginning how.entry function.entry }
 {
     match (how, function) {
         (View::Text { .. } | View::Page { .. }, None) => true,
@@ -218,14 +220,14 @@ fn viewed_unlisted(
     alloc: Global,
     table: &Table,
     how: View<'_>,
-    function: Option<u32>,
+    function: Option<Chosen<'_>>,
     image: &Image,
     explanation: &Explanation,
 ) -> Result<Viewed, ViewError>
     requires { (is : List PlainInst) → ¬ (IsListing table.now is (drop 5 image.now)) }
     ensures viewed { (bytes : List ℕ) (order : Order) → IsModule order bytes image.now
         → IsExplanation Short table.now Profile bytes explanation.now
-        → IfOk result (λ v. IsViewing how.entry table.now function bytes (output_of v) (is_text v)) }
+        → IfOk result (λ v. IsViewing how.entry table.now function.entry bytes (output_of v) (is_text v)) }
     ensures only { IfErr result (λ e. e ≡ trouble.Memory) }
 {
     spv_words::laws::one_word_list();
@@ -236,22 +238,51 @@ fn viewed_unlisted(
     Ok(Viewed::Beginning(text))
 }
 
+/// Whether a function is asked for, and by the verdict functions cannot be told apart.
+fn is_mislaid(function: Option<Chosen<'_>>, judgment: Judgment) -> bool
+    ensures mislaid { result ≡ true → IsMislaid function.entry judgment }
+    ensures laid { result ≡ false → IsLaid function.entry judgment }
+{
+    match function {
+        Some(_) => !keeps_layout(judgment),
+        None => false,
+    }
+}
+
+/// The id of the function that is asked for, if one is.
+fn id_in(module: &Module<'_>, function: Option<Chosen<'_>>) -> Result<Option<u32>, ViewError>
+    ensures part { IfOk result (λ id. IsPart (plain_insts «module».now) function.entry id) }
+    ensures why { IfErr result (WhyNoPart (plain_insts «module».now) function.entry) }
+{
+    let Some(chosen) = function else {
+        return Ok(None);
+    };
+    match function_of(module.insts.as_slice(), chosen) {
+        Ok(id) if has_function(module.insts.as_slice(), id) => Ok(Some(id)),
+        Ok(_) | Err(NameError::Absent) => Err(ViewError::NoFunction),
+        Err(NameError::Several) => Err(ViewError::SeveralFunctions),
+    }
+}
+
 /// What is written of a module, with what explains its verdict, or the verdict line.
 fn viewed_told(
     alloc: Global,
     table: &Table,
     how: View<'_>,
-    function: Option<u32>,
+    function: Option<Chosen<'_>>,
     image: &Image,
     told: &Told<'_>,
 ) -> Result<Viewed, ViewError>
     requires { IsReading table.now image.now told.now }
     ensures viewed { (bytes : List ℕ) (order : Order) → IsModule order bytes image.now
         → IsExplanation Short table.now Profile bytes told.now.explanation
-        → IfOk result (λ v. IsViewing how.entry table.now function bytes (output_of v) (is_text v)) }
+        → IfOk result (λ v. IsViewing how.entry table.now function.entry bytes (output_of v) (is_text v)) }
     ensures stranger { (bytes : List ℕ) (order : Order) → IsModule order bytes image.now
         → IsExplanation Short table.now Profile bytes told.now.explanation
-        → IsErrOf result trouble.NoFunction → LacksFunction table.now bytes function }
+        → IsErrOf result trouble.NoFunction → LacksFunction table.now bytes function.entry }
+    ensures several { (bytes : List ℕ) (order : Order) → IsModule order bytes image.now
+        → IsExplanation Short table.now Profile bytes told.now.explanation
+        → IsErrOf result trouble.SeveralFunctions → NamesSeveral table.now bytes function.entry }
     ensures only { IfErr result (λ e. e ≢ trouble.Failed) }
 {
     shown_reads_back();
@@ -259,15 +290,11 @@ fn viewed_told(
     let Some(module) = &told.module else {
         return viewed_unlisted(alloc, table, how, function, image, &told.explanation);
     };
-    if let Some(id) = function {
-        if !keeps_layout(told.explanation.judgment) {
-            return Ok(Viewed::Line(told.explanation.judgment));
-        }
-        if !has_function(module, id) {
-            return Err(ViewError::NoFunction);
-        }
+    if is_mislaid(function, told.explanation.judgment) {
+        return Ok(Viewed::Line(told.explanation.judgment));
     }
-    let text = text_of(alloc, table, how, function, module, &told.explanation)?;
+    let id = id_in(module, function)?;
+    let text = text_of(alloc, table, how, id, module, &told.explanation)?;
     Ok(Viewed::Text(text))
 }
 
@@ -275,18 +302,21 @@ fn viewed_told(
 ///
 /// # Errors
 ///
-/// `NoFunction`: the id is the result of no OpFunction. `Memory`: a growth of memory was refused. There is no other.
+/// `NoFunction`: the id is the result of no OpFunction, or the name that of none. `SeveralFunctions`: the name is that of
+/// several. `Memory`: a growth of memory was refused. There is no other.
 pub fn view_image(
     alloc: Global,
     table: &Table,
     how: View<'_>,
-    function: Option<u32>,
+    function: Option<Chosen<'_>>,
     image: &Image,
 ) -> Result<Viewed, ViewError>
     ensures viewed { (bytes : List ℕ) (order : Order) → IsModule order bytes image.now
-        → IfOk result (λ v. IsViewing how.entry table.now function bytes (output_of v) (is_text v)) }
+        → IfOk result (λ v. IsViewing how.entry table.now function.entry bytes (output_of v) (is_text v)) }
     ensures stranger { (bytes : List ℕ) (order : Order) → IsModule order bytes image.now
-        → IsErrOf result trouble.NoFunction → LacksFunction table.now bytes function }
+        → IsErrOf result trouble.NoFunction → LacksFunction table.now bytes function.entry }
+    ensures several { (bytes : List ℕ) (order : Order) → IsModule order bytes image.now
+        → IsErrOf result trouble.SeveralFunctions → NamesSeveral table.now bytes function.entry }
     ensures only { IfErr result (λ e. e ≢ trouble.Failed) }
 {
     let _words = image.len();
@@ -301,13 +331,15 @@ fn viewed_on<R: Source>(
     alloc: Global,
     table: &Table,
     how: View<'_>,
-    function: Option<u32>,
+    function: Option<Chosen<'_>>,
     r: &mut R,
 ) -> Result<Viewed, ViewError>
     ensures known { IfSome (R.remaining r.old)
-        (λ bytes. IfOk result (λ v. IsViewing how.entry table.now function bytes (output_of v) (is_text v))) }
+        (λ bytes. IfOk result (λ v. IsViewing how.entry table.now function.entry bytes (output_of v) (is_text v))) }
     ensures stranger { IsErrOf result trouble.NoFunction
-        → IfSome (R.remaining r.old) (λ bytes. LacksFunction table.now bytes function) }
+        → IfSome (R.remaining r.old) (λ bytes. LacksFunction table.now bytes function.entry) }
+    ensures several { IsErrOf result trouble.SeveralFunctions
+        → IfSome (R.remaining r.old) (λ bytes. NamesSeveral table.now bytes function.entry) }
     ensures count { HasFailed R.failures r.old r.new ↔ IsErrOf result trouble.Failed }
 {
     spv_words::laws::one_refusal();
@@ -354,36 +386,38 @@ impl Viewed {
 /// are no list of instructions the text and the page have those before the one that is malformed, and what explains
 /// that behind them; the answer is false too.
 ///
-/// With a function's id only that function is written of; of a module that breaks a rule P or L, so that its functions
+/// Where a function is chosen only that function is written of; of a module that breaks a rule P or L, so that its functions
 /// cannot be told apart, the verdict line is written then, and the answer is false. Where the module is not valid, what
 /// explains that is part of the text, and the answer is true. Nothing is written before the text is whole.
 ///
 /// # Errors
 ///
 /// `Failed`: a read or a write failed. After a failed read nothing was written, after a failed write a beginning of the
-/// output. `NoFunction`: the id is the result of no OpFunction. `Memory`: a growth of memory was refused. Nothing was
-/// written with these two.
+/// output. `NoFunction`: the id is the result of no OpFunction, or the name that of none. `SeveralFunctions`: the name is
+/// that of several. `Memory`: a growth of memory was refused. Nothing was written with these three.
 pub fn view_stream<R: Source, W: Sink>(
     alloc: Global,
     table: &Table,
     how: View<'_>,
-    function: Option<u32>,
+    function: Option<Chosen<'_>>,
     r: &mut R,
     w: &mut W,
 ) -> Result<bool, ViewError>
     // The writer has got what is written of all the bytes that the reader still gave.
     ensures viewed { OfKnown (R.remaining r.old) (W.contents w.old)
-        (λ bytes old. IfOk result (λ answer. Views how.entry table.now function bytes old (W.contents w.new) answer)) }
+        (λ bytes old. IfOk result (λ answer. Views how.entry table.now function.entry bytes old (W.contents w.new) answer)) }
     // The answer is `Failed` exactly where a read or a write failed.
     ensures count { (HasFailed R.failures r.old r.new ⊎ HasFailed W.failures w.old w.new)
         ↔ IsErrOf result trouble.Failed }
     ensures stranger { IsErrOf result trouble.NoFunction
-        → IfSome (R.remaining r.old) (λ bytes. LacksFunction table.now bytes function) }
+        → IfSome (R.remaining r.old) (λ bytes. LacksFunction table.now bytes function.entry) }
+    ensures several { IsErrOf result trouble.SeveralFunctions
+        → IfSome (R.remaining r.old) (λ bytes. NamesSeveral table.now bytes function.entry) }
     // With an error a writer that did not fail is as it was.
     ensures unwritten { IsErr result → IsUntouched W.failures w.old w.new }
     // After a failed write it has got a beginning.
     ensures begun { HasFailed W.failures w.old w.new → OfKnown (R.remaining r.old) (W.contents w.old)
-        (λ bytes old. BeginsViewing how.entry table.now function bytes old (W.contents w.new)) }
+        (λ bytes old. BeginsViewing how.entry table.now function.entry bytes old (W.contents w.new)) }
 {
     let viewed = viewed_on(alloc, table, how, function, r)?;
     match viewed.write(w) {

@@ -3,10 +3,10 @@ use Rattle.std.specs.Prelude.{◌≡◌, ◌⊎◌, ℕ, List, [], Option, Some,
 use Rattle.spv_table.specs.Table.{Table}
 use Rattle.spv_command_line.specs.declared.command_line.Command.{Command}
 use Rattle.spv_commands.specs.Output.{is_done, made_of, out_of}
-use Rattle.spv_commands.specs.Task.{Does, IsNoText, LacksAsked, LacksEntry, MakesNothing}
-use Rattle.spv_commands.specs.declared.answering.Reply.{Reply}
+use Rattle.spv_commands.specs.Task.{Does, IsAmbiguous, IsNoText, LacksAsked, LacksEntry, MakesNothing}
+use Rattle.spv_commands.specs.declared.replying.Reply.{Reply}
 use Rattle.spv_commands.specs.declared.trouble.Trouble.{Trouble}
-use Rattle.spv_commands.specs.declared.trouble.Trouble.TheVariants.{Memory, NoEntry, NoFunction, NotText}
+use Rattle.spv_commands.specs.declared.trouble.Trouble.TheVariants.{Memory, NoEntry, NoFunction, NotText, SeveralFunctions}
 
 -- a writer that held nothing gets what is written of the bytes, and no file is made
 abbrev pub Gives : (List ℕ → List ℕ → Option (List ℕ) → Bool → Type 0) → List ℕ → Reply → Type 0
@@ -26,4 +26,4 @@ IsAnswerBy command G bytes a =
 abbrev pub WhyNot : Command → Table → List ℕ → Trouble → Type 0
 WhyNot command G bytes t = ((t ≡ NotText) × IsNoText command (Some bytes))
     ⊎ ((t ≡ NoEntry) × LacksEntry command G (Some bytes)) ⊎ ((t ≡ NoFunction) × LacksAsked command G (Some bytes))
-    ⊎ (t ≡ Memory)
+    ⊎ ((t ≡ SeveralFunctions) × IsAmbiguous command G (Some bytes)) ⊎ (t ≡ Memory)

@@ -1,5 +1,5 @@
 -- How far a writer is. (For the code alone.)
-use Rattle.std.specs.Prelude.{◌≡◌, ◌⊎◌, ◌↔◌, ◌++◌, ℕ, List, [], Option, Some, None, Bool, IsTrue}
+use Rattle.std.specs.Prelude.{◌≡◌, ◌↔◌, ◌++◌, ℕ, List, Option, Bool, IsTrue}
 use Rattle.spv_commands.specs.Trouble.{Writes}
 
 -- A writer that held the bytes `old`, where they are known, has got the text, or after a failed write a beginning of

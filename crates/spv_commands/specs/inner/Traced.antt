@@ -1,10 +1,11 @@
 -- What is traced, as the code keeps it. (For the code alone.)
-use Rattle.std.specs.Prelude.{ℕ, List, Bool, true, false, Result, Ok, Err}
-use Rattle.spv_words.specs.declared.words.WordError.{WordError}
-use Rattle.spv_words.specs.declared.words.WordError.TheVariants.{W1, W9}
+use Rattle.std.specs.Prelude.{ℕ, List, Bool, true, false, Ok, Err}
+use Rattle.spv_module.specs.Operand.{PlainInst}
+use Rattle.spv_names.specs.Chosen.{IsChosen}
+use Rattle.spv_names.specs.declared.chosen.Chosen.{Chosen}
+use Rattle.spv_names.specs.declared.chosen.NameError.TheVariants.{Absent, Several}
 use Rattle.spv_run.specs.declared.parts.TraceError.{TraceError}
 use Rattle.spv_run.specs.declared.parts.TraceError.TheVariants.{NoEntry, Memory}
-use Rattle.spv_check.specs.declared.verdict_line.Judgment.TheVariants.{Refused}
 use Rattle.spv_check.specs.Text.{line_of}
 use Rattle.spv_commands.specs.Trace.{trace_text}
 use Rattle.spv_commands.specs.declared.trouble.Trouble.{Trouble}
@@ -22,13 +23,13 @@ abbrev pub is_run : Traced → Bool
 is_run (Run t) = true
 is_run (Line v) = false
 
--- a failed read and out of memory are errors, and of all other codes the line is written
-abbrev pub traced_refusal : WordError → Result Traced Trouble
-traced_refusal W1 = Err trouble.File
-traced_refusal W9 = Err trouble.Memory
-traced_refusal code = Ok (Line (Refused code))
-
 -- what the error of a trace is told as
 abbrev pub traced_stop : TraceError → Trouble
 traced_stop NoEntry = trouble.NoEntry
 traced_stop Memory = trouble.Memory
+
+-- why a function has no id
+abbrev pub WhyNotChosen : List PlainInst → Chosen → Trouble → Type 0
+WhyNotChosen is function trouble.NoEntry = IsChosen is function (Err Absent)
+WhyNotChosen is function trouble.SeveralFunctions = IsChosen is function (Err Several)
+WhyNotChosen is function t = ⊥

@@ -1,13 +1,14 @@
 //! Arrays: of ids, of names, of words and of types.
-ghost use Rattle.std.specs.Prelude.{◌≡◌, ◌++◌, ℕ, List, [], OnOk, flat_map, option_map, slice_get};
+ghost use Rattle.std.specs.Prelude.{◌≡◌, ◌++◌, ℕ, List, [], Option, OnOk, flat_map, option_map, slice_get};
 ghost use Rattle.spv_module.specs.Module.{plain_inst, plain_insts};
 ghost use Rattle.spv_lines.specs.Text.{ShownLines};
+ghost use Rattle.spv_fault_lines.specs.inner.Owned.{AreOwners};
 ghost use Rattle.spv_fault_lines.specs.json_members.Tokens.{array};
 ghost use Rattle.spv_fault_lines.specs.json_members.Members as members;
 
 use crate::json_members::objects::{push_owned, push_thing};
 use crate::json_members::output::Output;
-use crate::owners::places_in;
+use crate::owners::Owners;
 use crate::{About, Thing, listed_names, needs_of, push_capability};
 use spv_evidence::Lister;
 use spv_module::Inst;
@@ -86,22 +87,40 @@ pub fn push_things(
     out.end_array()
 }
 
-/// Adds a type that is read, and the numbers of the operands that are of it, where these are their types.
+/// Adds a type that is read, and the numbers of the operands that are of it.
 fn push_read_type(
     out: &mut Output,
     about: &About<'_, '_>,
-    operands: &[Option<u32>],
+    owners: &Owners,
     thing: Thing,
 ) -> Result<(), AllocError>
-    ensures { (shown : List (List ℕ)) → ShownLines about.now.table.now [] (plain_insts about.now.«module».now) shown
-        → OnOk result (out.new ≡ out.old ++ members.read_tokens (plain_insts about.now.«module».now) shown operands.now
+    ensures { (operands : List (Option ℕ)) (shown : List (List ℕ)) → AreOwners owners.now operands
+        → ShownLines about.now.table.now [] (plain_insts about.now.«module».now) shown
+        → OnOk result (out.new ≡ out.old ++ members.read_tokens (plain_insts about.now.«module».now) shown operands
         thing) }
 {
-    let places = places_in(about.alloc, about.thing_id(thing), operands)?;
-    push_owned(out, about, thing, &places)
+    push_owned(out, about, thing, owners.places(about.thing_id(thing)))
 }
 
-/// Adds an array of types that are read.
+/// Adds types that are read.
+fn push_read_types(
+    out: &mut Output,
+    about: &About<'_, '_>,
+    owners: &Owners,
+    things: &[Thing],
+) -> Result<(), AllocError>
+    ensures { (operands : List (Option ℕ)) (shown : List (List ℕ)) → AreOwners owners.now operands
+        → ShownLines about.now.table.now [] (plain_insts about.now.«module».now) shown
+        → OnOk result (out.new ≡ out.old ++ flat_map (members.read_tokens (plain_insts about.now.«module».now)
+        shown operands) things.now) }
+{
+    for thing in things {
+        push_read_type(out, about, owners, *thing)?;
+    }
+    Ok(())
+}
+
+/// Adds an array of types that are read, where these are the types of the operands.
 pub fn push_read(
     out: &mut Output,
     about: &About<'_, '_>,
@@ -112,10 +131,9 @@ pub fn push_read(
         → OnOk result (out.new ≡ out.old ++ array (flat_map (members.read_tokens (plain_insts about.now.«module».now)
         shown operands.now) things.now)) }
 {
+    let owners = Owners::of(about.alloc, operands)?;
     out.begin_array()?;
-    for thing in things {
-        push_read_type(out, about, operands, *thing)?;
-    }
+    push_read_types(out, about, &owners, things)?;
     out.end_array()
 }
 

@@ -4,22 +4,26 @@ use Rattle.std.specs.Prelude.{option_map}
 use Rattle.spv_table.specs.Table.{Table}
 use Rattle.spv_command_line.specs.declared.command_line.Command.{Command}
 use Rattle.spv_commands.specs.Streams.{AnyFailed, IsDone, Reading, Writing}
-use Rattle.spv_commands.specs.Task.{Does, DoesByText, IsNoText, LacksEntry}
+use Rattle.spv_commands.specs.Task.{Does, DoesByText, IsAmbiguous, IsAmbiguousByText, IsNoText, LacksEntry}
 use Rattle.spv_commands.specs.Task.{LacksAsked, LacksAskedByText, LacksEntryByText, taken_by}
 use Rattle.spv_commands.specs.Trouble.{trouble_text}
 use Rattle.spv_streams.specs.Begin.{BeginsByText, BeginsToDo}
 use Rattle.spv_streams.specs.Run.{IsErrorLine}
-use Rattle.spv_words.specs.declared.words.WordError.{WordError}
-use Rattle.spv_words.specs.declared.words.WordError.TheVariants.{W9}
 use Rattle.spv_commands.specs.declared.trouble.Trouble.{Trouble}
 use Rattle.spv_commands.specs.declared.trouble.Trouble.TheVariants.{File, Memory, NoEntry, NoFunction, NotText}
+use Rattle.spv_commands.specs.declared.trouble.Trouble.TheVariants.{SeveralFunctions}
+
+-- why a command does nothing by a table, of a file that has these bytes, if they are known
+abbrev pub IsReason : Command → Table → Option (List ℕ) → Trouble → Type 0
+IsReason command G left t = (t ≡ File) ⊎ ((t ≡ NotText) × IsNoText command left)
+    ⊎ ((t ≡ NoEntry) × LacksEntry command G left) ⊎ ((t ≡ NoFunction) × LacksAsked command G left)
+    ⊎ ((t ≡ SeveralFunctions) × IsAmbiguous command G left) ⊎ (t ≡ Memory)
 
 -- By a table.
 pub record EndsByTable (command : Command) (G : Table) (file : Reading) (out made : Writing)
     (result : Result Bool Trouble) : Type 0 where
   pub ends : IsDone (Does command G) (BeginsToDo command G) File file out made result
-  pub only : IfErr result (λ t. (t ≡ File) ⊎ ((t ≡ NotText) × IsNoText command file.left) ⊎ ((t ≡ NoEntry) × LacksEntry command G file.left)
-      ⊎ ((t ≡ NoFunction) × LacksAsked command G file.left) ⊎ (t ≡ Memory))
+  pub only : IfErr result (IsReason command G file.left)
 
 -- the file as the command takes its bytes
 abbrev pub reading_by : Command → Reading → Reading
@@ -30,7 +34,8 @@ pub record EndsByText (command : Command) (text : Option (List ℕ)) (file : Rea
     (result : Result Bool Trouble) : Type 0 where
   pub ends : IsDone (DoesByText command text) (BeginsByText command text) File file out made result
   pub reason : IfErr result (λ t. IsErrorLine text (AnyFailed file out made ⊎ IsNoText command file.left)
-      (LacksEntryByText command text file.left) (LacksAskedByText command text file.left) (trouble_text t))
+      (LacksEntryByText command text file.left) (LacksAskedByText command text file.left)
+      (IsAmbiguousByText command text file.left) (trouble_text t))
 
 -- With what is written of no file: `Whole` says of the standard output what it held and what it then holds, and `Begun`
 -- the same where a write failed.
@@ -41,8 +46,3 @@ pub record EndsUnread (Whole Begun : Option (List ℕ) → Option (List ℕ) →
   pub only : IfErr result (λ t. (t ≡ File) ⊎ (t ≡ Memory))
   pub unwritten : IsErr result → out.untouched
   pub begun : out.failed → Begun out.held out.holds
-
--- what an error of a check of a stream is told as
-abbrev pub trouble_from : WordError → Trouble
-trouble_from W9 = Memory
-trouble_from _ = File

@@ -1,9 +1,10 @@
 -- What is written, as the code keeps it. (For the code alone.)
-use Rattle.std.specs.Prelude.{◌<◌, ◌≤◌, ◌^◌, All, length, ℕ, List, Option, Bool, true, false, Result, Ok, Err, string_bytes}
+use Rattle.std.specs.Prelude.{◌<◌, ◌≤◌, ◌^◌, All, length, ℕ, List, Option, Some, None, Bool, true, false, Result, Ok, Err, string_bytes}
 use Rattle.spv_words.specs.declared.words.WordError.{WordError}
 use Rattle.spv_words.specs.declared.words.WordError.TheVariants.{W1, W9}
 use Rattle.spv_module.specs.declared.fault.Rule.{Rule}
 use Rattle.spv_module.specs.declared.fault.Rule.TheVariants as rule
+use Rattle.spv_check.specs.declared.verdict_line.Judgment.{Judgment}
 use Rattle.spv_check.specs.declared.verdict_line.Judgment.TheVariants.{Refused}
 use Rattle.spv_check.specs.Text.{line_of}
 use Rattle.spv_table.specs.Table.{Table}
@@ -14,10 +15,12 @@ use Rattle.spv_module.specs.declared.module.Module.{Module}
 use Rattle.spv_explain.specs.declared.stream.Explanation.{Explanation}
 use Rattle.spv_annotate.specs.declared.finding.Finding.{Finding}
 use Rattle.spv_views.specs.Finding.{IsFindingOf}
-use Rattle.spv_views.specs.View.{IsWritten}
+use Rattle.spv_module.specs.Operand.{PlainInst}
+use Rattle.spv_names.specs.declared.chosen.Chosen.{Chosen}
+use Rattle.spv_views.specs.View.{AreParts, IsNoPart, IsWritten, KeepsLayout}
 use Rattle.spv_views.specs.declared.view.View.{View}
 use Rattle.spv_views.specs.declared.view.ViewError.{ViewError}
-use Rattle.spv_views.specs.declared.view.ViewError.TheVariants.{Failed, Memory}
+use Rattle.spv_views.specs.declared.view.ViewError.TheVariants.{Failed, Memory, NoFunction, SeveralFunctions}
 use Rattle.spv_views.specs.declared.viewing.Viewed.{Viewed}
 use Rattle.spv_views.specs.declared.viewing.Viewed.TheVariants.{Text, Beginning, Line}
 
@@ -33,6 +36,21 @@ pub record IsWrittenBy (how : View) (G : Table) (m : Module) (e : Explanation) (
   pub finding : Option Finding
   pub of : IsFindingOf e finding
   pub written : IsWritten how G m finding function text
+
+-- A function is asked for, and by the verdict functions cannot be told apart; or they can.
+abbrev pub IsMislaid : Option Chosen → Judgment → Type 0
+IsMislaid None j = ⊥
+IsMislaid (Some chosen) j = ¬ (KeepsLayout j)
+
+abbrev pub IsLaid : Option Chosen → Judgment → Type 0
+IsLaid None j = Unit {0}
+IsLaid (Some chosen) j = KeepsLayout j
+
+-- why there is no function that is asked for
+abbrev pub WhyNoPart : List PlainInst → Option Chosen → ViewError → Type 0
+WhyNoPart is function NoFunction = IsNoPart is function
+WhyNoPart is function SeveralFunctions = AreParts is function
+WhyNoPart is function e = ⊥
 
 -- the octets that are written
 abbrev pub output_of : Viewed → List ℕ

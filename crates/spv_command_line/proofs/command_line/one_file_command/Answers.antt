@@ -10,7 +10,7 @@ pub returns-in-annotate : goal.returns-in-annotate
 returns-in-annotate c = given_by c.args.name.now (codes "annotate") (rows_of (found_of c.args.found.now)) _ _ c.annotate_in.result (search rules) c.annotate_in.ensures
 
 pub returns-in-graph : goal.returns-in-graph
-returns-in-graph c = given_by c.args.name.now (codes "graph") (rows_of (found_of c.args.found.now)) _ _ c.graph_in.result (search rules) c.graph_in.ensures
+returns-in-graph c = given_by c.args.name.now (codes "graph") (rows_of (found_of c.args.found.now)) _ _ (Ok c.graph_in.result) (search rules) c.graph_in.ensures
 
 pub returns-in-asm : goal.returns-in-asm
 returns-in-asm c = given_by c.args.name.now (codes "asm") (rows_of (found_of c.args.found.now)) _ _ c.asm_in.result (search rules) c.asm_in.ensures

@@ -5,7 +5,8 @@ use Rattle.clap.proofs.OnLiterals.{clap_on_literals}
 use Rattle.spv_command_line.specs.declared.command_line.Color.{Color}
 use Rattle.spv_command_line.specs.declared.command_line.Color.TheVariants as colors
 use Rattle.spv_command_line.specs.CommandLine.{IsColor, IsFlag, IsNoCommand, program, text_in, texts_in, name_in}
-use Rattle.spv_command_line.proofs.Asking.{no_code, none_given, number_given, not_annotated}
+use Rattle.spv_command_line.proofs.Asking.{choice_given, no_code, none_given, not_annotated}
+use Rattle.spv_names.specs.declared.chosen.Chosen.TheVariants.{Id}
 use Rattle.spv_command_line.proofs.laws.line_examples.Goals as goal
 
 -- what the text of an option comes to
@@ -73,7 +74,7 @@ red_taken = (refl, refl)
 
 red_refused : IsNoCommand None (subcommand_of program red_words)
 red_refused = subst (λ (o : Option (Text × List Row)). IsNoCommand None o) (sym red_taken.0)
-    (not_annotated None red_rows (λ function color h k. no_red (first_of (codes "color") red_rows) color red_taken.1 k))
+    (not_annotated None red_rows (λ color k. no_red (first_of (codes "color") red_rows) color red_taken.1 k))
 
 -- `check --extended a.spv`
 abbrev check_words : List Text
@@ -110,7 +111,7 @@ returns c = record {
     record {
       asked = graph_taken.1 ∙ rw n refl;
       version = unset _ graph_taken.2;
-      function_is = number_given _ (codes "4") 4 graph_taken.3 (record { some = lit≤ tt; digits = refl; is_value = refl; fits = lit≤ tt });
+      function_is = choice_given _ (codes "4") (Id 4) graph_taken.3 (record { some = lit≤ tt; digits = refl; is_value = refl; fits = lit≤ tt });
     },
   );
   annotate = λ file n. (

@@ -1,11 +1,10 @@
-use Rattle.std.proofs.Common.{◌≡◌, ℕ, Option, Some, None, codes, refl, lit≤, arith}
-use Rattle.spv_command_line.specs.Number.{IsNumberIfAny}
+use Rattle.std.proofs.Common.{◌≡◌, codes, refl, lit≤, arith}
+use Rattle.spv_command_line.specs.Number.{IsNumber}
 use Rattle.spv_command_line.proofs.Numerals.{comma_at_the_end}
 use Rattle.spv_command_line.proofs.laws.number_examples.Goals as goal
 
-no_percent : (n : Option ℕ) → ¬ (IsNumberIfAny (Some (codes "%12")) n)
-no_percent None k = k
-no_percent (Some n) k = let d = k.digits in cc
+twelve : IsNumber (codes "12") 12
+twelve = record { some = lit≤ tt; digits = refl; is_value = refl; fits = lit≤ tt }
 
 pub returns : goal.returns
 returns c = record {
@@ -15,7 +14,9 @@ returns c = record {
   too_large = λ n m. let v : 4294967296 ≡ n = m.is_value in let f = m.fits in omega (arith, v, f);
   numbers = (record { some = lit≤ tt; digits = refl; is_value = refl; fits = lit≤ tt }, (record { some = lit≤ tt; digits = refl; is_value = refl; fits = lit≤ tt }, tt));
   no_numbers = comma_at_the_end;
-  given = record { some = lit≤ tt; digits = refl; is_value = refl; fits = lit≤ tt };
-  not_given = tt;
-  none_given = no_percent;
+  by_id = twelve;
+  by_name = λ name e. (e, λ n m. let d = m.digits in cc);
+  no_name = λ name p. p.1 12 twelve;
+  not_chosen = tt;
+  none_chosen = λ e. e;
 }

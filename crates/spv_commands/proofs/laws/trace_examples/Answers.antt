@@ -30,3 +30,8 @@ pub returns-clause-no_entry : goal.returns-clause-no_entry
 returns-clause-no_entry c =
     λ G reach function h. c.one_refusal.ensures.never W2 h.valid.order _ h.valid.words h.valid.is_module
     c.examples.ensures.size_first
+
+pub returns-clause-no_several : goal.returns-clause-no_several
+returns-clause-no_several c =
+    λ G reach function h. c.one_refusal.ensures.never W2 h.valid.order _ h.valid.words h.valid.is_module
+    c.examples.ensures.size_first

@@ -1,6 +1,6 @@
-use Rattle.std.proofs.Common.{[], refl, inl, inr, arith}
+use Rattle.std.proofs.Common.{refl, inl, inr, arith}
 use Rattle.spv_commands.specs.Trouble.{memory_line}
-use Rattle.spv_streams.specs.Run.{entry, function, memory}
+use Rattle.spv_streams.specs.Run.{entry, function, memory, several}
 use Rattle.spv_streams.proofs.Worked.{nothing_breaks}
 use Rattle.spv_streams.proofs.laws.ending_examples.Goals as goal
 
@@ -19,7 +19,7 @@ returns-clause-runs c = λ command text. record {
 }
 
 pub returns-clause-refused : goal.returns-clause-refused
-returns-clause-refused c = nothing_breaks ⊥ ⊥ ⊥
+returns-clause-refused c = nothing_breaks ⊥ ⊥ ⊥ ⊥
 
 pub returns-clause-memory : goal.returns-clause-memory
 returns-clause-memory c = λ text. memory
@@ -29,3 +29,6 @@ returns-clause-no_entry c = λ text. entry tt
 
 pub returns-clause-no_function : goal.returns-clause-no_function
 returns-clause-no_function c = λ text. function tt
+
+pub returns-clause-several : goal.returns-clause-several
+returns-clause-several c = λ text. several tt

@@ -1,4 +1,4 @@
-use Rattle.std.proofs.Common.{◌≡◌, ℕ, drop}
+use Rattle.std.proofs.Common.{ℕ, drop}
 use Rattle.spv_table.specs.Table.{Table}
 use Rattle.spv_module.specs.Malformed.{IsMalformedAt}
 use Rattle.spv_module.specs.declared.fault.Rule.{Rule}

@@ -1,7 +1,6 @@
-use Rattle.std.proofs.Common.{◌≡◌, ℕ, List, [], ◌∷◌, arith, drop, refl, subst, sym}
+use Rattle.std.proofs.Common.{List, [], ◌∷◌, arith, subst, sym}
 use Rattle.spv_module.specs.Instruction.{IsListing, Listing}
 use Rattle.spv_module.specs.Malformed.{IsMalformed}
-use Rattle.spv_module.specs.Module.{plain_insts}
 use Rattle.spv_module.specs.Operand.{PlainInst}
 use Rattle.spv_module.specs.declared.fault.Rule.TheVariants.{I1}
 use Rattle.spv_views.proofs.laws.beginning_examples.Goals as goal

@@ -1,4 +1,4 @@
-use Rattle.spv_views.proofs.Viewings.{no_view, none_lacking, short_begun_viewing, short_viewed}
+use Rattle.spv_views.proofs.Viewings.{no_view, none_lacking, none_several, short_begun_viewing, short_viewed}
 use Rattle.spv_words.specs.declared.words.WordError.TheVariants.{W2}
 use Rattle.std.proofs.Common.{refl}
 use Rattle.spv_views.proofs.laws.view_examples.Goals as goal
@@ -19,4 +19,9 @@ returns-clause-views_none c = λ G how function new t.
 pub returns-clause-no_function : goal.returns-clause-no_function
 returns-clause-no_function c =
     λ G function. none_lacking G _ function
+    (λ o ws h. c.one_refusal.ensures.never W2 o _ ws h c.examples.ensures.size_first)
+
+pub returns-clause-no_functions : goal.returns-clause-no_functions
+returns-clause-no_functions c =
+    λ G function. none_several G _ function
     (λ o ws h. c.one_refusal.ensures.never W2 o _ ws h c.examples.ensures.size_first)

@@ -1,5 +1,4 @@
-use Rattle.std.proofs.Common.{◌≡◌, ◌∙◌, Some, true, false, sym}
-use Rattle.std.proofs.lemmas.Result.{IfOk-weaker}
+use Rattle.std.proofs.Common.{◌∙◌, sym}
 use Rattle.spv_views.proofs.Viewings.{begun_viewed, unlisted_line}
 use Rattle.spv_views.proofs.viewing.viewed_unlisted.Goals as goal
 
