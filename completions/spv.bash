@@ -8,17 +8,18 @@ _spv_options() {
     case $1 in
         "") echo "-h --help -V --version" ;;
         check)
-            echo "-h --help --as-1.6 --extended --grammar -H --json --with-filename --no-filename --quiet --verbose"
-            ;;
-        explain)
-            echo "-h --help --as-1.6 --extended --full --grammar -H --json --with-filename --no-filename --quiet" \
+            echo "-h --help --as-1.6 --extended --grammar -H --json --with-filename --no-filename --opencl --quiet" \
                 "--verbose"
             ;;
-        show) echo "-h --help --as-1.6 --grammar --verbose" ;;
-        annotate) echo "-h --help --as-1.6 --color --function --grammar --html --verbose" ;;
-        graph) echo "-h --help --as-1.6 --function --grammar --verbose" ;;
-        asm) echo "-h --help --big --explain --grammar --out --verbose" ;;
-        trace) echo "-h --help --as-1.6 --choices --extended --function --grammar --limit --verbose" ;;
+        explain)
+            echo "-h --help --as-1.6 --extended --full --grammar -H --json --with-filename --no-filename --opencl" \
+                "--quiet --verbose"
+            ;;
+        show) echo "-h --help --as-1.6 --grammar --opencl --verbose" ;;
+        annotate) echo "-h --help --as-1.6 --color --function --grammar --html --opencl --verbose" ;;
+        graph) echo "-h --help --as-1.6 --function --grammar --opencl --verbose" ;;
+        asm) echo "-h --help --big --explain --grammar --opencl --out --verbose" ;;
+        trace) echo "-h --help --as-1.6 --choices --extended --function --grammar --limit --opencl --verbose" ;;
         rules) echo "-h --help --json --verbose" ;;
         grammar) echo "-h --help --verbose" ;;
     esac

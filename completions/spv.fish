@@ -29,6 +29,7 @@ complete -c spv -n '__fish_seen_subcommand_from check' -l json -d 'Write a JSON 
 complete -c spv -n '__fish_seen_subcommand_from check' -s H -l with-filename -d 'Write the name of a single file too'
 complete -c spv -n '__fish_seen_subcommand_from check' -l no-filename -d 'Write no names before verdicts'
 complete -c spv -n '__fish_seen_subcommand_from check' -l quiet -d 'Write no verdict'
+complete -c spv -n '__fish_seen_subcommand_from check' -l opencl -d 'Take what a kernel of OpenCL can be, of version 1.0 to 1.6'
 complete -c spv -n '__fish_seen_subcommand_from check' -l verbose -d 'Say after the line of an error what is wrong'
 
 complete -c spv -n '__fish_seen_subcommand_from explain' -F
@@ -40,11 +41,13 @@ complete -c spv -n '__fish_seen_subcommand_from explain' -l json -d 'Write a JSO
 complete -c spv -n '__fish_seen_subcommand_from explain' -s H -l with-filename -d 'Write the name of a single file too'
 complete -c spv -n '__fish_seen_subcommand_from explain' -l no-filename -d 'Write no names before verdicts'
 complete -c spv -n '__fish_seen_subcommand_from explain' -l quiet -d 'Write no verdict'
+complete -c spv -n '__fish_seen_subcommand_from explain' -l opencl -d 'Take what a kernel of OpenCL can be, of version 1.0 to 1.6'
 complete -c spv -n '__fish_seen_subcommand_from explain' -l verbose -d 'Say after the line of an error what is wrong'
 
 complete -c spv -n '__fish_seen_subcommand_from show' -F
 complete -c spv -n '__fish_seen_subcommand_from show' -l grammar -r -F -d 'A grammar file, in JSON'
 complete -c spv -n '__fish_seen_subcommand_from show' -l as-1.6 -d 'Take a module of version 1.0 to 1.5 as one of 1.6'
+complete -c spv -n '__fish_seen_subcommand_from show' -l opencl -d 'Take a module of version 1.0 to 1.6 as it is'
 complete -c spv -n '__fish_seen_subcommand_from show' -l verbose -d 'Say after the line of an error what is wrong'
 
 complete -c spv -n '__fish_seen_subcommand_from annotate' -F
@@ -53,18 +56,21 @@ complete -c spv -n '__fish_seen_subcommand_from annotate' -l function -x -d 'The
 complete -c spv -n '__fish_seen_subcommand_from annotate' -l grammar -r -F -d 'A grammar file, in JSON'
 complete -c spv -n '__fish_seen_subcommand_from annotate' -l as-1.6 -d 'Take a module of version 1.0 to 1.5 as one of 1.6'
 complete -c spv -n '__fish_seen_subcommand_from annotate' -l html -d 'Write one HTML page'
+complete -c spv -n '__fish_seen_subcommand_from annotate' -l opencl -d 'Take what a kernel of OpenCL can be, of version 1.0 to 1.6'
 complete -c spv -n '__fish_seen_subcommand_from annotate' -l verbose -d 'Say after the line of an error what is wrong'
 
 complete -c spv -n '__fish_seen_subcommand_from graph' -F
 complete -c spv -n '__fish_seen_subcommand_from graph' -l function -x -d 'The id or the name of a function'
 complete -c spv -n '__fish_seen_subcommand_from graph' -l grammar -r -F -d 'A grammar file, in JSON'
 complete -c spv -n '__fish_seen_subcommand_from graph' -l as-1.6 -d 'Take a module of version 1.0 to 1.5 as one of 1.6'
+complete -c spv -n '__fish_seen_subcommand_from graph' -l opencl -d 'Take what a kernel of OpenCL can be, of version 1.0 to 1.6'
 complete -c spv -n '__fish_seen_subcommand_from graph' -l verbose -d 'Say after the line of an error what is wrong'
 
 complete -c spv -n '__fish_seen_subcommand_from asm' -F
 complete -c spv -n '__fish_seen_subcommand_from asm' -l big -d 'The highest byte of a word stands first'
 complete -c spv -n '__fish_seen_subcommand_from asm' -l explain -d 'Say after a fault of the text what is wrong'
 complete -c spv -n '__fish_seen_subcommand_from asm' -l grammar -r -F -d 'A grammar file, in JSON'
+complete -c spv -n '__fish_seen_subcommand_from asm' -l opencl -d 'Take a text of version 1.0 to 1.6'
 complete -c spv -n '__fish_seen_subcommand_from asm' -l verbose -d 'Say after the line of an error what is wrong'
 complete -c spv -n '__fish_seen_subcommand_from asm' -l out -r -F -d 'The module that is made'
 
@@ -74,6 +80,7 @@ complete -c spv -n '__fish_seen_subcommand_from trace' -l function -x -d "The id
 complete -c spv -n '__fish_seen_subcommand_from trace' -l grammar -r -F -d 'A grammar file, in JSON'
 complete -c spv -n '__fish_seen_subcommand_from trace' -l as-1.6 -d 'Take a module of version 1.0 to 1.5 as one of 1.6'
 complete -c spv -n '__fish_seen_subcommand_from trace' -l extended -d 'Look at ids of extended instructions too'
+complete -c spv -n '__fish_seen_subcommand_from trace' -l opencl -d 'Take what a kernel of OpenCL can be, of version 1.0 to 1.6'
 complete -c spv -n '__fish_seen_subcommand_from trace' -l verbose -d 'Say after the line of an error what is wrong'
 complete -c spv -n '__fish_seen_subcommand_from trace' -l limit -x -d 'The greatest number of steps'
 

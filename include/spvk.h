@@ -18,8 +18,9 @@
  *
  * What a valid module may still hold. No rule of the profile looks at the operands of OpExtInst after its number: there
  * a valid module may name ids that are over the bound or defined nowhere. With the flag SPVK_EXTENDED these ids are
- * looked at, and what is asked of them is said there. A loader that follows them sets it, or tests them itself. A check
- * says nothing of what the module computes, nor of the types that extended instructions take.
+ * looked at, and what is asked of them is said there. A loader that follows them sets it, or tests them itself; and so
+ * does SPVK_OPENCL, for what compilers make of OpenCL C. A check says nothing of what the module computes, nor of the
+ * types that extended instructions take.
  *
  * Memory. All of it comes from malloc, realloc and free, which must be one allocator. No call keeps a pointer that
  * it is given after it has returned. Nothing is kept between calls but what grammars and buffers hold.
@@ -29,8 +30,9 @@
  * size.
  * `spvk_check` and `spvk_explain` take time nearly linear in the module, at most 800 instructions for each word, and
  * may look at all that the module's capabilities imply in the grammar; their memory is at most 14 times the module.
- * With SPVK_AS_1_6 a call copies the bytes of the module once more, and frees the copy before it returns. With
- * SPVK_EXTENDED a module with a fault that is explained is decoded once more, in memory of at most 17 times the module.
+ * With SPVK_AS_1_6 or SPVK_OPENCL a call copies the bytes of the module once more, and frees the copy before it returns.
+ * With SPVK_EXTENDED or SPVK_OPENCL a module with a fault that is explained is decoded once more, in memory of at most 17
+ * times the module.
  * A text that `spvk_show` or `spvk_explain` makes may be as long as the longest names of the grammar times the number
  * of instructions: if the grammar or the module is untrusted, limit what malloc gives, and the call answers
  * SPVK_MEMORY. A module that `spvk_assemble` makes has at most 16,777,216 bytes; its time and memory go with the
@@ -68,7 +70,7 @@ typedef enum spvk_status {
     SPVK_NO_GRAMMAR = 2, /**< the grammar is a null pointer, was never made, or was deleted */
     SPVK_NULL = 3,       /**< a null pointer with a length that is not 0, or a null pointer to where the answer goes */
     SPVK_NOT_TEXT = 4,   /**< the text that is to be assembled is not UTF-8 */
-    SPVK_NO_FLAG = 5,    /**< a bit of the flags is set that is no flag of this header */
+    SPVK_NO_FLAG = 5,    /**< a bit of the flags is set that is no flag of this header, or two that do not go together */
     SPVK_J1 = 101,       /**< the grammar file is not JSON, or nests deeper than 127 levels */
     SPVK_J2 = 102,       /**< a key of it is missing, or something is of another sort than it must be */
     SPVK_J3 = 103,       /**< an opcode or a value is out of its range or form */
@@ -92,7 +94,7 @@ typedef enum spvk_code {
     SPVK_D1 = 401, SPVK_D2 = 402, SPVK_D3 = 403, SPVK_D4 = 404, SPVK_D5 = 405,
     SPVK_Y1 = 501, SPVK_Y2 = 502, SPVK_Y3 = 503, SPVK_Y4 = 504,
     SPVK_Y5 = 505, SPVK_Y6 = 506, SPVK_Y7 = 507, SPVK_Y8 = 508,
-    SPVK_Y9 = 509, /* with SPVK_EXTENDED alone */
+    SPVK_Y9 = 509, /* with SPVK_EXTENDED or SPVK_OPENCL alone */
     SPVK_C1 = 601, SPVK_C2 = 602,
     SPVK_M1 = 701,
     SPVK_E1 = 801, SPVK_E2 = 802,
@@ -124,6 +126,13 @@ typedef enum spvk_text_code {
  *  below the bound and defined (SPVK_D1, SPVK_D3), and nothing else is asked, not even whether the set has the
  *  instruction. No type is looked at. Loaders that follow the ids of extended instructions should set it. */
 #define SPVK_EXTENDED UINT32_C(2)
+
+/** A flag of the calls `.._with`: the module is taken for what a kernel of OpenCL can be, of version 1.0 to 1.6. Beside
+ *  the instructions of the profile there are more, as those of images, events, pipes and groups, and OpExtInst may stand
+ *  outside blocks, as debug information does (docs/PROFILE.md, "OpenCL"); extended instructions are looked at as with
+ *  SPVK_EXTENDED, which may be set beside it and then changes nothing. A module of any other version still breaks W5. The
+ *  rules are those of 1.6; SPVK_F4 is asked of a module of version 1.6 alone. It does not go with SPVK_AS_1_6. */
+#define SPVK_OPENCL UINT32_C(4)
 
 /** Stands for no instruction and no word: in the verdict on a valid module, and in one of W2 to W8. */
 #define SPVK_NOWHERE UINT32_MAX
@@ -219,6 +228,8 @@ uint32_t spvk_raw_explain_json_with(const void *held, const uint8_t *bytes, size
 uint32_t spvk_raw_show(const void *held, const uint8_t *bytes, size_t len, spvk_text *text);
 /** As `spvk_show_with` by SPVK_AS_1_6. After any status but SPVK_OK `text` is as it was. */
 uint32_t spvk_raw_show_as_1_6(const void *held, const uint8_t *bytes, size_t len, spvk_text *text);
+/** As `spvk_show_with` by SPVK_OPENCL. After any status but SPVK_OK `text` is as it was. */
+uint32_t spvk_raw_show_opencl(const void *held, const uint8_t *bytes, size_t len, spvk_text *text);
 /** As `spvk_assemble`, with the lowest byte of each word first. After any status but SPVK_OK `image` is as it was. */
 uint32_t spvk_raw_assemble_little(const void *held, const uint8_t *text, size_t len, spvk_image *image);
 /** As `spvk_assemble`, with the highest byte of each word first. After any status but SPVK_OK `image` is as it was.
@@ -273,8 +284,8 @@ static inline spvk_status spvk_grammar_default(spvk_grammar *grammar) {
  *  `at:` and the path to a place that breaks the code, as `instructions[12].operands[0].kind`, unless that is the whole
  *  file or the code is J1; `found:` and what is there, or for J1 the line and the column at which reading stopped;
  *  `wanted:` and what is wanted there. It is proved that the path leads to what was found; that the code is broken
- *  there, and what is wanted, is tested. Control characters of ASCII are written as `\xNN`. The text is read once more
- *  for it.
+ *  there, and what is wanted, is tested. Octets of control characters, and those that are none of ASCII, are written as
+ *  `\xNN`. The text is read once more for it.
  *
  *  SPVK_OK: `buffer` holds the lines, until `spvk_buffer_delete`; no bytes where the text gives a grammar. SPVK_MEMORY.
  *  SPVK_NULL: `buffer` is null, or `text` is with a `len` that is not 0. After any status but SPVK_OK `buffer` holds
@@ -292,9 +303,9 @@ static inline void spvk_grammar_delete(spvk_grammar *grammar) {
     if (grammar != NULL) spvk_raw_grammar_delete(grammar);
 }
 
-/** As `spvk_check`, by flags: SPVK_AS_1_6, SPVK_EXTENDED, or both by `|`; 0 for none.
+/** As `spvk_check`, by flags: SPVK_AS_1_6, SPVK_EXTENDED, or both by `|`, or SPVK_OPENCL; 0 for none.
  *
- *  Also SPVK_NO_FLAG: `flags` has another bit. */
+ *  Also SPVK_NO_FLAG: `flags` has another bit, or both SPVK_AS_1_6 and SPVK_OPENCL. */
 static inline spvk_status spvk_check_with(const spvk_grammar *grammar, const uint8_t *bytes, size_t len,
                                           uint32_t flags, spvk_verdict *verdict) {
     spvk_answer answer;
@@ -336,10 +347,10 @@ static inline spvk_status spvk_told_by(uint32_t (*raw)(const void *, const uint8
     return (spvk_status)status;
 }
 
-/** As `spvk_explain`, by flags: SPVK_AS_1_6, SPVK_EXTENDED, or both by `|`; 0 for none. The lines speak of the module
- *  as it was read.
+/** As `spvk_explain`, by flags: SPVK_AS_1_6, SPVK_EXTENDED, or both by `|`, or SPVK_OPENCL; 0 for none. The lines speak
+ *  of the module as it was read.
  *
- *  Also SPVK_NO_FLAG: `flags` has another bit. */
+ *  Also SPVK_NO_FLAG, as of `spvk_check_with`. */
 static inline spvk_status spvk_explain_with(const spvk_grammar *grammar, const uint8_t *bytes, size_t len,
                                             uint32_t flags, spvk_verdict *verdict, spvk_buffer *buffer) {
     return spvk_told_by(spvk_raw_explain_with, grammar, bytes, len, flags, verdict, buffer);
@@ -356,10 +367,10 @@ static inline spvk_status spvk_explain(const spvk_grammar *grammar, const uint8_
     return spvk_explain_with(grammar, bytes, len, 0, verdict, buffer);
 }
 
-/** As `spvk_explain_json`, by flags: SPVK_AS_1_6, SPVK_EXTENDED, or both by `|`; 0 for none. The object speaks of the
- *  module as it was read.
+/** As `spvk_explain_json`, by flags: SPVK_AS_1_6, SPVK_EXTENDED, or both by `|`, or SPVK_OPENCL; 0 for none. The object
+ *  speaks of the module as it was read; its member `profile` tells by which flag.
  *
- *  Also SPVK_NO_FLAG: `flags` has another bit. */
+ *  Also SPVK_NO_FLAG, as of `spvk_check_with`. */
 static inline spvk_status spvk_explain_json_with(const spvk_grammar *grammar, const uint8_t *bytes, size_t len,
                                                  uint32_t flags, spvk_verdict *verdict, spvk_buffer *buffer) {
     return spvk_told_by(spvk_raw_explain_json_with, grammar, bytes, len, flags, verdict, buffer);
@@ -379,13 +390,18 @@ static inline spvk_status spvk_explain_json(const spvk_grammar *grammar, const u
 /** What the archive shows by flags. (For this header.) */
 static inline uint32_t spvk_shown_by(const void *held, const uint8_t *bytes, size_t len, uint32_t flags,
                                      spvk_text *text) {
-    if ((flags & ~SPVK_AS_1_6) != 0) return SPVK_NO_FLAG;
-    return flags != 0 ? spvk_raw_show_as_1_6(held, bytes, len, text) : spvk_raw_show(held, bytes, len, text);
+    switch (flags) {
+    case 0: return spvk_raw_show(held, bytes, len, text);
+    case SPVK_AS_1_6: return spvk_raw_show_as_1_6(held, bytes, len, text);
+    case SPVK_OPENCL: return spvk_raw_show_opencl(held, bytes, len, text);
+    default: return SPVK_NO_FLAG;
+    }
 }
 
-/** As `spvk_show`, by flags: SPVK_AS_1_6, or 0 for none. The text then tells version 1.6.
+/** As `spvk_show`, by a flag: SPVK_AS_1_6, by which the text tells version 1.6, or SPVK_OPENCL, by which it tells that of
+ *  the module, of 1.0 to 1.6; 0 for none.
  *
- *  Also SPVK_NO_FLAG: `flags` has another bit, as SPVK_EXTENDED is: no rule but of W or I is asked here. */
+ *  Also SPVK_NO_FLAG: `flags` has another bit, as SPVK_EXTENDED is, or both: no rule but of W or I is asked here. */
 static inline spvk_status spvk_show_with(const spvk_grammar *grammar, const uint8_t *bytes, size_t len,
                                          uint32_t flags, spvk_verdict *verdict, spvk_buffer *buffer) {
     return spvk_told_by(spvk_shown_by, grammar, bytes, len, flags, verdict, buffer);

@@ -5,7 +5,7 @@
     grammar = spvk.Grammar()
     with open("kernel.spv", "rb") as file:
         module = file.read()
-    verdict = grammar.check(module, extended=True)
+    verdict = grammar.check(module, opencl=True)
     if verdict:
         load(module)
     else:
@@ -13,7 +13,8 @@
 
 A grammar is made once, the built-in one of SPIR-V 1.6 or that of a grammar file, and then answers about
 any number of modules, also from several threads at the same time: the calls run without Python's global
-lock. It is let go with its last reference. By `extended` extended instructions are looked at too: loaders of
+lock. It is let go with its last reference. By `opencl` all is taken that a kernel of OpenCL can be, as compilers
+make it; without it the profile of SPIR-V 1.6. By `extended` extended instructions are looked at too: loaders of
 strangers' modules set it.
 
 The shared library is the file that the environment's SPVK_LIBRARY names, or else libspvk.so.1 beside this
@@ -55,7 +56,7 @@ _FILE = "libspvk.so.1"
 _OK, _MEMORY, _NOT_TEXT, _J1 = 0, 1, 4, 101
 _VALID, _ASSEMBLED, _S1 = 0, 0, 1201
 _NOWHERE = 0xFFFFFFFF
-_AS_1_6, _EXTENDED = 1, 2
+_AS_1_6, _EXTENDED, _OPENCL = 1, 2, 4
 
 
 class Error(Exception):
@@ -221,6 +222,7 @@ class Evidence:
     members: Mapping[str, Any] = field(repr=False, hash=False)
     rule: Optional[str] = None
     section: Optional[str] = None
+    profile: Optional[str] = None
     at: Optional[Instruction] = None
     function: Optional[int] = None
     function_name: Optional[str] = None
@@ -312,6 +314,7 @@ def _words(it: Dict[str, Any]) -> Words:
 _MEMBERS: Dict[str, Tuple[str, Callable[[Any], Any]]] = {
     "rule": ("rule", _same),
     "section": ("section", _same),
+    "profile": ("profile", _same),
     "at": ("at", _instruction),
     "function": ("function", _same),
     "functionName": ("function_name", _same),
@@ -420,6 +423,7 @@ def _library() -> ctypes.CDLL:
         "explain_json_with": (ctypes.c_uint32, [*asked, ctypes.c_uint32, to(_Text)]),
         "show": (ctypes.c_uint32, [*asked, to(_Text)]),
         "show_as_1_6": (ctypes.c_uint32, [*asked, to(_Text)]),
+        "show_opencl": (ctypes.c_uint32, [*asked, to(_Text)]),
         "assemble_little": (ctypes.c_uint32, [*asked, to(_Image)]),
         "assemble_big": (ctypes.c_uint32, [*asked, to(_Image)]),
         "buffer_delete": (None, [to(_Buffer)]),
@@ -484,9 +488,11 @@ def _held_by(buffer: _Buffer) -> bytes:
     return ctypes.string_at(buffer.data, buffer.size) if buffer.size else b""
 
 
-def _flags(as_1_6: bool, extended: bool) -> int:
+def _flags(as_1_6: bool, extended: bool, opencl: bool) -> int:
     """The flags of the library."""
-    return (_AS_1_6 if as_1_6 else 0) | (_EXTENDED if extended else 0)
+    if as_1_6 and opencl:
+        raise ValueError("as_1_6 and opencl do not go together")
+    return (_AS_1_6 if as_1_6 else 0) | (_EXTENDED if extended else 0) | (_OPENCL if opencl else 0)
 
 
 def _made(
@@ -534,6 +540,10 @@ def _octets(given: Union[bytes, bytearray, memoryview]) -> bytes:
     return given if isinstance(given, bytes) else memoryview(given).tobytes()
 
 
+# The call that shows a module, by the flag that is set.
+_SHOW = {0: _C.spvk_raw_show, _AS_1_6: _C.spvk_raw_show_as_1_6, _OPENCL: _C.spvk_raw_show_opencl}
+
+
 class Grammar:
     """The table of a grammar file, in the form of Khronos' spirv.core.grammar.json; without one the built-in table.
 
@@ -549,50 +559,63 @@ class Grammar:
     the ids there need it. Of the set `OpenCL.std` an id there is used as a value (D1, D3, D5, Y1, A1),
     and Y9 is broken where the set has no instruction of that number, or has one that takes fewer or more
     operands; of any other set each id is below the bound and defined (D1, D3), and nothing else is asked.
+
+    By `opencl` a module is taken for what a kernel of OpenCL can be, of version 1.0 to 1.6: beside the instructions of
+    the profile there are more, as those of images, events, pipes and groups, OpExtInst may stand outside blocks, and
+    extended instructions are looked at as by `extended`. The rules are those of 1.6; F4 is asked of a module of
+    version 1.6 alone. It does not go with `as_1_6`: ValueError.
     """
 
     def __init__(self, text: Optional[bytes] = None) -> None:
         self._held = _Held(None if text is None else _octets(text))
 
-    def check(self, module: bytes, *, as_1_6: bool = False, extended: bool = False) -> Verdict:
+    def check(
+        self, module: bytes, *, as_1_6: bool = False, extended: bool = False, opencl: bool = False
+    ) -> Verdict:
         """The verdict on the bytes of a module, in either byte order."""
-        held, given = self._held, _octets(module)
-        answer = _C.spvk_raw_check_with(held.grammar.held, given, len(given), _flags(as_1_6, extended))
+        held, given, flags = self._held, _octets(module), _flags(as_1_6, extended, opencl)
+        answer = _C.spvk_raw_check_with(held.grammar.held, given, len(given), flags)
         _done(answer.status)
         return _verdict(answer)
 
-    def explain(self, module: bytes, *, as_1_6: bool = False, extended: bool = False) -> Explanation:
+    def explain(
+        self, module: bytes, *, as_1_6: bool = False, extended: bool = False, opencl: bool = False
+    ) -> Explanation:
         """The verdict on the bytes of a module, with the lines that explain it."""
         answer = _Text()
-        flags = _flags(as_1_6, extended)
+        flags = _flags(as_1_6, extended, opencl)
         lines = _made(_C.spvk_raw_explain_with, self._held, _octets(module), answer, flags)
         return Explanation(_verdict(answer), lines.decode())
 
-    def explain_json(self, module: bytes, *, as_1_6: bool = False, extended: bool = False) -> str:
+    def explain_json(
+        self, module: bytes, *, as_1_6: bool = False, extended: bool = False, opencl: bool = False
+    ) -> str:
         """The JSON object of `spv explain --json`, without a member `file`, and a line feed.
 
         docs/explain.schema.json of the library's repository is its JSON Schema.
         """
-        return self._object(module, as_1_6, extended)[1]
+        return self._object(module, as_1_6, extended, opencl)[1]
 
-    def evidence(self, module: bytes, *, as_1_6: bool = False, extended: bool = False) -> Evidence:
+    def evidence(
+        self, module: bytes, *, as_1_6: bool = False, extended: bool = False, opencl: bool = False
+    ) -> Evidence:
         """The verdict on the bytes of a module, and as values what the lines of `explain` say."""
-        return _evidence(*self._object(module, as_1_6, extended))
+        return _evidence(*self._object(module, as_1_6, extended, opencl))
 
-    def _object(self, module: bytes, as_1_6: bool, extended: bool) -> Tuple[Verdict, str]:
+    def _object(self, module: bytes, as_1_6: bool, extended: bool, opencl: bool) -> Tuple[Verdict, str]:
         """The verdict on a module, and the JSON object that explains it."""
         answer = _Text()
-        flags = _flags(as_1_6, extended)
+        flags = _flags(as_1_6, extended, opencl)
         text = _made(_C.spvk_raw_explain_json_with, self._held, _octets(module), answer, flags)
         return _verdict(answer), text.decode()
 
-    def show(self, module: bytes, *, as_1_6: bool = False) -> str:
-        """The text of a module, which need not be valid.
+    def show(self, module: bytes, *, as_1_6: bool = False, opencl: bool = False) -> str:
+        """The text of a module, which need not be valid. By `opencl` it tells the version of the module.
 
         Raises ModuleFault where its bytes are no list of instructions.
         """
         answer = _Text()
-        call = _C.spvk_raw_show_as_1_6 if as_1_6 else _C.spvk_raw_show
+        call = _SHOW[_flags(as_1_6, False, opencl)]
         text = _made(call, self._held, _octets(module), answer)
         if answer.code != _VALID:
             raise ModuleFault(_verdict(answer))

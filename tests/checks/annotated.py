@@ -12,10 +12,12 @@ import threading
 from reading.annotate import DIM, PLAIN, RED, VERDICT, Reading, differences, opencl_names, shown_of
 from reading.assemble import assembled
 from reading.facts import FUNCTION, Facts
+from reading.profiles import Profile
 from reading.text import visible
 from reading.verdict import grammar_in
 
-from .cases import all_cases, grammar, laid_out, written
+from . import opencl
+from .cases import OPENCL, all_cases, grammar, laid_out, written
 from .common import LAYERS as ALL_LAYERS
 from .common import SECONDS, TESTS, Answer, Check, difference, run
 from .json_objects import HOSTILE, quoted
@@ -83,9 +85,9 @@ def visible_in_quotes(line):
     return visible(line)
 
 
-def module_differs(program, folder, grammar_file, facts, path):
+def module_differs(program, folder, grammar_file, facts, path, flags=()):
     """None if `annotate` of a module is right, whole and of each function, else what is wrong."""
-    words = ["--grammar", grammar_file, path]
+    words = [*flags, "--grammar", grammar_file, path]
     printed = text_of(asked(program, folder, "explain", *words)).split("\n")[:-1]
     whole = asked(program, folder, "annotate", *words)
     if code_of(printed) in "WI":
@@ -104,6 +106,18 @@ def module_differs(program, folder, grammar_file, facts, path):
         else:
             wrong = wrong or lines_differ(reading, alone, function)
     return wrong
+
+
+def modules_of_opencl_read(program, folder):
+    """Those of texts of cases of `--opencl`."""
+    file, profile = TESTS / OPENCL, Profile.OPENCL
+    grammar_read, path = grammar_in(file), folder / "module.spv"
+    for name, content in opencl.written().items():
+        path.write_bytes(content)
+        wrong = module_differs(program, folder, file, Facts(grammar_read, content, profile), path, profile.flags)
+        if wrong:
+            return f"  {name}\n{wrong}"
+    return None
 
 
 def modules_read(program, folder):
@@ -245,7 +259,8 @@ def noted(program, folder):
     path.write_bytes(content)
     wrong = module_differs(program, folder, GRAMMAR, Facts(grammar_read, content), path)
     text = text_of(asked(program, folder, "annotate", path))
-    wanted = ["NaN 0x7fc00001", "NaN 0x7ff8000000000001", "NaN 0x7e00", "%17 sum", ", sqrt", "from %13 %15", "; inst 0 word 5", "ke;rnel"]
+    wanted = ["NaN 0x7fc00001", "NaN 0x7ff8000000000001", "NaN 0x7e00", "%17 sum", ", sqrt", "from %13 %15"]
+    wanted += ["; inst 0 word 5", "ke;rnel"]
     wanted += [" 171 %60 %17 2 ", " 176 %60 %17 %11 3 ", " %49 6 %60 4 ", " %51 171 %60 %17 %2 "]
     lacking = [it for it in wanted if it not in text]
     return wrong or (f"  lacks {lacking}:\n{text}" if lacking else None)
@@ -360,50 +375,30 @@ def colours_by_place(program, folder):
 
 
 # Two functions that OpName calls `same`, one that it calls 3, and one that has the name of its entry point alone.
-NAMED = '''; SPIR-V
-; Version: 1.6
-; Generator: 0
-; Bound: 12
-; Schema: 0
-OpCapability Addresses
-OpCapability Kernel
-OpMemoryModel Physical64 OpenCL
-OpEntryPoint Kernel %3 "k"
-OpEntryPoint Kernel %5 "other"
-OpName %5 "3"
-OpName %7 "same"
-OpName %9 "same"
-OpName %1 "void"
-%1 = OpTypeVoid
-%2 = OpTypeFunction %1
-%3 = OpFunction %1 None %2
-%4 = OpLabel
-OpReturn
-OpFunctionEnd
-%5 = OpFunction %1 None %2
-%6 = OpLabel
-OpReturn
-OpFunctionEnd
-%7 = OpFunction %1 None %2
-%8 = OpLabel
-OpReturn
-OpFunctionEnd
-%9 = OpFunction %1 None %2
-%10 = OpLabel
-OpReturn
-OpFunctionEnd
-'''
+NAMED = [
+    "OpCapability Addresses",
+    "OpCapability Kernel",
+    "OpMemoryModel Physical64 OpenCL",
+    'OpEntryPoint Kernel %3 "k"',
+    'OpEntryPoint Kernel %5 "other"',
+    'OpName %5 "3"',
+    'OpName %7 "same"',
+    'OpName %9 "same"',
+    'OpName %1 "void"',
+    "%1 = OpTypeVoid",
+    "%2 = OpTypeFunction %1",
+    *(line for of in (3, 5, 7, 9) for line in (f"%{of} = OpFunction %1 None %2", f"%{of + 1} = OpLabel", *ENDED)),
+]
+# What `--function` chooses by each of these names: an id, nothing, or several.
+CHOSEN = {"k": "3", "3": "3", "\N{THAI DIGIT THREE}": None, "same": "same", "void": None, "other": None}
 
 
 def by_name(program, folder):
     """A function is chosen by its name as by its id; a number is an id, and a name is that of one function."""
-    (folder / "text").write_text(NAMED, encoding="utf-8")
-    wrong = difference(Answer(b"", b"", 0), asked(program, folder, "asm", "--out", "named.spv", "text"))
-    if wrong:
-        return wrong
+    (folder / "named.spv").write_bytes(assembled(grammar_in(GRAMMAR), NAMED))
     trace = ["trace", "--limit", "9"]
     for words in ["annotate"], ["annotate", "--html"], ["graph"], trace:
-        for name, of in ("k", "3"), ("3", "3"), ("\N{THAI DIGIT THREE}", None), ("same", "same"), ("void", None), ("other", None):
+        for name, of in CHOSEN.items():
             got = asked(program, folder, *words, "--function", name, "named.spv")
             if of is None:
                 wanted = Answer(b"", b"error X1\n" if words is trace else b"error X2\n", 2)
@@ -444,6 +439,7 @@ def checks():
     """All of these."""
     found = [
         ("modules beside the second reading", modules_read, ()),
+        ("modules of --opencl beside the second reading", modules_of_opencl_read, ()),
         ("cases without comments", cases_read, ()),
         ("all that comments say", noted, ("khronos",)),
         ("names of OpenCL.std", names_of_opencl, ("khronos",)),

@@ -32,9 +32,9 @@ PROMISES = (
         (("spv_run", "tracing.rt", "trace"),),
     ),
     (
-        "What is refused by the profile is refused with --extended",
-        "The law `refused_too` of spv_verdict.",
-        (("spv_verdict", "laws.rt", "refused_too"),),
+        "What is refused by the profile is refused with --extended, and what is valid with it is a kernel of OpenCL",
+        "The laws `refused_too` and `wider_too` of spv_verdict.",
+        (("spv_verdict", "laws.rt", "refused_too"), ("spv_verdict", "laws.rt", "wider_too")),
     ),
     (
         "From words to instructions and back",
@@ -110,14 +110,26 @@ PROMISES = (
     ),
     (
         "A version in place of another",
-        "`replace_version` puts version 1.6 in place of 1.0 to 1.6 (`as_1_6`), and nothing else in place of anything.",
-        (("spv_words", "version.rt", "replace_version"),),
+        "`replace_version` puts version 1.6 in place of 1.0 to 1.6 (`as_1_6`), and nothing else in place of anything. "
+        "`minor_of` and `put_minor` read and replace the minor number of the version in bytes, `text_minor` and "
+        "`put_text_minor` in a text; `reach`, `take` and `tell` say what is read of bytes as one of the options asks for "
+        "it, how far that is looked at, and which version its text tells.",
+        (
+            ("spv_words", "version.rt", "replace_version"),
+            ("spv_scope", "minor.rt", "minor_of"),
+            ("spv_scope", "minor.rt", "put_minor"),
+            ("spv_scope", "told.rt", "text_minor"),
+            ("spv_scope", "told.rt", "put_text_minor"),
+            ("spv_scope", "scope.rt", "reach", "impl Scope"),
+            ("spv_scope", "scope.rt", "take", "impl Scope"),
+            ("spv_scope", "scope.rt", "tell"),
+        ),
     ),
     (
         "The table of a run",
-        "`table_of` answers the table that a text gives, or without a text the one that is packed in `WORDS` of "
-        "spv_builtin/src/words.rt; `grammar_text` writes it again. That `WORDS` pack the table of Khronos' grammar "
-        "file is compared by `tests/builtin`, and not proved.",
+        "`table_of` answers the table that a text gives, or without a text the one that the rows of "
+        "spv_builtin/src/constants.rt tell; `grammar_text` writes it again. That the rows tell the table of Khronos' "
+        "grammar file is compared by `tests/builtin`, and not proved.",
         (
             ("spv_builtin", "source.rt", "table_of"),
             ("spv_builtin", "text.rt", "grammar_text"),
@@ -156,7 +168,7 @@ PROMISES = (
                 ("checking.rt", "check", "check_as_1_6", "check_with"),
                 ("explaining.rt", "explain", "explain_as_1_6", "explain_with"),
                 ("objects.rt", "explain_json", "explain_json_as_1_6", "explain_json_with"),
-                ("showing.rt", "show", "show_as_1_6"),
+                ("showing.rt", "show", "show_as_1_6", "show_opencl"),
                 ("assembling.rt", "assemble_little", "assemble_big"),
                 ("buffers.rt", "buffer_delete"),
                 ("rules.rt", "rule_name", "rule_sentence", "version"),
@@ -234,7 +246,7 @@ CONSTANTS_HEAD = """## Constants of the code
 
 Besides opcodes and the tables that are named above, definitions name these constants of the code. They are to be read where they stand:"""
 
-BY_RULE = """`check` takes the words of an image, which begin with a good header, and answers `IsAnswer` of them: the checked module (`IsChecked`) or its fault (`IsFault`). It answers the former exactly where the bytes of those words are a valid module (`IsValid`): they begin with a good header (`IsModule`: the rules W), the words behind it spell a list of instructions (`IsListing`: I), and the list breaks no other rule (`IsSound`: P to G). With `--extended` the list is looked at with the operands of extended instructions (`looked_at`), and must not break Y9 either. `check_stream` writes the line of the verdict on the bytes that it reads (`IsVerdict`). That words have one verdict, and bytes one line, is proved beside them (`one_answer`, `one_verdict` and `one_first` of spv_check). Which table a grammar file gives is said in a part of its own below, and in prose in PROFILE.md. [RULES.md](RULES.md) has a line for each code, with the code that answers it, its evidence and a case.
+BY_RULE = """`check` takes the words of an image, which begin with a good header, and answers `IsAnswer` of them: the checked module (`IsChecked`) or its fault (`IsFault`). It answers the former exactly where the bytes of those words are a valid module (`IsValid`): they begin with a good header (`IsModule`: the rules W), the words behind it spell a list of instructions (`IsListing`: I), and the list breaks no other rule (`IsSound`: P to G). With `--extended` the list is looked at with the operands of extended instructions (`looked_at`), and must not break Y9 either; as a kernel of OpenCL too, whose rows and places are more (`profile_of`), and of which F4 is asked in version 1.6 alone (`fork_of`). Whoever reads for the profile may pass over what is said of OpenCL: where P1 is broken nowhere each instruction has a row of the profile, and where the layout is not either each OpExtInst stands in a block (proved, `own_profile` of spv_layout). So of the table of shapes the rows marked `opencl` never count for the profile, nor do the cases of their opcodes in the definitions of types, constants and operations. `check_stream` writes the line of the verdict on the bytes that it reads (`IsVerdict`). That words have one verdict, and bytes one line, is proved beside them (`one_answer`, `one_verdict` and `one_first` of spv_check). Which table a grammar file gives is said in a part of its own below, and in prose in PROFILE.md. [RULES.md](RULES.md) has a line for each code, with the code that answers it, its evidence and a case.
 
 The rules, and the definitions that say what is kept, or (broken) where a rule is broken:
 
@@ -355,7 +367,7 @@ OPCODES = "spv_module/src/opcode.rt"
 
 # The other constants of the code that definitions name: their files, and what they are.
 CONSTANTS = {
-    "spv_builtin/src/words.rt": "the built-in grammar, which `tests/builtin` writes from Khronos' file",
+    "spv_builtin/src/constants.rt": "the built-in grammar, which `tests/builtin` writes from Khronos' file",
     "spv_rules/src/table.rt": "of each code of a verdict its name, its number in C, what it says, the sources of that, "
     "and what breaks it",
     "spv_rules/src/errors.rt": "of each code of an error its name, what it says, the sources of that, and when it is told",
@@ -488,7 +500,7 @@ def clauses(crate, file, call, block=None):
     text = (CRATES / crate / "src" / file).read_text(encoding="utf-8")
     if block:
         inside = re.search(rf"^(?:pub )?{block} \{{.*?^\}}", text, re.S | re.M)
-        found = inside and re.search(rf"^    fn {call}\b.*?(?=\n    \{{|;\n)", inside[0], re.S | re.M)
+        found = inside and re.search(rf"^    (?:pub )?fn {call}\b.*?(?=\n    \{{|;\n)", inside[0], re.S | re.M)
     else:
         found = re.search(rf'pub (?:(?:unsafe )?extern "C" )?fn {call}\b.*?(?=\n\{{)', text, re.S)
     if not found:

@@ -23,9 +23,8 @@ LAYERS = (
     "many files",
     "library",
     "library texts",
+    "opencl",
 )
-# What the program is to have next: cases name it already, and wait. No check needs it that needs all layers.
-COMING = ("opencl",)
 SECONDS = 60
 
 
@@ -51,7 +50,7 @@ def layers_of(text):
     """The layers that a text names, joined by commas."""
     names = [name.strip() for name in text.split(",")]
     for name in names:
-        if name not in LAYERS + COMING:
+        if name not in LAYERS:
             raise Unusable(f"no layer has the name {name!r}")
     return frozenset(names)
 

@@ -1,4 +1,4 @@
-"""The lines of `explain`, judged by tests/reading, of the modules of tests/modules."""
+"""The lines of `explain`, judged by tests/reading, of the modules of tests/modules and of cases."""
 
 import subprocess
 from functools import lru_cache
@@ -7,6 +7,7 @@ from reading.judge import judged
 from reading.profiles import Profile
 from reading.verdict import grammar_in
 
+from . import opencl
 from .cases import OPENCL, written
 from .common import TESTS, Check
 from .ruled import PAGE, sentences
@@ -30,10 +31,26 @@ def sentence_of():
     return dict(sentences(PAGE.read_text(encoding="utf-8")))
 
 
+def file_of(profile):
+    """The grammar file that has what is looked at."""
+    return TESTS / OPENCL if profile == Profile.OPENCL else PROFILE
+
+
+def modules(profile, folder):
+    """The modules that are explained: those of tests/modules and of texts of cases, or those of cases of `--opencl`."""
+    paths, texts = sorted((TESTS / "modules").glob("*.spv")), written()
+    if profile == Profile.OPENCL:
+        paths, texts = [], opencl.written()
+    for name, content in texts.items():
+        paths.append(folder / f"{name}.spv")
+        paths[-1].write_bytes(content)
+    return paths
+
+
 def difference(program, path, grammar, profile=Profile.OWN):
     """None if the verdict on a module is that of `check`, and each line that explains it is true, in full too, else
     what is not; by how far it is looked at."""
-    asked, file = profile.flags, TESTS / OPENCL if profile == Profile.OPENCL else PROFILE
+    asked, file = profile.flags, file_of(profile)
     verdict = output(program, "check", *asked, "--grammar", file, path).split("\n")[:-1]
     for flags in ([], ["--full"]):
         printed = output(program, "explain", *asked, *flags, "--grammar", file, path).split("\n")[:-1]
@@ -46,14 +63,10 @@ def difference(program, path, grammar, profile=Profile.OWN):
 
 
 def explained(profile):
-    """The check that all modules of tests/modules and of texts of cases are explained by true lines."""
+    """The check that all modules are explained by true lines."""
 
     def check(program, folder):
-        grammar = grammar_in(PROFILE)
-        paths = sorted((TESTS / "modules").glob("*.spv"))
-        for name, content in written().items():
-            paths.append(folder / f"{name}.spv")
-            paths[-1].write_bytes(content)
+        grammar, paths = grammar_in(file_of(profile)), modules(profile, folder)
         wrong = [it for it in (difference(program, path, grammar, profile) for path in paths) if it]
         return "\n".join(wrong) or None
 
@@ -65,4 +78,5 @@ def checks():
     return [
         Check("explain beside the second reading", LAYERS, explained(Profile.OWN)),
         Check("explain beside the second reading, extended", LAYERS, explained(Profile.EXTENDED)),
+        Check("explain beside the second reading, opencl", LAYERS | {"opencl"}, explained(Profile.OPENCL)),
     ]

@@ -19,16 +19,19 @@ from .common import LAYERS as ALL_LAYERS
 from .common import TESTS, Answer, Check, difference, run
 from .many import NAMES, placed
 from .ruled import PAGE, meanings, sentences
-from .usage import BAD_USE, BROKEN, GRAMMAR, KERNEL, under
+from .usage import BAD_USE, BROKEN, GRAMMAR, KERNEL, TEXT, under
 
 LAYERS = frozenset(ALL_LAYERS)
 SCHEMA = TESTS.parent / "docs/explain.schema.json"
 TOOLS = frozenset({"jsonschema"})
 JSON = "--json"
 EXTENDED = "--extended"
+OPENCL = "--opencl"
+# The option by which a module is judged, and what an object says of it.
+PROFILES = {"own": [], "extended": [EXTENDED], "opencl": [OPENCL]}
 JUDGES = ("check", "explain")
 # Members that are told in the line of the verdict or of the sentence, or with another one.
-HEAD = ("file", "verdict", "code", "inst", "word", "rule", "section")
+HEAD = ("file", "verdict", "code", "inst", "word", "rule", "section", "profile")
 # A module that is refused with the operands of extended instructions alone.
 INSIDE = TESTS / "modules/inside-of-an-extended-instruction.spv"
 # How many files go into one run.
@@ -408,22 +411,42 @@ def odd_names(program, folder):
         (folder / name).write_bytes(KERNEL.read_bytes())
     for command in JUDGES:
         found = objects(judged(program, folder, command, JSON, *names).out)
-        if found != [{"file": name, "verdict": "valid"} for name in names]:
+        if found != [{"file": name, "verdict": "valid", "profile": "own"} for name in names]:
             return f"  {command}: {found}"
         found = objects(judged(program, folder, command, JSON, *(f"no {name}" for name in names)).out)
         if found != [{"file": f"no {name}", "verdict": "error", "error": "file"} for name in names]:
             return f"  {command}: {found}"
     with KERNEL.open("rb") as file:
         found = objects(judged(program, folder, "check", JSON, "-", stdin=file).out)
-    return None if found == [{"file": "-", "verdict": "valid"}] else f"  -: {found}"
+    return None if found == [{"file": "-", "verdict": "valid", "profile": "own"}] else f"  -: {found}"
 
 
 def names_that_are_no_text(program, folder):
-    """A name that is no UTF-8 is no word of the command line, as without `--json`."""
-    name = "no text \udcff.spv"
-    (folder / name).write_bytes(KERNEL.read_bytes())
-    rows = [["check", JSON, name], ["explain", JSON, KERNEL, name], ["check", name]]
-    return next(filter(None, (difference(BAD_USE, judged(program, folder, *words)) for words in rows)), None)
+    """A file whose name is no UTF-8 is not opened, and has an object, in which U+0000 stands for each octet that is
+    none; the others are judged. No file that is named otherwise is taken for it."""
+    name, beside = "no text \udcff\udc80.spv", "no text \ufffd\ufffd.spv"
+    for of in (name, beside):
+        (folder / of).write_bytes(KERNEL.read_bytes())
+    error = {"file": "no text \0\0.spv", "verdict": "error", "error": "file"}
+    for words in ["check", JSON], ["explain", JSON]:
+        for names, wanted in ([name], [error]), ([name, KERNEL], [error, {"file": str(KERNEL), "verdict": "valid"}]):
+            got = judged(program, folder, *words, *names)
+            if objects(got.out) != wanted or got.status != 2:
+                return f"  {words}: {got}"
+    line = b"no text \\x00\\x00.spv: error file\n"
+    rows = [
+        (["check", name], Answer(b"", b"error file\n", 2)),
+        (["check", name, KERNEL], Answer(f"{KERNEL}: valid\n".encode(), line, 2)),
+        (["show", name], Answer(b"", b"error file\n", 2)),
+        (["check", "--grammar", name, KERNEL], Answer(b"", b"error file\n", 2)),
+        (["asm", "--out", name, TEXT], Answer(b"", b"error file\n", 2)),
+        (["check\udcff", KERNEL], BAD_USE),
+    ]
+    wrong = next(filter(None, (difference(wanted, judged(program, folder, *words)) for words, wanted in rows)), None)
+    if wrong:
+        return wrong
+    told = judged(program, folder, "check", "--verbose", name).err
+    return None if b"the name is not UTF-8" in told else f"  {told}"
 
 
 HOSTILE = "a\"b\\c<i>d</i>&amp;{e|f}%3 ; \x01\x1b[31m\x7f\x85\u2028\r\t\n\U0001f600'`$x"
@@ -524,10 +547,17 @@ def among_options(program, folder):
                 return f"  {command} {words}\n{wrong}"
         wrong = difference(Answer(b"", b"", 1), judged(program, folder, command, JSON, "--quiet", "b.spv", "a.spv"))
         found = objects(judged(program, folder, command, JSON, "--as-1.6", "old.spv").out)
-        if wrong or found != [{"file": "old.spv", "verdict": "valid"}]:
+        if wrong or found != [{"file": "old.spv", "verdict": "valid", "profile": "own"}]:
             return wrong or f"  {command} --as-1.6: {found}"
         if objects(judged(program, folder, command, JSON, "old.spv").out)[0]["code"] != "W5":
             return f"  {command}: of another version"
+        for profile, words in PROFILES.items():
+            told = [it["profile"] for it in objects(judged(program, folder, command, JSON, *words, "a.spv", "b.spv").out)]
+            if told != [profile, profile]:
+                return f"  {command} {words}: {told}"
+        found = objects(judged(program, folder, command, JSON, EXTENDED, OPENCL, "old.spv").out)
+        if found != [{"file": "old.spv", "verdict": "valid", "profile": "opencl"}]:
+            return f"  {command} --extended --opencl: {found}"
         inside = [objects(judged(program, folder, command, JSON, *it, INSIDE).out)[0] for it in ([], [EXTENDED])]
         if [it.get("code") for it in inside] != [None, "D1"]:
             return f"  {command}: {inside}"
@@ -557,8 +587,9 @@ def rules_told(program, folder):
 def schema_refuses(_program, _folder):
     """The schema refuses what is no object of the program, so that a comparison with it says something."""
     fault = {"verdict": "fault", "code": "A1", "inst": 1, "word": 9, "rule": "A rule. [2.16]", "section": "2.16"}
+    fault["profile"] = "own"
     good = [
-        {"verdict": "valid"},
+        {"verdict": "valid", "profile": "opencl"},
         {"file": "a", "verdict": "error", "error": "memory"},
         fault,
         {**fault, "walk": [1], "operand": {"index": 2, "id": 3}, "defined": {"inst": 1, "text": "a"}},
@@ -566,7 +597,9 @@ def schema_refuses(_program, _folder):
     bad = [
         {},
         [],
-        {"verdict": "valid", "code": "A1"},
+        {"verdict": "valid", "profile": "own", "code": "A1"},
+        {"verdict": "valid"},
+        {"verdict": "valid", "profile": "other"},
         {"verdict": "error"},
         {**fault, "code": "A0"},
         {**fault, "code": "J1"},

@@ -6,19 +6,20 @@ import re
 import subprocess
 import sys
 
-from reading.conditions import WORDS
+from reading.conditions import OWN_WORDS
 from reading.decode import Grammar
 from reading.judge import judged
+from reading.object_conditions import WORDS
 from reading.profiles import Profile
 from shapes.changes import with_extended
 
-from . import typed
-from .cases import written
+from . import typed, typed_opencl
+from .cases import OPENCL, written
 from .common import LAYERS, TESTS, Check
 from .ruled import PAGE, sentences
 
 JUDGE = TESTS / "judge"
-PROFILE = TESTS / "profile.json"
+PROFILE, GRAMMAR = TESTS / "profile.json", TESTS / OPENCL
 MAY_LACK = ("fault Y2", "fault Y4", "fault Y5")
 COUNT, SEED = 600, 20_261_126
 SECONDS = 600
@@ -60,19 +61,38 @@ def of_types(folder):
     return found
 
 
-def conditions(program, folder):
-    """None if each condition of the table of types is told of some module that breaks it, and nothing untrue."""
-    names, grammar = of_types(folder), Grammar(json.loads(PROFILE.read_text(encoding="utf-8")))
+def of_types_of_opencl(folder):
+    """The modules that break the rows of `--opencl`, written into a folder: each with its name."""
+    breaks = {name: content for name, content in typed_opencl.written().items() if " breaks: " in name}
+    found = {folder / f"{number}.spv": name for number, name in enumerate(breaks)}
+    for path, name in found.items():
+        path.write_bytes(breaks[name])
+    return found
+
+
+def unlike(program, file, names, words, profile=Profile.OWN):
+    """What is untrue of what explains modules with these names, and which of some conditions is told of none."""
+    grammar = Grammar(json.loads(file.read_text(encoding="utf-8")))
     sentence_of = dict(sentences(PAGE.read_text(encoding="utf-8")))
     told, wrong = set(), []
-    found, errors = answers(program, PROFILE, list(names))
+    found, errors = answers(program, file, list(names), *profile.flags)
     for path, lines in found.items():
-        _, _, untrue = judged(grammar, sentence_of, path.read_bytes(), lines)
+        _, _, untrue = judged(grammar, sentence_of, path.read_bytes(), lines, profile=profile)
         wrong += [f"  {names[path]}: {it}" for it in untrue]
         told |= {line[len("condition: ") :] for line in lines if line.startswith("condition: ")}
     wrong += [f"  {errors}"] if errors else []
-    wrong += [f"  told of no module: {it}" for it in WORDS if it not in told]
-    return "\n".join(wrong) or None
+    return wrong + [f"  told of no module: {it}" for it in words if it not in told]
+
+
+def conditions(program, folder):
+    """None if each condition of the table of types is told of some module that breaks it, and nothing untrue."""
+    return "\n".join(unlike(program, PROFILE, of_types(folder), OWN_WORDS)) or None
+
+
+def conditions_of_opencl(program, folder):
+    """The same of the conditions that `--opencl` adds."""
+    names = of_types_of_opencl(folder)
+    return "\n".join(unlike(program, GRAMMAR, names, WORDS, Profile.OPENCL)) or None
 
 
 def spoiled(lines):
@@ -118,5 +138,6 @@ def checks():
     return [
         Check("lines of explain judged", layers, changed),
         Check("lines of explain judged: conditions", layers, conditions),
+        Check("lines of explain judged: conditions, opencl", layers | {"opencl"}, conditions_of_opencl),
         Check("lines of explain judged: what is spoiled", layers, seen),
     ]

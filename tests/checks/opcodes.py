@@ -3,7 +3,9 @@
 Both crates find the row of an opcode in a list of numbers, `NUMBERS`: of each opcode the number of
 its row, from 0, or 255 where there is none. A row is a line of the table in src/rows.rt of
 spv_layout and src/table.rt of spv_ops, and begins with its opcodes, which are named as in
-spv_module. A proof says that the lists are right; this is what writes them.
+spv_module. The rows of the last opcodes, from FAR on, are not in the list of spv_layout, which
+looks through these rows, and `NUMBERED` says how many there are before them; in that of spv_ops
+they come last, by `PLACES`. A proof says that the lists are right; this is what writes them.
 """
 
 import re
@@ -16,8 +18,12 @@ OPCODES = CRATES / "spv_module/src/opcode.rt"
 LAYOUT = CRATES / "spv_layout/src/rows.rt"
 TYPED = CRATES / "spv_ops/src/table.rt"
 NONE = 255
+FAR = 4096
+# The opcodes that have a place in the list of spv_ops, in order.
+PLACES = [*range(404), *range(4450, 4456), 5632, 5633]
 WIDTH = 95
 REMEDY = "tests/rows-of-opcodes --write makes it anew"
+NUMBERED = re.compile(r"(?m)^(const NUMBERED: usize = )\d+;$")
 NUMBERS = re.compile(r"(?m)^(pub )?static NUMBERS: \[u8; \d+\] = \[\n(    .*\n)*\];\n")
 
 
@@ -42,14 +48,18 @@ def opcodes():
     }
 
 
-ROW = re.compile(r"(?m)^ +([A-Z]\w+(?: to \w+)?(?:, \w+(?: to \w+)?)*)(?: by \w+)?:(?: |$)")
+PART = re.compile(r"(?s)\$what! \{\n(.*?)\n {8}\}\n")
+ROW = re.compile(r"(?m)^ +([A-Z]\w+(?: to \w+)?(?:,\s+\w+(?: to \w+)?)*)(?: by \w+(?: \w+)?)?:(?:\s|$)")
 OPCODES_OF = re.compile(r"(\w+)(?: to (\w+))?")
 
 
 def rows(path):
     """Of each row of a table the first and the last opcode of each group, with its number."""
     known = opcodes()
-    lines = ROW.findall(part(path, r"\$what! \{\n(.*?)\n {8}\}\n"))
+    parts = PART.findall(text(path))
+    if not parts:
+        raise Unusable(f"{path} has no table")
+    lines = [line for part in parts for line in ROW.findall(part)]
     return [
         (known[first], known[last or first], number)
         for number, line in enumerate(lines)
@@ -57,11 +67,13 @@ def rows(path):
     ]
 
 
-def list_of(rows):
+def list_of(path, rows):
     """The static with the numbers."""
-    numbers = [NONE] * (max(last for _, last, _ in rows) + 1)
+    of = {}
     for first, last, number in reversed(rows):
-        numbers[first : last + 1] = [number] * (last + 1 - first)
+        of.update(dict.fromkeys(range(first, last + 1), number))
+    near = range(max(opcode for opcode in of if opcode < FAR) + 1)
+    numbers = [of.get(opcode, NONE) for opcode in (near if path == LAYOUT else PLACES)]
     told = textwrap.fill(", ".join(map(str, numbers)) + ",", WIDTH)
     return f"static NUMBERS: [u8; {len(numbers)}] = [\n{textwrap.indent(told, '    ')}\n];\n"
 
@@ -70,10 +82,14 @@ def files():
     """Both files, with what they must hold."""
     found = {}
     for path in (LAYOUT, TYPED):
-        now, told = text(path), list_of(rows(path))
+        now, told = text(path), list_of(path, rows(path))
         if not NUMBERS.search(now):
             raise Unusable(f"{path} has no NUMBERS")
-        found[path] = NUMBERS.sub(lambda was, told=told: (was[1] or "") + told, now)
+        before = sum(last < FAR for _, last, _ in rows(path))
+        found[path] = NUMBERED.sub(
+            lambda was, before=before: f"{was[1]}{before};",
+            NUMBERS.sub(lambda was, told=told: (was[1] or "") + told, now),
+        )
     return found
 
 

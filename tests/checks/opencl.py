@@ -1,8 +1,7 @@
 """What `--opencl` takes: the answers of its cases beside the second reading, and kernels of a compiler, as they are and
 changed.
 
-The cases and kernels run once the program has the option; that the second reading answers the cases as they want is
-looked at before.
+That the second reading answers the cases as they want needs no program.
 """
 
 import shlex

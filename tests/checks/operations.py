@@ -8,14 +8,14 @@ spv_fault_lines: there 'its type' is that of the operand, here it goes by its le
 import re
 
 from .common import TESTS, Check, Unusable
-from .opcodes import CRATES, OPCODES_OF, TYPED, opcodes, part, text
+from .opcodes import CRATES, OPCODES_OF, PART, TYPED, opcodes, text
 
 PAGE = TESTS.parent / "docs/PROFILE.md"
 WORDS = CRATES / "spv_fault_lines/src/conditions.rt"
 HEAD = "| Instructions | Conditions, in order |\n|---|---|\n"
 REMEDY = "tests/operations --keep writes it"
-LINE = re.compile(r"([A-Z]\w+(?: to \w+)?(?:, \w+(?: to \w+)?)*)(?: by (\w+))?:((?:\s+\[[^\]]*\])+);")
-SEATS = {"r": "r", "o": "o", "p": "p", "q": "q", "3": "s", "4": "t", "5": "u"}
+LINE = re.compile(r"([A-Z]\w+(?: to \w+)?(?:,\s+\w+(?: to \w+)?)*)(?: by (\w+(?: \w+)?))?:((?:\s+\[[^\]]*\])+);")
+SEATS = {"r": "r", "o": "o", "p": "p", "q": "q", "3": "s", "4": "t", "5": "u", "6": "v", "7": "w", "8": "x"}
 NUMBERS = ("no value", "one value", "two values", "three values", "four values", "five values", "six values")
 ELEMENT = {True: " after the element", False: ""}
 # More opcodes than these, one after another, are told by the first and the last.
@@ -24,13 +24,17 @@ MOST = 4
 
 def words():
     """The words of each condition, by its name in the code."""
-    found = re.findall(r'(\w+)(?:\(\w+\))? =>\s*\{?\s*"([^"]*)"', text(WORDS))
-    return dict(found)
+    found = re.findall(r'(\w+)::(\w+)(?:\(\w+\))? =>\s*\{?\s*"([^"]*)"', text(WORDS))
+    return {variant if kind != "Object" else f"of {variant}": told for kind, variant, told in found}
+
+
+# Words of names that are not capitalized as others are.
+WHOLE = {"ND": "ND", "SU": "SU", "LSB": "LSB", "MSB": "MSB"}
 
 
 def name(constant):
     """The name of an opcode, by that of its constant."""
-    return "Op" + "".join(word.capitalize() for word in constant.split("_"))
+    return "Op" + "".join(WHOLE.get(word, word.capitalize()) for word in constant.split("_"))
 
 
 def group(first, last, known):
@@ -71,6 +75,26 @@ def condition(asked, told):
             return f"of each index{ELEMENT[bool(element)]}: {told['Int']}; {told['Chosen']}"
         case ["leads", *_]:
             return of(told["Leads"], "r")
+        case ["mask" | "operands" as kind, _]:
+            return told["ImageMask" if kind == "mask" else "ImageOperands"]
+        case ["sign", "of", _]:
+            return told["ImageSign"]
+        case ["block", "of", _]:
+            return told["Block"]
+        case ["sizes", "after", "block", "of", _]:
+            return told["LocalSizes"]
+        case ["locals", "of", "block", "of", _]:
+            return told["Locals"]
+        case ["constant", seat]:
+            return of("its operand is a constant", SEATS[seat]).replace("its operand", SEATS[seat])
+        case [seat, "is", "of", kind]:
+            return of(told[f"of {kind}"], SEATS[seat])
+        case [seat, "points", "to", kind]:
+            return of(told[f"of {kind}"], SEATS[seat]).replace(" is a", " is a pointer to a", 1)
+        case [seat, "is", "pipe", access]:
+            return f"{SEATS[seat]} is a pipe type of the access qualifier {('ReadOnly', 'WriteOnly')[int(access)]}"
+        case [seat, "is", "image", kind]:
+            return of(told[kind], SEATS[seat])
         case ["within", _]:
             return told["Within"].replace("the index", "each index", 1)
         case [seat, "reached", "from", value]:
@@ -83,6 +107,8 @@ def condition(asked, told):
             return "of the initializer: " + told["InitializerType"]
         case ["Component"]:
             return told["Component"].replace("the literal", "each literal", 1)
+        case ["Packed"]:
+            return of(told["Packed"], "o")
         case [rest]:
             return of(told[rest], "r")
     raise Unusable(f"{TYPED} asks {' '.join(asked)!r}, which has no words")
@@ -92,7 +118,7 @@ def table():
     """The rows of the table, as the page has them."""
     known, told = opcodes(), words()
     rows = []
-    for groups, _, asked in LINE.findall(part(TYPED, r"\$what! \{\n(.*?)\n {8}\}\n")):
+    for groups, _, asked in LINE.findall("".join(PART.findall(text(TYPED)))):
         instructions = ", ".join(group(first, last, known) for first, last in OPCODES_OF.findall(groups))
         conditions = "; ".join(condition(one.split(), told) for one in re.findall(r"\[([^\]]*)\]", asked))
         rows.append(f"| {instructions} | {conditions} |\n")

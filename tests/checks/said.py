@@ -23,7 +23,7 @@ VERBOSE = "--verbose"
 HELP = "see: spv help"
 LATER = TESTS / "modules/call-of-a-later-function.spv"
 # What asks a terminal to do something: to change its title, to clear itself, to move.
-ORDERS = ("\x1b]0;title\x07", "\x1b[2J", "\r\x1b[A", "\x7f\x08", "line\nfeed", "tab\tstop")
+ORDERS = ("\x1b]0;title\x07", "\x1b[2J", "\r\x1b[A", "\x7f\x08", "line\nfeed", "tab\tstop", "\x9b2J", "next\x85line")
 # Control characters but for the line feed: none may stand in what is said.
 CONTROLS = re.compile("[\x00-\x09\x0b-\x1f\x7f-\x9f]")
 

@@ -69,6 +69,13 @@ def no_schema():
     return None if is_there else "there is no Python module jsonschema (Debian's package python3-jsonschema)"
 
 
+def no_lintian():
+    """Why no package of Debian can be made and looked at, or None."""
+    if not (TESTS.parent / ".git").exists():
+        return "this is no clone, of whose commit packages could be made"
+    return on_path("lintian", "Debian's package lintian")()
+
+
 def no_library():
     """Why the library for C cannot be tested, or None."""
     lacking = [it for it in (library.ARCHIVE, library.OBJECT, library.shared()) if not it.is_file()]
@@ -91,6 +98,7 @@ TOOLS = {
     "jsonschema": no_schema,
     "khronos": khronos.missing,
     "library": no_library,
+    "lintian": no_lintian,
     "llvm-spirv": no_translator,
     "make": on_path("make", "Debian's package make"),
     "man": on_path("man", "Debian's package man-db"),

@@ -1,4 +1,5 @@
-"""A module for each row that `--opencl` adds to the table of types that holds it, and modules that break it.
+"""A module for each row that `--opencl` adds to the table of types that holds it, and modules that break it: what the
+program says of each, the second reading, and spirv-val.
 
 As typed.py, which says how a case is written, under opencl.json. Besides, a type may be
 
@@ -23,7 +24,7 @@ from reading.profiles import Profile
 from reading.verdict import grammar_in, verdict
 
 from . import typed
-from .common import TESTS, Answer, Check, difference, run
+from .common import TESTS, Answer, Check, difference, joined, run
 
 GRAMMAR = TESTS / "opencl.json"
 CAPABILITIES = (
@@ -272,13 +273,13 @@ IMAGES = (
     (
         "86",
         ("smp(im1(f32)): im1(f32) sampler", "smp(im2(void,sampled1)): im2(void,sampled1) sampler"),
-        ("smp(im1(f32,sampled2)): im1(f32,sampled2) sampler", "smp(im1(f32)): im1(f32) i32", "smp(im2(f32)): im1(f32) sampler", "i32: im1(f32) sampler", "smp(im1(f32)): sampler sampler"),
+        ("smp(im1(f32,sampled2)): im1(f32,sampled2) sampler", "smp(im1(f32)): im1(f32) i32", "smp(im2(f32)): im1(f32) sampler", "i32: im1(f32) sampler", "smp(im1(f32)): sampler sampler", "st(im1(f32)): im1(f32) sampler"),
     ),
     ("88", SAMPLED, NOT_SAMPLED),
     ("95", FETCHED, NOT_FETCHED),
     ("98", READ, NOT_READ),
     ("99", WRITTEN, NOT_WRITTEN),
-    ("100", ("im1(f32): smp/im1(f32)",), ("im2(f32): smp/im1(f32)", "im1(f32): im1(f32)", "i32: smp/im1(f32)")),
+    ("100", ("im1(f32): smp/im1(f32)",), ("im2(f32): smp/im1(f32)", "im1(f32): im1(f32)", "i32: smp/im1(f32)", "im1(f32): st(im1(f32))")),
     ("101 102", ("i32: im1(f32)", "i8: im5(void,access1)"), ("f32: im1(f32)", "i32: sampler", "v2(i32): im1(f32)")),
     (
         "103",
@@ -317,7 +318,7 @@ OPERATIONS = (
     (
         "149-152",
         ("st(i32,i32): i32 i32", "st(v4(i8),v4(i8)): v4(i8) v4(i8)"),
-        ("st(i32): i32 i32", "st(i32,i64): i32 i32", "i32: i32 i32", "st(f32,f32): f32 f32", "st(i32,i32): i32 i64", "st(i32,i32,i32): i32 i32", "arr2(i32): i32 i32"),
+        ("st(i32): i32 i32", "st(i32,i64): i32 i32", "i32: i32 i32", "st(f32,f32): f32 f32", "st(i32,i32): i32 i64", "st(i32,i32,i32): i32 i32", "arr2(i32): i32 i32", "fn(i32,i32): i32 i32"),
     ),
     ("154 155", ("bool: v4(bool)",), ("bool: bool", "v4(bool): v4(bool)", "bool: v4(i32)")),
     ("156-160", ("bool: f32", "v4(bool): v4(f64)"), ("bool: i32", "bool: v4(f32)", "i32: f32", "v2(bool): v4(f32)")),
@@ -346,6 +347,7 @@ GROUPS = (
             *("event: =2/i32 ptr4(st(i32)) ptr5(st(i32)) i64 i64 event", "devent: =2/i32 ptr4(i32) ptr5(i32) i64 i64 devent"),
             *("event: =2/i32 ptr4(bool) ptr5(bool) i64 i64 event", "event: =2/i32 ptr4(i32) ptr5(i32) i64 i64 i32"),
             *("event: =2/i32 ptr4(i32) ptr7(i32) i64 i64 event", "event: =2/i32 i32 ptr5(i32) i64 i64 event"),
+            "event: =2/i32 ptr4(i32) ptr5(i32) f64 i64 event",
         ),
     ),
     ("260", (": =2/i32 i32 ptr8(event)", ": =2/i32 =1/i32 ptr7(event)"), (": =2/i32 i64 ptr7(event)", ": =2/i32 i32 ptr7(i32)", ": =2/i64 i32 ptr7(event)", ": =2/i32 i32 event", ": =2/i32 i32 ptr7(devent)")),
@@ -382,7 +384,7 @@ PIPES = (
     ("281", (": pipe1 reserve i32 i32",), (": pipe0 reserve i32 i32", ": pipe1 queue i32 i32")),
     ("282", ("bool: reserve",), ("bool: event", "i32: reserve")),
     ("283 284", ("i32: pipe0 i32 i32", "i32: pipe1 i32 i32"), ("i32: i32 i32 i32", "i64: pipe0 i32 i32", "i32: pipe0 i64 i32", "i32: pipe0 i32 f32")),
-    ("285", ("reserve: =2/i32 pipe0 i32 i32 i32",), ("reserve: =2/i32 pipe1 i32 i32 i32", "reserve: =2/i64 pipe0 i32 i32 i32", "i32: =2/i32 pipe0 i32 i32 i32", "reserve: =2/i32 pipe0 i32 i64 i32")),
+    ("285", ("reserve: =2/i32 pipe0 i32 i32 i32",), ("reserve: =2/i32 pipe1 i32 i32 i32", "reserve: =2/i64 pipe0 i32 i32 i32", "i32: =2/i32 pipe0 i32 i32 i32", "reserve: =2/i32 pipe0 i32 i64 i32", "reserve: =2/i32 pipe0 i32 i32 i64")),
     ("286", ("reserve: =2/i32 pipe1 i32 i32 i32",), ("reserve: =2/i32 pipe0 i32 i32 i32", "reserve: =2/i32 pipe1 i8 i32 i32")),
     ("287", (": =2/i32 pipe0 reserve i32 i32",), (": =2/i32 pipe1 reserve i32 i32", ": =2/i64 pipe0 reserve i32 i32", ": =2/i32 pipe0 event i32 i32", ": =2/i32 pipe0 reserve i32 i64")),
     ("288", (": =2/i32 pipe1 reserve i32 i32",), (": =2/i32 pipe0 reserve i32 i32", ": =2/i32 pipe1 reserve f32 i32")),
@@ -420,6 +422,7 @@ QUEUES = (
             *(f"i64: {RANGE} {OF_BLOCK}", f"i32: st(i32,arr3(i32),arr3(i32),arr3(i32)) {OF_BLOCK}"),
             *(f"i32: st(i32,arr2(i64),arr3(i64),arr3(i64)) {OF_BLOCK}", f"i32: st(i64,arr3(i64),arr3(i64),arr3(i64)) {OF_BLOCK}"),
             *(f"i32: st(i32,arr3(i64),arr3(i64)) {OF_BLOCK}", f"i32: queue {OF_BLOCK}"),
+            f"i32: st(i32,v3(i64),arr3(i64),arr3(i64)) {OF_BLOCK}",
         ),
     ),
     ("295 296 326", (f"i32: {OF_BLOCK}", "i32: f/fn(void,ptr5(i8),i32) ptr5(i8) i32 i32"), (*(f"i32: {it}" for it in NO_BLOCKS), f"i64: {OF_BLOCK}")),
@@ -433,7 +436,7 @@ QUEUES = (
     (
         "304",
         (f"{RANGE}: i64 i64 i64", f"{RANGE}: arr2(i64) arr2(i64) arr2(i64)", f"{RANGE}: arr3(i64) arr3(i64) arr3(i64)"),
-        (f"{RANGE}: i32 i32 i32", f"{RANGE}: arr4(i64) arr4(i64) arr4(i64)", f"{RANGE}: i64 i64 arr2(i64)", f"ptr7({RANGE}): i64 i64 i64", f"{RANGE}: i64 i32 i64", f"{RANGE}: arr2(i32) arr2(i32) arr2(i32)", "i32: i64 i64 i64"),
+        (f"{RANGE}: i32 i32 i32", f"{RANGE}: arr4(i64) arr4(i64) arr4(i64)", f"{RANGE}: i64 i64 arr2(i64)", f"ptr7({RANGE}): i64 i64 i64", f"{RANGE}: i64 i32 i64", f"{RANGE}: arr2(i32) arr2(i32) arr2(i32)", "i32: i64 i64 i64", f"{RANGE}: f64 f64 f64", f"{RANGE}: v2(i64) v2(i64) v2(i64)"),
     ),
 )
 OTHERS = (
@@ -442,11 +445,6 @@ OTHERS = (
     ("321", ("i32: ptr5(st(i32,f32))", "i32: ptr7(bool)", "i32: ptr7(ptr5(event))"), ("i32: ptr7(event)", "i64: ptr5(i32)", "i32: i32", "i32: ptr0(opaque)")),
     ("328", ("barrier: i32",), ("barrier: i64", "i32: i32")),
     ("329", (": barrier =1/i32 =0/i32",), (": i32 =1/i32 =0/i32", ": barrier =1/i64 =0/i32", ": barrier =1/i32 =0/i8")),
-    (
-        "400",
-        ("st2(i32,f32): st(i32,f32)", "arr4(st2(i32)): arr4(st(i32))", "st2(arr4(st2(i32)),i8): st(arr4(st(i32)),i8)", "st2(event,v4(i32)): st(event,v4(i32))", "st2(): st()"),
-        ("st(i32): st(i32)", "st2(i32): st(i64)", "st2(i32,i32): st(i32)", "arr3(i32): arr4(i32)", "i32: i32", "v4(i32): v4(i32)", "st2(st2(i32)): st(st(i8))", "st(i32): i32", "arr2(i32): st(i32,i32)"),
-    ),
     ("401 402", ("bool: ptr5(i8) ptr5(i8)",), ("bool: ptr5(i8) ptr7(i8)", "bool: i32 i32", "i32: ptr5(i8) ptr5(i8)")),
     ("403", ("i64: ptr5(i8) ptr5(i8)", "i32: ptr7(event) ptr7(event)"), ("f32: ptr5(i8) ptr5(i8)", "i64: ptr5(i8) ptr5(i16)", "i64: i64 i64")),
     (
@@ -463,6 +461,40 @@ ROWS = (
     ("Y5", DECORATIONS, DECORATED),
     ("Y5", MODES, MODED),
     *(("Y5", BLOCK, it) for it in (IMAGES, OPERATIONS, GROUPS, PIPES, QUEUES, OTHERS)),
+)
+
+
+# Where spirv-val says something else (docs/COMPARED.md). Of these instructions it asks few types or none; of others it
+# accepts these cases.
+UNASKED = frozenset(typed.opcodes_in("69 259-271 274-288 291-304 321 324 333-366 4450-4455"))
+ACCEPTED = {
+    1: {"smp(im1(f32)):"},
+    12: {"i32: e/NonSemantic.Any #7"},
+    28: {"t/smp(im1(f32)) =1/i32"},
+    30: {"t/smp(im1(f32))"},
+    32: {"#7 t/smp(im1(f32))"},
+    33: {"t/smp(im1(f32))", "t/void t/smp(im1(f32))"},
+    45: {"sampler: #0 #2 #0"},
+    83: {"smp(im1(f32)): smp/im1(f32)"},
+    86: {"smp(im2(f32)): im1(f32) sampler"},
+    88: {NOT_SAMPLED[0], "v4(f32): smp/im1(f32) v2(f32) #4098 f32", "v4(i32): smp/im1(i32) v2(f32) #12290 f32"},
+    98: {"v4(f32): im1(f32) v2(i32) #4096"},
+    99: {": im1(f32) v2(i32) v4(f32) #8192"},
+    331: {": kernel #31", ": kernel #37 =1/f32", ": kernel #38 =1/i32 =2/i32 null/v2(i32)"},
+    332: {": var/ptr5(i32) #46 t/i32", ": var/ptr5(i32) #46 undef/i32"},
+    5632: {": var/ptr5(i32) #19", ": var/ptr5(i32) #44 #4"},
+    5633: {": t/st(i32) #0 #19", ": t/st(i32) #0 #44 #4"},
+}
+# And what it says of cases that hold.
+REFUSED = (
+    "Capability StorageImageMultisample is required",
+    "ConstantPipeStorage must appear in a block",
+    "Invalid extended instruction import",
+    "Result id of OpDecorationGroup can only be targeted by",
+    "Expected Sample for Image with MS 0",
+    "Image Operand Lod can only be used with",
+    "Debug info extension instructions other than DebugScope",
+    "has not been defined",
 )
 
 
@@ -507,6 +539,28 @@ def read(_program, _folder):
     return "\n".join(wrong) or None
 
 
+def may_differ(opcode, case, holds, said):
+    """Whether spirv-val may say something else of a case, where it accepts what breaks a row, or refuses with what it
+    says."""
+    if holds:
+        return any(it in said for it in REFUSED)
+    return opcode in UNASKED or case in ACCEPTED.get(opcode, ())
+
+
+def read_beside(_program, folder):
+    """None where spirv-val accepts the modules that hold and refuses those that break, but where it may differ."""
+    known, path, wrong = names(), folder / "module.spv", []
+    for rule, opcode, case, where, holds in cases():
+        content, _ = module(rule, opcode, case, where)
+        path.write_bytes(content)
+        words = ["spirv-val", "--target-env", f"spv1.{content[5]}", path]
+        said, status = joined(words, folder)
+        said = said.decode(errors="replace")
+        if (status == 0) != holds and not may_differ(opcode, case, holds, said):
+            wrong.append(f"  {name_of(known, rule, opcode, case, where, holds)}: {said or 'accepted'}")
+    return "\n".join(wrong) or None
+
+
 def told(content, wanted):
     """The check of the program's verdict on a module."""
 
@@ -521,9 +575,12 @@ def told(content, wanted):
 
 
 def checks():
-    """Each case, once the program has the option, and what the second reading says of all."""
+    """Each case, and what the second reading and spirv-val say of all."""
     known = names()
-    found = [Check("opencl: the second reading of the table of types", frozenset(), read)]
+    found = [
+        Check("opencl: the second reading of the table of types", frozenset(), read),
+        Check("opencl: spirv-val of the table of types", frozenset(), read_beside, frozenset({"spirv-val"})),
+    ]
     for case in cases():
         content, place = module(*case[:4])
         check = told(content, due(case[0], place, case[4]))

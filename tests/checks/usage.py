@@ -211,7 +211,8 @@ def words_that_fit_nothing(program, folder):
         ["check", "-x.spv"],
         ["rules", "A1", "A2"],
         ["rules", "A9"],
-        ["check", "\udcff"],
+        ["\udcff", KERNEL],
+        ["rules", "\udcff"],
     ]
     return answers([(words, BAD_USE) for words in lines], program, folder, env=under(GRAMMAR))
 

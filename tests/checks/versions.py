@@ -1,4 +1,5 @@
-"""Modules of other versions: `--as-1.6` answers what is answered of the same bytes with the version word replaced."""
+"""Modules of other versions: `--as-1.6` answers what is answered of the same bytes with the version word replaced, and
+`--opencl` takes versions 1.0 to 1.6, each as it is."""
 
 import struct
 import tempfile
@@ -14,6 +15,7 @@ from .usage import BAD_USE, GRAMMAR, KERNEL, MODULES, TEXT, under
 
 LAYERS = frozenset(ALL_LAYERS)
 FLAG = "--as-1.6"
+OPENCL = "--opencl"
 ORDERS = {"little": "<I", "big": ">I"}
 MAGIC = 0x07230203
 WANTED = 0x00010600
@@ -21,6 +23,8 @@ THERE_ARE = [0x00010000 + 0x100 * minor for minor in range(6)]
 THERE_ARE_NOT = [0, 1, 6, 0x00000600, 0x00010601, 0x00010001, 0x00010401, 0x00010700, 0x0001FF00, 0x00020000]
 THERE_ARE_NOT += [0x00020600, 0x01010600, 0x01010400, 0x80010600, 0x00060100, 0x00000106, 0xFFFFFFFF]
 VERSION_FAULT = b"fault W5\n"
+# What `trace` says of a module without the function.
+NO_FUNCTION = b"error X1\n"
 COMMANDS = ("check", "explain", "show", "annotate", "graph", "trace")
 EXAMPLES = ("smallest-kernel", "smallest-kernel-big-order", "value-missing-on-one-branch", "call-of-a-later-function")
 REAL = TESTS / "real"
@@ -173,6 +177,54 @@ def shown_as_1_6(program, folder):
     return None
 
 
+def each_as_it_is(program, folder):
+    """With `--opencl` versions 1.0 to 1.6 are taken: a text tells the version of its module, and gives the same bytes
+    again; other versions are W5 as ever."""
+    path, text, made = folder / "module.spv", folder / "text", folder / "made.spv"
+    for content in examples():
+        big = ["--big"] if order_of(content) == "big" else []
+        for version in [*THERE_ARE, WANTED]:
+            path.write_bytes(of_version(content, version))
+            told = f"; Version: 1.{version >> 8 & 0xff}\n".encode()
+            for command in COMMANDS:
+                got = run(program, [*words_of(command), OPENCL, path], folder, env=under(GRAMMAR))
+                if got.out.startswith(VERSION_FAULT) or got.err not in (b"", NO_FUNCTION):
+                    return f"  {command}, version {version:#010x}: {got}"
+                if command in ("show", "annotate") and got.out.count(told) != 1:
+                    return f"  {command}, version {version:#010x}: {got}"
+            text.write_bytes(run(program, ["show", OPENCL, path], folder, env=under(GRAMMAR)).out)
+            wrong = difference(
+                Answer(b"", b"", 0),
+                run(program, ["asm", OPENCL, *big, "--out", made, text], folder, env=under(GRAMMAR)),
+            )
+            if wrong or made.read_bytes() != path.read_bytes():
+                return wrong or f"  version {version:#010x}: the text gives other bytes"
+            got = run(program, ["asm", "--out", made, text], folder, env=under(GRAMMAR))
+            if (got.status == 0) != (version == WANTED):
+                return f"  asm without the option, version {version:#010x}: {got}"
+        for version in THERE_ARE_NOT:
+            path.write_bytes(of_version(content, version))
+            for command in COMMANDS:
+                got = run(program, [*words_of(command), OPENCL, path], folder, env=under(GRAMMAR))
+                if not got.out.startswith(VERSION_FAULT) or (got.err, got.status) != (b"", 1):
+                    return f"  {command}, version {version:#010x}: {got}"
+    return None
+
+
+def not_both(program, folder):
+    """`--as-1.6` and `--opencl` say different things of a version; `--extended` and `--opencl` go together."""
+    for command in COMMANDS:
+        wrong = difference(BAD_USE, run(program, [*words_of(command), FLAG, OPENCL, KERNEL], folder, env=under(GRAMMAR)))
+        if wrong:
+            return f"  {command}\n{wrong}"
+    for command in ("check", "explain"):
+        got = run(program, [command, "--extended", OPENCL, KERNEL], folder, env=under(GRAMMAR))
+        wrong = difference(Answer(b"valid\n", b"", 0), got)
+        if wrong:
+            return f"  {command}\n{wrong}"
+    return None
+
+
 def of_no_other_command(program, folder):
     """A command that takes no module has no such flag, which stands once and has no value."""
     (folder / "b").write_bytes(TEXT.read_bytes())
@@ -180,6 +232,9 @@ def of_no_other_command(program, folder):
         ["asm", FLAG, "--out", "made", "b"],
         ["rules", FLAG],
         ["grammar", FLAG],
+        ["rules", OPENCL],
+        ["grammar", OPENCL],
+        ["check", OPENCL, OPENCL, KERNEL],
         ["check", FLAG, FLAG, KERNEL],
         ["check", f"{FLAG}=1", KERNEL],
         ["check", "--as-1.5", KERNEL],
@@ -269,6 +324,8 @@ def checks():
         ("cut and spoiled", cut_and_spoiled),
         ("several files", of_several_files),
         ("shown", shown_as_1_6),
+        ("each as it is", each_as_it_is),
+        ("not both", not_both),
         ("of no other command", of_no_other_command),
         ("every case", every_case),
     ]

@@ -287,6 +287,17 @@ static int older(const spvk_grammar *grammar, file module, file text, bool big, 
     CHECK(spvk_show_with(grammar, it.bytes, it.size, SPVK_AS_1_6, &verdict, &buffer) == SPVK_OK);
     CHECK(verdict.code == SPVK_VALID && has(buffer, text));
     spvk_buffer_delete(&buffer);
+    CHECK(spvk_check_with(grammar, it.bytes, it.size, SPVK_OPENCL, &verdict) == SPVK_OK);
+    CHECK(is_verdict(verdict, SPVK_VALID, SPVK_NOWHERE, SPVK_NOWHERE));
+    CHECK(spvk_check_with(grammar, it.bytes, it.size, SPVK_OPENCL | SPVK_EXTENDED, &verdict) == SPVK_OK);
+    CHECK(verdict.code == SPVK_VALID);
+    CHECK(spvk_explain_json_with(grammar, it.bytes, it.size, SPVK_OPENCL, &verdict, &buffer) == SPVK_OK);
+    CHECK(begins(buffer, "{\"verdict\":\"valid\",\"profile\":\"opencl\"}\n"));
+    spvk_buffer_delete(&buffer);
+    CHECK(spvk_show_with(grammar, it.bytes, it.size, SPVK_OPENCL, &verdict, &buffer) == SPVK_OK);
+    CHECK(verdict.code == SPVK_VALID && buffer.size == text.size && buffer.data[22] == '0' + minor);
+    CHECK(memcmp(buffer.data, text.bytes, 22) == 0 && memcmp(buffer.data + 23, text.bytes + 23, text.size - 23) == 0);
+    spvk_buffer_delete(&buffer);
     CHECK(it.bytes[big ? 6 : 5] == minor); // what was given is not changed
     free(it.bytes);
     return 0;
@@ -375,8 +386,8 @@ typedef uint32_t raw_telling_with(const void *, const uint8_t *, size_t, uint32_
 // A call of the archive that makes a text answers what the one with flags answers.
 static int raw_texts(raw_telling *call, raw_telling_with *with, uint32_t flags, const void *held, file module) {
     spvk_text one = {{7, 8, 9}, SPVK_BUFFER_NONE}, other = {{7, 8, 9}, SPVK_BUFFER_NONE};
-    CHECK(with(held, module.bytes, module.size, flags | 4, &other) == SPVK_NO_FLAG);
-    CHECK(with(NULL, module.bytes, module.size, flags | 4, &other) == SPVK_NO_GRAMMAR);
+    CHECK(with(held, module.bytes, module.size, flags | 8, &other) == SPVK_NO_FLAG);
+    CHECK(with(NULL, module.bytes, module.size, flags | 8, &other) == SPVK_NO_GRAMMAR);
     CHECK(is_untouched(other.verdict) && is_empty(other.buffer));
     CHECK(call(held, module.bytes, module.size, &one) == SPVK_OK);
     CHECK(with(held, module.bytes, module.size, flags, &other) == SPVK_OK);
@@ -392,9 +403,9 @@ static int raw_texts(raw_telling *call, raw_telling_with *with, uint32_t flags, 
 static int raw_calls(const spvk_grammar *grammar, file module) {
     const void *held = grammar->held;
     file older = other_version(module, false, 1, 0);
-    const spvk_answer none = spvk_raw_check_with(held, module.bytes, module.size, 4);
+    const spvk_answer none = spvk_raw_check_with(held, module.bytes, module.size, 8);
     CHECK(none.status == SPVK_NO_FLAG && none.code == SPVK_NOWHERE);
-    CHECK(spvk_raw_check_with(NULL, module.bytes, module.size, 4).status == SPVK_NO_GRAMMAR);
+    CHECK(spvk_raw_check_with(NULL, module.bytes, module.size, 8).status == SPVK_NO_GRAMMAR);
     for (size_t cut = 0; cut <= 4; cut += 4) {
         const file it = {older.bytes, older.size - cut};
         CHECK(are_equal(spvk_raw_check(held, it.bytes, it.size), spvk_raw_check_with(held, it.bytes, it.size, 0)));
@@ -414,12 +425,14 @@ static int flags(const spvk_grammar *grammar, file module, file text) {
     const struct { uint8_t major, minor; } none[] = {{1, 7}, {2, 0}, {0, 6}};
     spvk_verdict verdict = UNTOUCHED;
     spvk_buffer buffer = unread();
-    CHECK(spvk_check_with(grammar, module.bytes, module.size, 4, &verdict) == SPVK_NO_FLAG);
+    CHECK(spvk_check_with(grammar, module.bytes, module.size, 8, &verdict) == SPVK_NO_FLAG);
     CHECK(spvk_check_with(grammar, module.bytes, module.size, 7, &verdict) == SPVK_NO_FLAG);
-    CHECK(spvk_explain_with(grammar, module.bytes, module.size, 4, &verdict, &buffer) == SPVK_NO_FLAG);
+    CHECK(spvk_check_with(grammar, module.bytes, module.size, SPVK_OPENCL | SPVK_AS_1_6, &verdict) == SPVK_NO_FLAG);
+    CHECK(spvk_explain_with(grammar, module.bytes, module.size, 8, &verdict, &buffer) == SPVK_NO_FLAG);
     CHECK(is_empty(buffer));
     buffer = unread();
-    CHECK(spvk_explain_json_with(grammar, module.bytes, module.size, 4, &verdict, &buffer) == SPVK_NO_FLAG);
+    CHECK(spvk_explain_json_with(grammar, module.bytes, module.size, SPVK_OPENCL | SPVK_AS_1_6, &verdict, &buffer)
+          == SPVK_NO_FLAG);
     CHECK(is_empty(buffer));
     buffer = unread();
     CHECK(spvk_show_with(grammar, module.bytes, module.size, SPVK_EXTENDED, &verdict, &buffer) == SPVK_NO_FLAG);
@@ -427,6 +440,8 @@ static int flags(const spvk_grammar *grammar, file module, file text) {
     buffer = unread();
     CHECK(spvk_show_with(grammar, module.bytes, module.size, SPVK_AS_1_6 | 4, &verdict, &buffer) == SPVK_NO_FLAG);
     CHECK(is_empty(buffer) && is_untouched(verdict));
+    CHECK(spvk_show_with(grammar, module.bytes, module.size, SPVK_OPENCL | SPVK_EXTENDED, &verdict, &buffer)
+          == SPVK_NO_FLAG);
     CHECK(spvk_check_with(grammar, NULL, 9, SPVK_AS_1_6, &verdict) == SPVK_NULL);
     CHECK(spvk_check_with(grammar, module.bytes, module.size, SPVK_AS_1_6, NULL) == SPVK_NULL);
     CHECK(spvk_check_with(grammar, NULL, 0, SPVK_AS_1_6, &verdict) == SPVK_OK && verdict.code == SPVK_W2);
@@ -434,6 +449,8 @@ static int flags(const spvk_grammar *grammar, file module, file text) {
         for (int big = 0; big < 2; big++) {
             file it = other_version(module, big, none[at].major, none[at].minor);
             CHECK(spvk_check_with(grammar, it.bytes, it.size, SPVK_AS_1_6, &verdict) == SPVK_OK);
+            CHECK(verdict.code == SPVK_W5);
+            CHECK(spvk_check_with(grammar, it.bytes, it.size, SPVK_OPENCL, &verdict) == SPVK_OK);
             CHECK(verdict.code == SPVK_W5);
             free(it.bytes);
         }

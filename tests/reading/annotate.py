@@ -18,7 +18,8 @@ BRANCH, CONDITIONAL, SWITCH = 249, 250, 251
 OPENCL = "OpenCL.std"
 OPENCL_FILE = Path("/usr/include/spirv/unified1/extinst.opencl.std.100.grammar.json")
 # The opcodes of each section; any other opcode outside functions is of the section of types and constants.
-SECTIONS = ({17}, {10}, {11}, {14}, {15}, {16}, {2, 3, 4, 5, 6, 7, 330}, {71, 72})
+MODES, DECORATIONS = {16, 331}, {71, 72, 73, 74, 75, 332, 5632, 5633}
+SECTIONS = ({17}, {10}, {11}, {14}, {15}, MODES, {2, 3, 4, 5, 6, 7, 330}, DECORATIONS)
 DECLARED = len(SECTIONS)
 # How many octets a name takes in a page at most, and how many of its own are told: the first of these that fit.
 MOST_OF_NAME, TOLD_OF_NAME = 40, (40, 20, 10, 6)

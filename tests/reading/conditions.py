@@ -6,11 +6,14 @@ the result type (`r`), a value operand (`o`, `p`, `q` and on, by its place among
 conditions.
 """
 
+from . import object_conditions
 from .forms import ARRAY, BOOL, CONSTANTS, FLOAT, INT, OPAQUE, POINTER, SCALARS, SPECIAL, STRUCT, VECTOR, VOID
 from .order import opcodes_in
 from .types import RULES, cast, selected
 
-LETTERS = "opqstu"
+LETTERS = "opqstuvwx"
+# The seat of a condition that is told at no operand.
+NOWHERE = "-"
 
 
 class Row:
@@ -280,11 +283,15 @@ RELATIONS = (
     *("Same", "SameCount", "OtherWidth", "SameBits", "Chooses", "PointsTo", "SamePointee", "SameClass", "VectorOf"),
     *("ComponentOf", "InitializerType", "Leads", "SameComponent", "Share", "Part", "Reached"),
 )
+OWN_WORDS = tuple(WORDS)
+WORDS.update({words: name for words, name in object_conditions.WORDS.items() if words not in WORDS})
+HOLDS.update(object_conditions.HOLDS)
+RELATIONS += object_conditions.RELATIONS
 # Those that look at an id, and not at its type.
-OF_IDS = ("Length", "Initializer", "Chosen")
+OF_IDS = ("Length", "Initializer", "Chosen", "Constant")
 
 CONDITIONS = {}
-for _codes, _seats in RULES:
+for _codes, _seats in (*RULES, *object_conditions.RULES):
     for _code in opcodes_in(_codes):
         _known = CONDITIONS.setdefault(_code, {})
         for _seat, _names in (it.split("=") for it in _seats.split()):
@@ -316,6 +323,8 @@ def wanted_at(row, at, text):
 
 def seats_of(row, at):
     """The names of the table's seats at which an operand may be."""
+    if at is None:
+        return [NOWHERE]
     known, seat = CONDITIONS.get(row.inst.opcode, {}), row.seat(at)
     if seat in known:
         return [seat]
@@ -329,7 +338,7 @@ def fails(facts, number, words, at, wanted):
     row, name = Row(facts, number), WORDS[words]
     if name == "Indexes":
         return at is None and row.inst.opcode in (81, 82) and not row.literals()
-    subject = row.subject(at)
+    subject = None if at is None else row.subject(at)
     for seat in seats_of(row, at):
         for each in CONDITIONS.get(row.inst.opcode, {}).get(seat, ()):
             known, _, text = each.partition(":")

@@ -14,6 +14,8 @@ from .decode import Broken
 SETS = Path(__file__).resolve().parent / "sets.json"
 IMPORT, EXTENDED = 11, 12
 OPENCL = "OpenCL.std"
+# The name by which llvm-spirv imports a set if it is not told which form debug information is to have.
+OTHER_NAMES = {"SPIRV.debug": "OpenCL.DebugInfo.100"}
 MORE = "?*"
 # The kinds that are ids; any other one is a literal, though decoding reads an id there too.
 IDS = ("IdRef", "PairIdRefIdRef")
@@ -47,7 +49,7 @@ def called(names, inst):
 
 def kinds_of(name, number):
     """The kinds of the operands of a set's instruction, None where nothing is known of it."""
-    return sets().get(name, {}).get(number)
+    return sets().get(OTHER_NAMES.get(name, name), {}).get(number)
 
 
 def is_id(kinds, place):

@@ -237,29 +237,6 @@ class Row:
         return self.inst.operands[at + 1 :]
 
 
-def numbers(types):
-    """A number for each type, the same one for types that match."""
-    found, alike = {}, {}
-    for number, inst in enumerate(types.insts):
-        of = inst.result
-        if of is None or types.definitions[of] != number or types.form(of) is None:
-            continue
-        key = of
-        if inst.opcode == ARRAY:
-            inner, length = types.rest(of)
-            key = (ARRAY, found.get(inner, inner), length)
-        elif inst.opcode == STRUCT:
-            key = (STRUCT, *(found.get(it, it) for it in types.rest(of)))
-        found[of] = alike.setdefault(key, of)
-    return found
-
-
-def is_logical_copy(row):
-    """Another type than the operand's, of parts that match."""
-    known = numbers(row.types)
-    return row.is_form(row.r, ARRAY, STRUCT) and row.r != row.o and known[row.r] == known.get(row.o)
-
-
 def is_extended(row):
     """In no block an extended instruction is one of a set that no result hangs on."""
     if row.types.places.function[row.number] is not None:
@@ -504,7 +481,6 @@ OF_OPCODES = (
     ("350 352 355 358", lambda it: alike(it, (FLOAT,)) and it.is_cluster()),
     ("362-364", lambda it: alike(it, (BOOL,)) and it.is_cluster()),
     ("366", lambda it: alike(it, ANY) and it.is_form(it.p, INT) and it.is_constant(it.ids[1])),
-    ("400", is_logical_copy),
     ("401 402", lambda it: it.o == it.p and it.is_form(it.o, POINTER) and it.is_form(it.r, BOOL)),
     ("403", lambda it: it.o == it.p and it.is_form(it.o, POINTER) and it.is_form(it.r, INT)),
     ("4450-4452", Row.is_dot),

@@ -57,7 +57,6 @@ SHAPES = (
     ("337 341 345-348 365 366", True, "T R c v v"),
     ("342", True, "T R c GroupOperation v"),
     ("349-364", True, "T R c GroupOperation v v?"),
-    ("400", True, "T R v"),
     ("401-403", True, "T R v v"),
     ("4450-4452", True, "T R v v PackedVectorFormat?"),
     ("4453-4455", True, "T R v v v PackedVectorFormat?"),

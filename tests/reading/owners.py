@@ -5,20 +5,24 @@ From docs/PROFILE.md, 'The lines of explain'.
 
 from .text import visible
 
-NAME, ENTRY_POINT = 5, 15
+NAME, ENTRY_POINT, FUNCTION = 5, 15, 54
 ABOVE = ", part of a type above"
 # The conditions at which the number of parts of the type that is found is told.
 SIZED = ("Chosen", "Within", "Count", "ComponentCount", "Filled")
 
 
 def type_at(facts, operand):
-    """The type of an operand: a result type itself, of an id the type that it is declared with, or a type itself."""
+    """The type of an operand: a result type itself, of a function its function type, of another id the type that it is
+    declared with, or a type itself."""
     if operand[0] == "Type":
         return operand[1]
     if operand[0] != "Id":
         return None
     found = facts.first.get(operand[1])
-    of = None if found is None else facts.insts[found].type
+    if found is None:
+        return operand[1]
+    inst = facts.insts[found]
+    of = inst.operands[-1][1] if inst.opcode == FUNCTION else inst.type
     return operand[1] if of is None else of
 
 

@@ -122,10 +122,7 @@ class Types:
     def closed(self):
         """The implied capabilities."""
         kinds = self.grammar.enumerants.get("Capability", {})
-        names = {}
-        for value, it in kinds.items():
-            names.setdefault(it["enumerant"], value)
-        self.names = names
+        names = self.names = self.grammar.value_of.get("Capability", {})
         found = {it.operands[0][2] for it in self.insts if it.opcode == 17}
         while True:
             more = {names[name] for it in found for name in kinds.get(it, {}).get("capabilities", ()) if name in names}

@@ -1,7 +1,7 @@
 """Random kernels in OpenCL C, of what the profile has rules for: arithmetic on all widths and vectors, conversions,
 calls of functions and of OpenCL.std, arrays, a structure, branches, loops, switches, atomics and barriers. What the
-profile leaves out comes where it is asked for: images, copies that a group waits for, what groups find together, tests
-of floats, products of vectors, counts of bits, conversions that saturate."""
+profile leaves out comes where it is asked for: images, copies that a group waits for, what groups and subgroups find
+together, tests of floats, products of vectors, counts of bits, conversions that saturate."""
 
 import random
 from dataclasses import dataclass
@@ -21,6 +21,7 @@ EFFECTS = (
 )
 # The same of what `--opencl` takes besides.
 MORE_OF_INTEGERS = {"popcount": 1, "add_sat": 2, "hadd": 2, "abs_diff": 2}
+GROUPS = ("work_group", "sub_group")
 GROUPED = ("reduce_add", "reduce_min", "reduce_max", "scan_inclusive_add", "scan_exclusive_max", "scan_inclusive_min")
 TESTS_OF_ONE = ("isnan", "isinf", "isfinite", "isnormal", "signbit")
 TESTS_OF_TWO = ("isordered", "isunordered", "islessgreater", "isequal", "isless", "isgreaterequal")
@@ -33,7 +34,19 @@ MORE_EFFECTS = (
     "write_imagef(drawn, (int2)(3, (int)at & 7), read_imagef(seen, kept, (int2)(number, 2)));",
     "out[1] += get_image_width(seen) + get_image_height(drawn) + get_image_channel_order(seen);",
     "if (work_group_all(number > 3) || work_group_any(number < 0)) out[2] += 1;",
+    "if (sub_group_all(number > 5) && !sub_group_any(number < 1)) out[3] += sub_group_broadcast(number, 1);",
+    "out[4] += get_sub_group_size() + get_sub_group_local_id(); sub_group_barrier(CLK_LOCAL_MEM_FENCE);",
     "prefetch(out + 8, 4);",
+)
+# What invocations of a subgroup do that need not all be there, which modules have from version 1.3 on.
+LATE = 3
+LATE_EFFECTS = (
+    "{ uint4 votes = sub_group_ballot(number > 3); out[5] += sub_group_ballot_bit_count(votes)"
+    " + sub_group_inverse_ballot(votes) + sub_group_ballot_bit_extract(votes, 3); }",
+    "out[6] += sub_group_shuffle(number, 3) + sub_group_shuffle_up(number, 1) + sub_group_elect();",
+    "out[7] += sub_group_non_uniform_reduce_and(number) + sub_group_clustered_reduce_max(number, 4);",
+    "first += sub_group_non_uniform_scan_inclusive_mul(first) + sub_group_broadcast_first(first);",
+    "out[8] += sub_group_non_uniform_all(number) + sub_group_non_uniform_all_equal(first);",
 )
 # How many expressions stand in one another, and how many statements.
 DEPTH = 2
@@ -69,6 +82,8 @@ class Kernel:
     def __init__(self, seed, has_more=False):
         self.chance = random.Random(seed)
         self.count, self.has_more = 0, has_more
+        # The least minor number of the versions that have it all.
+        self.least = LATE if has_more and self.chance.random() < 0.3 else 0
         self.functions = []
 
     def fresh(self):
@@ -157,12 +172,13 @@ class Kernel:
         """What a group finds together of a number."""
         scalar = self.chance.choice(("int", "uint", "long", "ulong", "float", "double"))
         it = Variable(self.fresh(), Type(scalar))
-        line = f"{it.type} {it.name} = work_group_{self.chance.choice(GROUPED)}({self.expression(it.type, known, 1)});"
+        call = f"{self.chance.choice(GROUPS)}_{self.chance.choice(GROUPED)}"
+        line = f"{it.type} {it.name} = {call}({self.expression(it.type, known, 1)});"
         known.append(it)
         return [line]
 
     def more_effect(self, *_):
-        return [self.chance.choice(MORE_EFFECTS)]
+        return [self.chance.choice(MORE_EFFECTS + (LATE_EFFECTS if self.least else ()))]
 
     def choice(self, of, known, depth):
         one, other = (self.expression(of, known, depth) for _ in range(2))
@@ -269,7 +285,8 @@ class Kernel:
 
     def text(self):
         """The whole file."""
-        lines = ["struct whole { int one; float4 four; uchar few[5]; long last; };"]
+        lines = ["#pragma OPENCL EXTENSION cl_khr_subgroups : enable"] if self.has_more else []
+        lines += ["struct whole { int one; float4 four; uchar few[5]; long last; };"]
         for _ in range(self.chance.randrange(4)):
             lines += self.function()
         space = self.chance.choice(("global", "constant"))

@@ -148,8 +148,8 @@ class Calls(unittest.TestCase):
 
     def test_evidence(self):
         valid = self.grammar.evidence(self.kernel)
-        self.assertEqual((bool(valid), valid.verdict.code, valid.members), (True, None, {"verdict": "valid"}))
-        self.assertEqual(self.grammar.explain_json(self.kernel), '{"verdict":"valid"}\n')
+        self.assertEqual((bool(valid), valid.verdict.code, valid.members), (True, None, {"verdict": "valid", "profile": "own"}))
+        self.assertEqual(self.grammar.explain_json(self.kernel), '{"verdict":"valid","profile":"own"}\n')
         text = self.grammar.explain_json(self.kernel[:-4])
         self.assertEqual((text[-2:], text.count("\n")), ("}\n", 1))
         cut = self.grammar.evidence(self.kernel[:-4])
@@ -162,6 +162,7 @@ class Calls(unittest.TestCase):
         older[5] = 4
         self.assertEqual(self.grammar.evidence(older).verdict.code, "W5")
         self.assertTrue(self.grammar.evidence(older, as_1_6=True))
+        self.assertEqual(self.grammar.evidence(older, opencl=True).profile, "opencl")
 
     def test_values_of_evidence(self):
         found = self.grammar.evidence(read("modules/value-missing-on-one-branch.spv"))
@@ -196,6 +197,12 @@ class Calls(unittest.TestCase):
                 self.assertTrue(self.grammar.check(older, as_1_6=True))
                 self.assertEqual(self.grammar.explain(older, as_1_6=True).text, "valid\n")
                 self.assertEqual(self.grammar.show(older, as_1_6=True), text)
+                self.assertTrue(self.grammar.check(older, opencl=True))
+                self.assertTrue(self.grammar.check(older, opencl=True, extended=True))
+                told = text.replace("; Version: 1.6\n", f"; Version: 1.{number}\n", 1)
+                self.assertEqual(self.grammar.show(older, opencl=True), told)
+                with self.assertRaises(ValueError):
+                    self.grammar.check(older, as_1_6=True, opencl=True)
                 self.assertEqual(older[minor], number)
             for place, number in ((minor, 7), (major, 2), (major, 0)):
                 other = bytearray(module)

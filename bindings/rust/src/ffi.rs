@@ -9,6 +9,7 @@ pub const ASSEMBLED: u32 = 0;
 pub const NOWHERE: u32 = u32::MAX;
 pub const AS_1_6: u32 = 1;
 pub const EXTENDED: u32 = 2;
+pub const OPENCL: u32 = 4;
 
 #[repr(C)]
 pub struct Grammar {
@@ -80,7 +81,7 @@ impl Image {
 /// `spvk_raw_explain_with` and `spvk_raw_explain_json_with`.
 pub type Explain = unsafe extern "C" fn(*const c_void, *const u8, usize, u32, *mut Text) -> u32;
 
-/// `spvk_raw_show`, and the same as 1.6.
+/// `spvk_raw_show`, and the same as 1.6 or of OpenCL.
 pub type Show = unsafe extern "C" fn(*const c_void, *const u8, usize, *mut Text) -> u32;
 
 extern "C" {
@@ -111,6 +112,12 @@ extern "C" {
     pub fn spvk_raw_show(held: *const c_void, bytes: *const u8, len: usize, text: *mut Text)
         -> u32;
     pub fn spvk_raw_show_as_1_6(
+        held: *const c_void,
+        bytes: *const u8,
+        len: usize,
+        text: *mut Text,
+    ) -> u32;
+    pub fn spvk_raw_show_opencl(
         held: *const c_void,
         bytes: *const u8,
         len: usize,

@@ -6,7 +6,7 @@
 //! ```no_run
 //! # fn main() -> Result<(), Box<dyn std::error::Error>> {
 //! let grammar = spvk::Grammar::default_for_1_6()?;
-//! let verdict = grammar.check_with(&std::fs::read("kernel.spv")?, spvk::Version::AsTold.extended())?;
+//! let verdict = grammar.check_with(&std::fs::read("kernel.spv")?, spvk::Version::OpenCl)?;
 //! if let Some(fault) = verdict.fault() {
 //!     println!("{fault}: {}", fault.code.sentence());
 //! }
@@ -14,7 +14,8 @@
 //! # }
 //! ```
 //!
-//! By `extended` extended instructions are looked at too: loaders of strangers' modules ask for it.
+//! By `Version::OpenCl` all is taken that a kernel of OpenCL can be, as compilers make it; without it the profile of
+//! SPIR-V 1.6. By `extended` extended instructions are looked at too: loaders of strangers' modules ask for it.
 //!
 //! What each answer means is said in docs/PROFILE.md of the library's repository, and what is proved in its README.md.
 //! This crate adds no logic: it hands slices to the library, and lets go of what the library made. No call prints, and
@@ -52,6 +53,11 @@ pub enum Version {
     /// As 1.6, where the module tells a version from 1.0 to 1.6, in either byte order: version 1.6 stands in its place,
     /// and what is read is judged by the rules of 1.6. A module of another version breaks W5.
     As1_6,
+    /// As the one that the module tells, from 1.0 to 1.6, of a kernel of OpenCL: beside the instructions of the profile
+    /// there are more, as those of images, events, pipes and groups, and OpExtInst may stand outside blocks; extended
+    /// instructions are looked at whole. The rules are those of 1.6; F4 is asked of a module of version 1.6 alone. A module
+    /// of another version breaks W5.
+    OpenCl,
 }
 
 /// How a module is judged: as which version its bytes are read, and how far it is looked at.
@@ -90,11 +96,17 @@ impl From<Version> for Judging {
 }
 
 impl Judging {
+    /// As a kernel of OpenCL, of version 1.0 to 1.6.
+    pub fn opencl() -> Judging {
+        Version::OpenCl.into()
+    }
+
     /// The flags of the library that ask for it.
     fn flags(self) -> u32 {
         let version = match self.version {
             Version::AsTold => 0,
             Version::As1_6 => ffi::AS_1_6,
+            Version::OpenCl => ffi::OPENCL,
         };
         version | if self.extended { ffi::EXTENDED } else { 0 }
     }
@@ -173,7 +185,7 @@ impl Grammar {
         self.check_with(module, Version::AsTold)
     }
 
-    /// The same by a version, as `Version::As1_6`, or by `Judging`, as `Version::AsTold.extended()`.
+    /// The same by a version, as `Version::OpenCl`, or by `Judging`, as `Version::AsTold.extended()`.
     ///
     /// # Errors
     /// As of `check`.
@@ -254,7 +266,8 @@ impl Grammar {
         self.show_with(module, Version::AsTold)
     }
 
-    /// The same of the bytes read as a version.
+    /// The same of the bytes read as a version. By `Version::As1_6` the text tells 1.6, by `Version::OpenCl` the version of
+    /// the module.
     ///
     /// # Errors
     /// As of `show`.
@@ -262,6 +275,7 @@ impl Grammar {
         let call: ffi::Show = match version {
             Version::AsTold => ffi::spvk_raw_show,
             Version::As1_6 => ffi::spvk_raw_show_as_1_6,
+            Version::OpenCl => ffi::spvk_raw_show_opencl,
         };
         let (start, len) = (module.as_ptr(), module.len());
         // SAFETY: as in `explained_by`.

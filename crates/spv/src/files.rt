@@ -1,6 +1,6 @@
 //! The files of the command line: they are opened, read whole and made here.
 use crate::why::{Noted, Tried, Why};
-use spv_commands::{Trouble, Unread, read_all};
+use spv_commands::{Trouble, read_all};
 use spv_words::FromRead;
 use std::alloc::{AllocError, Global};
 use std::fs::File;
@@ -36,26 +36,26 @@ impl Read for Input {
 }
 
 /// What a failed call of the system is told as.
-fn unread_of(error: io::Error) -> Unread {
+fn trouble_of(error: io::Error) -> Trouble {
     match error.kind() {
-        ErrorKind::OutOfMemory => Unread::Memory,
-        _ => Unread::File,
+        ErrorKind::OutOfMemory => Trouble::Memory,
+        _ => Trouble::File,
     }
 }
 
 /// Opens the file of this name.
-pub fn open_file<'a>(rt: &HostRuntime, why: &Why<'a>, name: &'a str) -> Result<Input, Unread> {
+pub fn open_file<'a>(rt: &HostRuntime, why: &Why<'a>, name: &'a str) -> Result<Input, Trouble> {
     match fs::open(rt, name) {
         Ok(file) => Ok(Input::File(file)),
         Err(error) => {
             why.note(name, Tried::Open, error);
-            Err(unread_of(error))
+            Err(trouble_of(error))
         }
     }
 }
 
 /// The same, where `-` is the standard input.
-pub fn open<'a>(rt: &HostRuntime, why: &Why<'a>, name: &'a str) -> Result<Input, Unread> {
+pub fn open<'a>(rt: &HostRuntime, why: &Why<'a>, name: &'a str) -> Result<Input, Trouble> {
     if name == STANDARD {
         return Ok(Input::Standard(rt.stdin()));
     }
@@ -69,13 +69,9 @@ pub fn text_bytes<'a>(
     why: &Why<'a>,
     name: &'a str,
     input: Input,
-) -> Result<Vec<u8>, Unread> {
+) -> Result<Vec<u8>, Trouble> {
     let input = Noted::new(input, name, Tried::Read, why);
-    match read_all(alloc, &mut FromRead::new(input)) {
-        Ok(bytes) => Ok(bytes),
-        Err(Trouble::Memory) => Err(Unread::Memory),
-        Err(_) => Err(Unread::File),
-    }
+    read_all(alloc, &mut FromRead::new(input))
 }
 
 /// Adds bytes. Where there is too little room, it is made at once for all that a module can still take.
@@ -93,11 +89,9 @@ pub fn module_bytes<'a>(
     why: &Why<'a>,
     name: &'a str,
     input: Input,
-) -> Result<Vec<u8>, Unread> {
+) -> Result<Vec<u8>, Trouble> {
     let mut input = Noted::new(input, name, Tried::Read, why);
-    let Ok(mut bytes) = Vec::with_capacity(alloc, BLOCK_SIZE) else {
-        return Err(Unread::Memory);
-    };
+    let mut bytes = Vec::with_capacity(alloc, BLOCK_SIZE)?;
     let mut block = [0u8; BLOCK_SIZE];
     for _ in 0..=MOST_BYTES {
         let room = MOST_BYTES.saturating_sub(bytes.len()).min(BLOCK_SIZE);
@@ -105,14 +99,12 @@ pub fn module_bytes<'a>(
             break;
         }
         let Ok(size) = input.read(&mut block[..room]) else {
-            return Err(Unread::File);
+            return Err(Trouble::File);
         };
         if size == 0 {
             break;
         }
-        if add(&mut bytes, &block[..size]).is_err() {
-            return Err(Unread::Memory);
-        }
+        add(&mut bytes, &block[..size])?;
     }
     Ok(bytes)
 }

@@ -11,9 +11,10 @@ mod writing;
 use files::{STANDARD, is_same_file, make_if_absent, module_bytes, open, open_file, text_bytes};
 use several::{judge_several, judging_of};
 use spv_commands::{
-    Command, Trouble, Unread, UseError, answer, arguments_in, is_verbose, refusal_help, report,
+    Command, Trouble, UseError, answer, arguments_in, is_verbose, refusal_help, report,
 };
 use spv_words::FromWrite;
+use std::alloc::AllocError;
 use std::io::{IsTerminal, Write};
 use std::process::ExitCode;
 use why::{AtHand, Why};
@@ -42,7 +43,7 @@ fn grammar_of<'a>(
     rt: &HostRuntime,
     why: &Why<'a>,
     command: &Command<'a>,
-) -> Result<Option<Vec<u8>>, Unread> {
+) -> Result<Option<Vec<u8>>, Trouble> {
     let Some(name) = grammar_path(command) else {
         return Ok(None);
     };
@@ -71,7 +72,7 @@ fn file_of<'a>(
     rt: &HostRuntime,
     why: &Why<'a>,
     command: &Command<'a>,
-) -> Result<Result<Vec<u8>, Unread>, Unread> {
+) -> Result<Result<Vec<u8>, Trouble>, Trouble> {
     let Some(name) = path_of(command) else {
         return Ok(Ok(Vec::new(rt.alloc())));
     };
@@ -87,7 +88,7 @@ fn kept_of(
     rt: &HostRuntime,
     why: &Why<'_>,
     command: &Command<'_>,
-    file: &Result<Vec<u8>, Unread>,
+    file: &Result<Vec<u8>, Trouble>,
 ) -> Option<Vec<u8>> {
     match (command, file) {
         (Command::Trace { .. }, Ok(bytes)) if why.is_told() => {
@@ -102,7 +103,7 @@ fn help_of(
     rt: &HostRuntime,
     why: &Why<'_>,
     command: &Command<'_>,
-    file: &Result<Vec<u8>, Unread>,
+    file: &Result<Vec<u8>, Trouble>,
 ) -> Option<String> {
     match file {
         Ok(bytes) if why.is_told() => refusal_help(rt.alloc(), command, bytes).ok(),
@@ -272,7 +273,7 @@ fn main(rt: HostRuntime) -> ExitCode {
     let mut words: Vec<String> = Vec::new(rt.alloc());
     let status = match push_words(&rt, &mut words) {
         Ok(()) => with_words(&rt, &words),
-        Err(trouble) => refuse(&rt, trouble),
+        Err(AllocError) => refuse(&rt, Trouble::Memory),
     };
     ExitCode::from(status)
 }

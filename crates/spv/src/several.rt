@@ -4,7 +4,7 @@ use crate::files::{module_bytes, open};
 use crate::why::{AtHand, Why};
 use crate::writing::{report_why, standard_output};
 use spv_commands::{
-    Command, Judging, Naming, Part, Table, Telling, Trouble, Unread, judge_file, table_in, tell,
+    Command, Judging, Naming, Part, Table, Telling, Trouble, judge_file, table_in, tell,
 };
 use spv_words::{FromWrite, write_all};
 use std::mem::forget;
@@ -27,15 +27,13 @@ pub fn judging_of(command: &Command) -> Option<Judging> {
         Command::Judge {
             task,
             files,
-            as_1_6,
-            extended,
+            scope,
             naming,
             json,
             ..
         } if files.len() != 1 || *naming == Naming::Always || *json => Some(Judging {
             task: *task,
-            as_1_6: *as_1_6,
-            extended: *extended,
+            scope: *scope,
             telling: telling_by(*naming, *json),
         }),
         _ => None,
@@ -43,18 +41,22 @@ pub fn judging_of(command: &Command) -> Option<Judging> {
 }
 
 /// All the bytes of the module of this name, or so many that it is none.
-fn module_of<'a>(rt: &HostRuntime, why: &Why<'a>, name: &'a str) -> Result<Vec<u8>, Unread> {
+fn module_of<'a>(rt: &HostRuntime, why: &Why<'a>, name: &'a str) -> Result<Vec<u8>, Trouble> {
     let input = open(rt, why, name)?;
     module_bytes(rt.alloc(), why, name, input)
 }
 
 /// Tells why a file was not judged, where no such write failed before: whether none has.
-fn tell_unread(rt: &HostRuntime, why: &Why<'_>, name: &str, unread: Unread, sound: bool) -> bool {
-    let heard = tell(name, Some(unread), sound, &mut FromWrite::new(rt.stderr()));
-    if let Unread::File = unread {
-        if heard {
-            why.tell(Trouble::File, AtHand::of(None), &mut rt.stderr());
-        }
+fn tell_trouble(
+    rt: &HostRuntime,
+    why: &Why<'_>,
+    name: &str,
+    trouble: Trouble,
+    sound: bool,
+) -> bool {
+    let heard = tell(name, Some(trouble), sound, &mut FromWrite::new(rt.stderr()));
+    if heard {
+        why.tell(trouble, AtHand::of(None), &mut rt.stderr());
     }
     heard
 }
@@ -79,8 +81,8 @@ fn judge_each<'a>(
         let file = module_of(rt, why, *name);
         let part = judge_file(rt.alloc(), how, table, *name, file);
         status = status.max(part.status);
-        if let Some(unread) = part.unread {
-            sound = tell_unread(rt, why, *name, unread, sound);
+        if let Some(trouble) = part.trouble {
+            sound = tell_trouble(rt, why, *name, trouble, sound);
         }
         if !write_part(rt, why, &part, quiet) {
             return if sound {

@@ -10,6 +10,9 @@ use std::io::{ErrorKind, Read, Write};
 /// What the standard output is called where a write to it fails.
 pub const STANDARD_OUTPUT: &str = "standard output";
 
+/// What is told of a file whose name is no text.
+const NO_TEXT: &[u8] = b"the name is not UTF-8; the shell's < gives such a file, as FILE -\n";
+
 /// What is tried with a file.
 #[derive(Clone, Copy)]
 pub enum Tried {
@@ -145,6 +148,10 @@ impl<'a> Why<'a> {
         if let Ok(reason) = reason {
             tell_line(failure.name, reason.as_bytes(), to);
         }
+        // (as a word of the command line that is no text is marked)
+        if failure.name.contains('\0') {
+            tell_line(failure.name, NO_TEXT, to);
+        }
         self.tell_environment(failure.name, to);
     }
 
@@ -164,7 +171,7 @@ impl<'a> Why<'a> {
     /// The entry points of the module, as far as it is at hand.
     fn entries(&self, at_hand: AtHand<'_, '_>) -> Result<String, AllocError> {
         match at_hand.module {
-            Some(module) => entry_points(self.alloc, at_hand.grammar, module),
+            Some(module) => entry_points(self.alloc, module),
             None => Ok(String::new(self.alloc)),
         }
     }

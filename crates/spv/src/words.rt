@@ -4,29 +4,66 @@ use crate::why::Why;
 use crate::writing::standard_output;
 use spv_commands::{Color, Command, Task, Trouble, advice, help, text_asked};
 use spv_words::write_all;
+use std::alloc::{AllocError, Global};
 use std::env;
-use std::env::VarError;
-use std::io::{ErrorKind, IsTerminal, Write};
+use std::env::{Env, FillError, VarError};
+use std::io::{IsTerminal, Write};
 
-/// What a failed call is told as where the words of the command line could not be read: words that are no text fit no
-/// command.
-fn word_trouble(error: std::io::Error) -> Trouble {
-    match error.kind() {
-        ErrorKind::OutOfMemory => Trouble::Memory,
-        _ => Trouble::Use,
+/// How many bytes a word is read with at first.
+const FEW: usize = 256;
+
+/// So many bytes of room.
+fn room(alloc: Global, size: usize) -> Result<Vec<u8>, AllocError> {
+    let mut bytes = Vec::new(alloc);
+    bytes.resize(size, 0u8)?;
+    Ok(bytes)
+}
+
+/// The bytes of the word of the command line of that number; none where it has no more words.
+fn word_bytes(rt: &HostRuntime, number: usize) -> Result<Option<Vec<u8>>, AllocError> {
+    let mut size = FEW;
+    for _ in 0..usize::BITS {
+        let mut bytes = room(rt.alloc(), size)?;
+        match rt.arg(number, bytes.as_mut_slice()) {
+            Ok(count) => {
+                bytes.truncate(count);
+                return Ok(Some(bytes));
+            }
+            Err(FillError::NotPresent) => return Ok(None),
+            Err(FillError::TooLong) => size = size.saturating_mul(2),
+        }
+    }
+    Err(AllocError)
+}
+
+/// A word that is no text, as one: what is not UTF-8 is U+0000. No file's name has that, so that no other file is taken
+/// for the one that is named.
+fn marked(alloc: Global, bytes: &[u8]) -> Result<String, AllocError> {
+    let mut text = String::new(alloc);
+    for chunk in bytes.utf8_chunks() {
+        text.push_str(chunk.valid())?;
+        if !chunk.invalid().is_empty() {
+            text.push('\0')?;
+        }
+    }
+    Ok(text)
+}
+
+/// A word as a text.
+fn text_of(alloc: Global, bytes: Vec<u8>) -> Result<String, AllocError> {
+    match String::from_utf8(bytes) {
+        Ok(text) => Ok(text),
+        Err(error) => marked(alloc, error.as_bytes()),
     }
 }
 
-/// Adds the words of the command line after the program's name. Words that are no text fit no command.
-pub fn push_words(rt: &HostRuntime, words: &mut Vec<String>) -> Result<(), Trouble> {
-    let args = match env::args(rt) {
-        Ok(args) => args,
-        Err(error) => return Err(word_trouble(error)),
-    };
-    for word in args.skip(1) {
-        if words.push(word).is_err() {
-            return Err(Trouble::Memory);
-        }
+/// Adds the words of the command line after the program's name.
+pub fn push_words(rt: &HostRuntime, words: &mut Vec<String>) -> Result<(), AllocError> {
+    for number in 1..usize::MAX {
+        let Some(bytes) = word_bytes(rt, number)? else {
+            return Ok(());
+        };
+        words.push(text_of(rt.alloc(), bytes)?)?;
     }
     Ok(())
 }

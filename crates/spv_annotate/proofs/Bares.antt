@@ -14,7 +14,8 @@ use Rattle.spv_module.specs.declared.module.Module.{Module}
 use Rattle.spv_module.specs.declared.opcode.TheConstants.{FUNCTION, LABEL}
 use Rattle.spv_module.specs.Module.{plain_insts}
 use Rattle.spv_layout.specs.Place.{first_word_of}
-use Rattle.spv_lines.specs.Text.{ended, header_lines, inst_line, lines_of}
+use Rattle.spv_extended.specs.declared.reach.Reach.{Reach}
+use Rattle.spv_lines.specs.Text.{ended, inst_line, lines_of}
 use Rattle.spv_lines.proofs.Back.{NoFeed, feedless-append}
 use Rattle.spv_lines.proofs.Showing.{AreLines, lines-append, lines_ended}
 use Rattle.spv_lines.specs.Plain as plain
@@ -24,7 +25,7 @@ use Rattle.spv_annotate.specs.Bare.{Outside, asked_lines, bare, bare_below, bare
 use Rattle.spv_annotate.specs.Bare.{below_verdict, is_blank, trimmed}
 use Rattle.spv_annotate.specs.Document.{IsSpelled, IsSubject, Subject, beginning, begun, document, ending, entries}
 use Rattle.spv_annotate.specs.Document.{entry, header_piece, is_of, line_of, line_pieces, mark_piece, marks}
-use Rattle.spv_annotate.specs.Document.{verdict_line, verdict_piece}
+use Rattle.spv_annotate.specs.Document.{told_header, verdict_line, verdict_piece, version_line}
 use Rattle.spv_annotate.specs.Module.{inst_at, open_function, section_before, section_of}
 use Rattle.spv_annotate.specs.Notes.{column, comment, gap, notes, place_text}
 use Rattle.spv_annotate.specs.Piece.{PlainPiece, text_of}
@@ -33,7 +34,7 @@ use Rattle.spv_annotate.proofs.Cleans.{IsClean, before_clean, plain_clean}
 use Rattle.spv_annotate.proofs.Ends.{last_of, plain_last, trimmed_before}
 use Rattle.spv_annotate.proofs.Feeds.{comment_feedless, lines_feedless, plain_feedless, value_feedless}
 use Rattle.spv_annotate.proofs.Shown.{AreQuiet, IsQuiet, shown_count, shown_quiet}
-use Rattle.spv_annotate.proofs.Texts.{header_feedless, no_feed_by}
+use Rattle.spv_annotate.proofs.Texts.{no_feed_by, told_feedless}
 use Rattle.spv_annotate.proofs.Told.{told_quiet}
 
 -- The spaces before a comment.
@@ -448,24 +449,24 @@ bare_ended o a b d e f ls h =
     (lines_ended (verdict_lines o ++ all) (lines-append (verdict_lines o) all (verdict_feedless o) h))
     ∙ ap (λ ms. ended (bare_below ms)) (below_same o all)
 
-pub bare_document : (G : Table) (m : Module) (told : Option Finding) (asked : Option ℕ) (S : Subject)
-    → IsSpelled G (plain_insts m) → IsSubject G m told asked S
+pub bare_document : (G : Table) (reach : Reach) (m : Module) (told : Option Finding) (asked : Option ℕ) (S : Subject)
+    → IsSpelled G (plain_insts m) → IsSubject G reach m told asked S
     → bare_text told (written (document S)) ≡ ended (S.header ++ asked_lines S)
-bare_document G m told asked S s t =
+bare_document G reach m told asked S s t =
     let is = plain_insts m in
     let v : AreValues S.insts S.values = subst (λ (xs : List PlainInst). AreValues xs S.values)
     (sym t.insts) t.values in
     let q = shown_quiet G is S.lines t.lines s in
     let n = shown_count G [] is S.lines t.lines ∙ ap length (sym t.insts) in
     let lf = later_feedless S v in
-    let al = lines-append (header_lines m.header) (later_lines S) (header_feedless m.header) lf in
-    let below = header_lines m.header ++ later_lines S in
+    let al = lines-append (told_header reach m.header) (later_lines S) (told_feedless reach m.header) lf in
+    let below = told_header reach m.header ++ later_lines S in
     ap (bare_text told) (document_text S
     ∙ (ap (λ h. ended (verdict_lines S.finding ++ (h ++ later_lines S))) t.header
     ∙ ap (λ o. ended (verdict_lines o ++ below)) t.finding))
-    ∙ (bare_ended told (codes "; SPIR-V") (codes "; Version: 1.6") (codes "; Generator: " ++ decimal m.header.generator)
+    ∙ (bare_ended told (codes "; SPIR-V") (version_line reach) (codes "; Generator: " ++ decimal m.header.generator)
     (codes "; Bound: " ++ decimal m.header.bound) (codes "; Schema: 0") (later_lines S) al
-    ∙ (ap (λ ls. ended (header_lines m.header ++ ls)) (bare_later S q n)
+    ∙ (ap (λ ls. ended (told_header reach m.header ++ ls)) (bare_later S q n)
     ∙ ap (λ h. ended (h ++ asked_lines S)) (sym t.header)))
 
 -- Where no function is asked for, these are all lines.
@@ -480,9 +481,9 @@ none_asked : (S : Subject) (o : Option ℕ) → o ≡ None
 none_asked S None e = ap (map (λ k. plain_of (line_of S k))) (filter_all (range_with_len 0 (length S.insts)))
 none_asked S (Some x) e = cc
 
-pub bare_whole : (G : Table) (m : Module) (told : Option Finding) (S : Subject) → IsSpelled G (plain_insts m)
-    → IsSubject G m told None S
+pub bare_whole : (G : Table) (reach : Reach) (m : Module) (told : Option Finding) (S : Subject) → IsSpelled G (plain_insts m)
+    → IsSubject G reach m told None S
     → bare_text told (written (document S)) ≡ ended
     (S.header ++ map (λ n. plain_of (line_of S n)) (range_with_len 0 (length S.insts)))
-bare_whole G m told S s t =
-    bare_document G m told None S s t ∙ ap (λ ls. ended (S.header ++ ls)) (none_asked S S.asked t.asked)
+bare_whole G reach m told S s t =
+    bare_document G reach m told None S s t ∙ ap (λ ls. ended (S.header ++ ls)) (none_asked S S.asked t.asked)

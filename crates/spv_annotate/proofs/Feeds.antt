@@ -21,7 +21,7 @@ use Rattle.spv_extended.specs.declared.call.Call.{Call}
 use Rattle.spv_extended.specs.declared.set.Set.{Set}
 use Rattle.spv_extended.specs.declared.set.Set.TheVariants.{OpenClStd, OpenClDebugInfo, DebugInfo, Other}
 use Rattle.spv_annotate.specs.Called.{called_by, ids_of}
-use Rattle.spv_annotate.specs.Module.{definition_of, inst_at, naming_of, predecessors, text_in}
+use Rattle.spv_annotate.specs.Module.{definition_of, inst_at, name_by, naming_of, predecessors}
 use Rattle.spv_annotate.specs.Notes.{block_note, call_name, call_note, call_text, column, comment, cut_at, from_note}
 use Rattle.spv_annotate.specs.Notes.{from_text, gap, entry_named, name_note, name_unless, name_notes, name_text, note}
 use Rattle.spv_annotate.specs.Notes.{notes, opencl_lines, opencl_name, place_text, short_name, told_most}
@@ -102,9 +102,9 @@ name_feedless t = split (told_most t) (nat_le (length t) (told_most t))
 name_note_feedless : (is : List PlainInst) (x : ℕ) (o : Option ℕ) → NoFeed (name_text is x o)
 name_note_feedless is x None = tt
 name_note_feedless is x (Some n) =
-    feedless-append (codes ", " ++ id_text x) (32 ∷ short_name (text_in (inst_at is n).operands))
+    feedless-append (codes ", " ++ id_text x) (32 ∷ short_name (name_by (inst_at is n)))
     (feedless-append (codes ", ") (id_text x) (no_feed_by (codes ", ") refl) (id_feedless x))
-    ((λ e. omega arith), name_feedless (text_in (inst_at is n).operands))
+    ((λ e. omega arith), name_feedless (name_by (inst_at is n)))
 
 names_feedless : (is : List PlainInst) (i : PlainInst) → NoFeed (name_notes is i)
 names_feedless is i = split (nat_eq i.opcode NAME)

@@ -8,7 +8,6 @@ pub mod Floats
 pub mod Halves
 pub mod Inks
 pub mod Leads
-pub mod Listing
 pub mod Outlines
 pub mod PageReading
 pub mod Pages

@@ -1,17 +1,18 @@
 -- Instructions without notes.
 use Rattle.std.proofs.Common.{◌≡◌, ◌≢◌, ◌+◌, ◌++◌, ◌∙◌, ◌||◌, ℕ, List, [], ◌∷◌, Option, Some, None, Bool, true, false}
 use Rattle.std.proofs.Common.{cond, flat_map, length, nat_eq, refl, sym, ap, append-nil}
-use Rattle.std.specs.Prelude.{if◌then◌else◌}
+use Rattle.std.specs.Prelude.{if◌then◌else◌, option_map}
 use Rattle.std.specs.List.{list_any, position_from}
 use Rattle.std.proofs.lemmas.Bool.Decides.{nat_tests}
 use Rattle.std.proofs.Common.{arith}
 use Rattle.spv_table.specs.Lookups.{is_number}
 use Rattle.spv_module.specs.Operand.{PlainInst, result_in}
 use Rattle.spv_module.specs.declared.opcode.TheConstants.{EXT_INST, LABEL, NAME}
+use Rattle.spv_names.specs.Names.{name_in}
 use Rattle.spv_layout.specs.Place.{first_word_of}
 use Rattle.spv_extended.specs.Call.{call_in}
 use Rattle.spv_annotate.specs.Called.{ids_of, set_of}
-use Rattle.spv_annotate.specs.Module.{inst_at, named_by, named_in, naming_of}
+use Rattle.spv_annotate.specs.Module.{inst_at, named_by, naming_of}
 use Rattle.spv_annotate.specs.Notes.{block_note, call_note, call_text, comment, from_note, gap, entry_named, name_note}
 use Rattle.spv_annotate.specs.Notes.{name_notes, name_unless, name_text, note, notes, place_text}
 use Rattle.spv_annotate.specs.inner.Known.{is_naming}
@@ -26,7 +27,7 @@ pub unnamed_from : (x k : ℕ) (is : List PlainInst) → list_any is_naming is �
 unnamed_from x k [] h = refl
 unnamed_from x k (i ∷ is) h =
     let r = neither (is_naming i) (list_any is_naming is) h in
-    ap (λ (b : Bool). cond (is_number x (if b then named_in i.operands else None)) (Some k)
+    ap (λ (b : Bool). cond (is_number x (option_map (λ p. p.0) (if b then name_in i.operands else None))) (Some k)
     (position_from (λ j. is_number x (named_by j)) (k + 1) is)) r.0
     ∙ unnamed_from x (k + 1) is r.1
 

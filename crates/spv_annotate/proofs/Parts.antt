@@ -3,7 +3,6 @@ use Rattle.std.proofs.Common.{◌≡◌, ◌++◌, ◌∙◌, ◌<◌, ◌≤◌
 use Rattle.std.proofs.Common.{true, false, length, take, drop, get_or, refl, sym, ap, subst, arith, append_assoc}
 use Rattle.std.specs.Prelude.{◌==◌, nat_lt, decimal, option_and_then}
 use Rattle.std.specs.List.{flat_map, onto_first, prefix_len}
-use Rattle.std.specs.Option.{option_to_list}
 use Rattle.std.specs.Str.{IsCharBoundary, IsUtf8}
 use Rattle.std.proofs.Math.Seq.{take-length}
 use Rattle.std.proofs.lemmas.Bool.Decides.{nat_tests}
@@ -14,7 +13,7 @@ use Rattle.spv_lines.proofs.Numbers.{decimal_number, decimal_value}
 use Rattle.spv_annotate.specs.declared.linked.Quoting.{Quoting}
 use Rattle.spv_annotate.specs.declared.linked.Quoting.TheVariants.{Outside, Within, Behind, Commented}
 use Rattle.spv_annotate.specs.Html.{escaped}
-use Rattle.spv_annotate.specs.Page.{cut_from, id_of, ids_at, id_html, digits_in, behind_digits, part_html, linked}
+use Rattle.spv_annotate.specs.Page.{cut_from, id_of, id_html, digits_in, behind_digits, part_html, linked}
 use Rattle.spv_annotate.specs.Quoted.{after_byte, begins_id}
 use Rattle.spv_annotate.specs.inner.Linked.{base, until_id, part_len}
 
@@ -177,19 +176,6 @@ found_id word ds n h e =
     let g = h.1 in
     let i : ds ≡ decimal n = cc in
     sym (ap id_of i ∙ id_of_decimal n h.0)
-
--- the id that a part begins with
-pub id_front : (xs : List ℕ) (n : ℕ) (r : Option ℕ) (word : List ℕ) → 1 ≤ length xs → get_or xs 0 0 ≡ 37
-    → n ≡ prefix_len is_digit (drop 1 xs)
-    → word ≡ take (1 + n) xs → ((ds : List ℕ) → word ≡ 37 ∷ ds → r ≡ id_of ds) → option_to_list r ≡ ids_at xs
-id_front [] n r word l f e w h = absurd (omega (arith, l))
-id_front (x ∷ t) n r word l f e w h =
-    let m : 1 + n ≡ suc n = omega arith in
-    let x37 : x ≡ 37 = f in
-    let v : word ≡ 37 ∷ digits_in t = w ∙ (ap (λ z. take z (x ∷ t)) m
-    ∙ (ap (λ z. x ∷ take z t) e ∙ ap (λ z. z ∷ digits_in t) x37)) in
-    let p : ids_at (x ∷ t) ≡ option_to_list (id_of (digits_in t)) = rw x37 refl in
-    ap option_to_list (h (digits_in t) v) ∙ sym p
 
 -- a part that begins with an id
 pub word_front : (xs : List ℕ) (n : ℕ) (word : List ℕ) → 1 ≤ length xs → get_or xs 0 0 ≡ 37

@@ -7,6 +7,8 @@ use Rattle.std.proofs.lemmas.Bool.Decides.{nat_tests}
 use Rattle.spv_words.specs.declared.words.Header.{Header}
 use Rattle.spv_table.specs.Table.{Table}
 use Rattle.spv_module.specs.Operand.{PlainInst}
+use Rattle.spv_extended.specs.declared.reach.Reach.{Reach}
+use Rattle.spv_extended.specs.declared.reach.Reach.TheVariants.{Profile, Extended, OpenCl}
 use Rattle.spv_lines.specs.Text.{IsShownText, header_lines, lines_of}
 use Rattle.std.proofs.Common.{zero, suc, ◌/◌, ◌%◌, ◌==◌}
 use Rattle.std.specs.Prelude.{if◌then◌else◌}
@@ -14,7 +16,7 @@ use Rattle.std.specs.Fmt.{digit_glyph, digits, digits_onto}
 use Rattle.spv_lines.specs.Operand.{id_text}
 use Rattle.spv_lines.proofs.Back.{NoFeed, feedless-append}
 use Rattle.spv_lines.proofs.Showing.{AreLines, lines-append, lines_ended}
-use Rattle.spv_annotate.specs.Document.{IsSpelled}
+use Rattle.spv_annotate.specs.Document.{IsSpelled, told_header, version_line}
 use Rattle.spv_annotate.proofs.Shown.{quiet_lines, shown_quiet}
 
 and_both : (a b : Bool) → (a && b) ≡ true → (a ≡ true) × (b ≡ true)
@@ -67,6 +69,14 @@ header_feedless h = (
     ),
   ),
 )
+
+version_feedless : (reach : Reach) → NoFeed (version_line reach)
+version_feedless Profile = no_feed_by (codes "; Version: 1.6") refl
+version_feedless Extended = no_feed_by (codes "; Version: 1.6") refl
+version_feedless (OpenCl minor) = numbered (codes "; Version: 1.") minor refl
+
+pub told_feedless : (reach : Reach) (h : Header) → AreLines (told_header reach h)
+told_feedless reach h = let f = header_feedless h in (f.0, (version_feedless reach, f.1.1))
 
 -- the lines of a shown text
 pub text_lines : (G : Table) (h : Header) (is : List PlainInst) (t : List ℕ) → (s : IsShownText G h is t)

@@ -1,7 +1,8 @@
 -- The text for reading of a module, in pieces. (Own.)
 use Rattle.std.specs.Prelude.{◌≡◌, ◌++◌, ◌&&◌, ℕ, List, [], ◌∷◌, Option, Some, None, Bool, true, false, not}
-use Rattle.std.specs.Prelude.{nat_eq, get_or, is_some, if◌then◌else◌, codes, length}
+use Rattle.std.specs.Prelude.{nat_eq, get_or, is_some, if◌then◌else◌, codes, decimal, drop, length}
 use Rattle.std.specs.List.{flat_map, range_with_len}
+use Rattle.spv_words.specs.declared.words.Header.{Header as Opening}
 use Rattle.spv_table.specs.Lookups.{is_number}
 use Rattle.spv_module.specs.Operand.{PlainInst, result_in}
 use Rattle.spv_module.specs.declared.opcode.TheConstants.{FUNCTION, LABEL}
@@ -12,12 +13,23 @@ use Rattle.spv_module.specs.declared.module.Module.{Module}
 use Rattle.spv_lines.specs.Line.{AreWords}
 use Rattle.spv_lines.specs.Text.{ShownLines, header_lines, inst_line, lines_of}
 use Rattle.spv_lines.specs.Plain.{plain_of}
+use Rattle.spv_extended.specs.declared.reach.Reach.{Reach}
+use Rattle.spv_extended.specs.declared.reach.Reach.TheVariants.{OpenCl}
 use Rattle.spv_annotate.specs.declared.finding.Finding.{Finding}
 use Rattle.spv_annotate.specs.Piece.{PlainPiece, Header, Section, Function, Block, Line, Comment, Mark, Break}
 use Rattle.spv_annotate.specs.Module.{function_of, inst_at, open_function, section_before, section_of}
 use Rattle.spv_annotate.specs.Called.{told_line}
 use Rattle.spv_annotate.specs.Notes.{comment}
 use Rattle.spv_annotate.specs.Values.{AreValues}
+
+-- the line of the version; for OpenCL that is the one that the module has
+abbrev pub version_line : Reach → List ℕ
+version_line (OpenCl minor) = codes "; Version: 1." ++ decimal minor
+version_line reach = codes "; Version: 1.6"
+
+-- the lines of a module before its instructions, with that line in them
+abbrev pub told_header : Reach → Opening → List (List ℕ)
+told_header reach h = codes "; SPIR-V" ∷ version_line reach ∷ drop 2 (header_lines h)
 
 -- what is written: a module's lines of the header, instructions and their shown lines; the decimal value of each float
 -- constant, by the number of its instruction; what is told of a fault, and the function that is asked for, if any
@@ -28,10 +40,6 @@ pub record Subject : Type 0 where
   pub values : ℕ → List ℕ
   pub finding : Option Finding
   pub asked : Option ℕ
-
--- is an instruction an OpFunction that defines the id
-abbrev pub is_function : ℕ → PlainInst → Bool
-is_function x i = nat_eq i.opcode FUNCTION && is_number x (result_in i.operands)
 
 -- does an OpFunction, if there is one, define the id
 abbrev pub is_function_named : List PlainInst → ℕ → Option ℕ → Bool
@@ -101,10 +109,11 @@ entries S = flat_map (entry S) (range_with_len 0 (length S.insts)) ++ ending S
 abbrev pub document : Subject → List PlainPiece
 document S = verdict_piece S.finding ++ (flat_map header_piece S.header ++ entries S)
 
--- What is written of a module under a table: its header, its instructions and their shown lines, what is told of a
--- fault, and the function that is asked for.
-pub record IsSubject (G : Table) (m : Module) (told : Option Finding) (function : Option ℕ) (S : Subject) : Type 0 where
-  pub header : S.header ≡ header_lines m.header
+-- What is written of a module under a table: its header, by how far the module is looked at, its instructions and their
+-- shown lines, what is told of a fault, and the function that is asked for.
+pub record IsSubject (G : Table) (reach : Reach) (m : Module) (told : Option Finding) (function : Option ℕ) (S : Subject)
+    : Type 0 where
+  pub header : S.header ≡ told_header reach m.header
   pub insts : S.insts ≡ plain_insts m
   pub lines : ShownLines G [] (plain_insts m) S.lines
   pub values : AreValues (plain_insts m) S.values

@@ -1,13 +1,15 @@
 -- What the text for reading tells of the instructions of a module, by their operands alone. (Own, where no section is
 -- named.)
 use Rattle.std.specs.Prelude.{◌||◌, ℕ, zero, suc, List, [], ◌∷◌, Option, Some, None}
-use Rattle.std.specs.Prelude.{nat_eq, slice_get, unwrap_or, option_and_then, if◌then◌else◌, map, filter}
+use Rattle.std.specs.Prelude.{nat_eq, slice_get, unwrap_or, option_and_then, option_map, if◌then◌else◌, map, filter}
 use Rattle.std.specs.Prelude.{drop, length}
 use Rattle.std.specs.List.{position_from, filter_map, flat_map, range_with_len}
 use Rattle.spv_table.specs.Lookups.{is_number}
-use Rattle.spv_module.specs.Operand.{Plain, OfType, Result, Id, Text, Argument, Mention, PlainInst, result_in}
-use Rattle.spv_module.specs.declared.opcode.TheConstants.{NAME, FUNCTION, FUNCTION_END, LABEL}
+use Rattle.spv_module.specs.Operand.{Plain, OfType, Result, Id, Argument, Mention, PlainInst, result_in}
+use Rattle.spv_module.specs.declared.opcode.TheConstants.{FUNCTION, FUNCTION_END, LABEL}
 use Rattle.spv_module.specs.declared.opcode.TheConstants.{BRANCH, BRANCH_CONDITIONAL, SWITCH}
+use Rattle.spv_names.specs.Names as names
+use Rattle.spv_names.specs.declared.naming.Naming.TheVariants.{Name}
 use Rattle.spv_layout.specs.declared.class.Class.{Class}
 use Rattle.spv_layout.specs.declared.class.Class.TheVariants as kind
 use Rattle.spv_layout.specs.Rows.{class_of}
@@ -25,19 +27,17 @@ definition_of is x = position_from (λ i. is_number x (result_in i.operands)) 0 
 abbrev pub defined_by : List PlainInst → ℕ → PlainInst
 defined_by is x = unwrap_or (option_and_then (slice_get is) (definition_of is x)) (record { opcode = 0; operands = [] })
 
--- the id that operands of an OpName name [3.49.2]
-abbrev pub named_in : List Plain → Option ℕ
-named_in (Id x ∷ Text t ∷ os) = Some x
-named_in _ = None
-
--- the id that an OpName names
+-- the id that an OpName names [3.49.2]
 abbrev pub named_by : PlainInst → Option ℕ
-named_by i = if nat_eq i.opcode NAME then named_in i.operands else None
+named_by i = option_map (λ p. p.0) (names.named_by Name i)
 
--- the name in operands of an OpName
-abbrev pub text_in : List Plain → List ℕ
-text_in (x ∷ Text t ∷ os) = t
-text_in _ = []
+-- the name that an OpName gives, and no text where an instruction gives none
+abbrev pub text_in : Option (ℕ × List ℕ) → List ℕ
+text_in None = []
+text_in (Some p) = p.1
+
+abbrev pub name_by : PlainInst → List ℕ
+name_by i = text_in (names.named_by Name i)
 
 -- the number of the first OpName of an id
 abbrev pub naming_of : List PlainInst → ℕ → Option ℕ

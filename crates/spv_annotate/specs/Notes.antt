@@ -4,8 +4,10 @@ use Rattle.std.specs.Prelude.{nat_eq, nat_le, nat_lt, slice_get, slice_index, un
 use Rattle.std.specs.Prelude.{bytes_eq, drop, false, length, take, decimal}
 use Rattle.std.specs.List.{flat_map}
 use Rattle.spv_table.specs.Lookups.{is_number}
-use Rattle.spv_module.specs.Operand.{Plain, Id, Text, Value, PlainInst, result_in}
-use Rattle.spv_module.specs.declared.opcode.TheConstants.{ENTRY_POINT, NAME, LABEL}
+use Rattle.spv_module.specs.Operand.{PlainInst, result_in}
+use Rattle.spv_module.specs.declared.opcode.TheConstants.{NAME, LABEL}
+use Rattle.spv_names.specs.Names.{named_by}
+use Rattle.spv_names.specs.declared.naming.Naming.TheVariants.{EntryPoint}
 use Rattle.spv_extended.specs.declared.call.Call.{Call}
 use Rattle.spv_extended.specs.declared.set.Set.{Set}
 use Rattle.spv_extended.specs.declared.set.Set.TheVariants.{OpenClStd}
@@ -16,7 +18,7 @@ use Rattle.spv_lines.specs.Plain.{is_control, is_late_control, plain_of}
 use Rattle.spv_annotate.specs.declared.opencl.TheConstants.{OPENCL}
 use Rattle.spv_annotate.specs.Called.{called_by, ids_of}
 use Rattle.spv_annotate.specs.Html.{escaped_byte}
-use Rattle.spv_annotate.specs.Module.{definition_of, inst_at, naming_of, predecessors, text_in}
+use Rattle.spv_annotate.specs.Module.{definition_of, inst_at, name_by, naming_of, predecessors}
 
 -- a text behind a comma and a space; nothing where it is empty
 abbrev pub note : List ℕ → List ℕ
@@ -61,7 +63,7 @@ short_name t = short_by (told_most t) t
 -- `, %17 sum`, where the first OpName of an id is the one of that number
 abbrev pub name_text : List PlainInst → ℕ → Option ℕ → List ℕ
 name_text is x None = []
-name_text is x (Some n) = codes ", " ++ id_text x ++ (32 ∷ short_name (text_in (inst_at is n).operands))
+name_text is x (Some n) = codes ", " ++ id_text x ++ (32 ∷ short_name (name_by (inst_at is n)))
 
 abbrev pub name_note : List PlainInst → ℕ → List ℕ
 name_note is x = name_text is x (naming_of is x)
@@ -69,15 +71,15 @@ name_note is x = name_text is x (naming_of is x)
 -- is a text the name that an OpName of that number gives, if there is one
 abbrev pub is_name : List PlainInst → List ℕ → Option ℕ → Bool
 is_name is t None = false
-is_name is t (Some n) = bytes_eq t (text_in (inst_at is n).operands)
+is_name is t (Some n) = bytes_eq t (name_by (inst_at is n))
 
 -- the function of an OpEntryPoint, where an OpName gives it the same name [3.49.5]
-abbrev pub entry_in : List PlainInst → List Plain → Option ℕ
-entry_in is (Value k v ∷ Id x ∷ Text t ∷ os) = if is_name is t (naming_of is x) then Some x else None
-entry_in is _ = None
+abbrev pub entry_in : List PlainInst → Option (ℕ × List ℕ) → Option ℕ
+entry_in is None = None
+entry_in is (Some p) = if is_name is p.1 (naming_of is p.0) then Some p.0 else None
 
 abbrev pub entry_named : List PlainInst → PlainInst → Option ℕ
-entry_named is i = if nat_eq i.opcode ENTRY_POINT then entry_in is i.operands else None
+entry_named is i = entry_in is (named_by EntryPoint i)
 
 -- the name of an id, but for one whose name stands on the line already
 abbrev pub name_unless : List PlainInst → Option ℕ → ℕ → List ℕ

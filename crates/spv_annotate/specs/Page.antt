@@ -2,8 +2,7 @@
 use Rattle.std.specs.Prelude.{◌≡◌, ◌++◌, ◌==◌, ◌&&◌, ℕ, List, [], ◌∷◌, Option, Some, None, Bool, false}
 use Rattle.std.specs.Prelude.{nat_eq, nat_lt, if◌then◌else◌, codes, decimal, length, map, filter, take, drop}
 use Rattle.std.specs.Prelude.{option_and_then, option_map, unwrap_or}
-use Rattle.std.specs.Option.{option_to_list}
-use Rattle.std.specs.List.{filter_map, flat_map, list_any, onto_first, prefix_len, range_with_len, starts_with}
+use Rattle.std.specs.List.{filter_map, flat_map, list_any, onto_first, prefix_len, range_with_len}
 use Rattle.spv_table.specs.Lookups.{is_number}
 use Rattle.spv_table.specs.Table.{Table}
 use Rattle.spv_module.specs.Module.{plain_insts}
@@ -14,7 +13,7 @@ use Rattle.spv_lines.specs.Digits as digits
 use Rattle.spv_lines.specs.Digits.{is_digit, value}
 use Rattle.spv_lines.specs.Operand.{id_text}
 use Rattle.spv_lines.specs.Plain.{plain_of}
-use Rattle.spv_lines.specs.Text.{lines_of}
+use Rattle.spv_extended.specs.declared.reach.Reach.{Reach}
 use Rattle.spv_annotate.specs.declared.edges.Edge.{Edge}
 use Rattle.spv_annotate.specs.declared.finding.Finding.{Finding}
 use Rattle.spv_annotate.specs.declared.linked.Quoting.{Quoting}
@@ -23,7 +22,7 @@ use Rattle.spv_annotate.specs.declared.style.TheConstants.{HEAD, STYLE, TITLED, 
 use Rattle.spv_annotate.specs.Called.{told_operands}
 use Rattle.spv_annotate.specs.Document.{Subject, IsSubject, beginning, document, is_of, verdict_line}
 use Rattle.spv_annotate.specs.Html.{escaped}
-use Rattle.spv_annotate.specs.Module.{definition_of, function_of, inst_at, naming_of, once, text_in}
+use Rattle.spv_annotate.specs.Module.{definition_of, function_of, inst_at, name_by, naming_of, once}
 use Rattle.spv_annotate.specs.Notes.{short_name}
 use Rattle.spv_annotate.specs.Quoted.{after_byte, begins_id}
 use Rattle.spv_annotate.specs.Piece.{PlainPiece, Header, Section, Function, Block, Line, Comment, Mark, Break}
@@ -66,19 +65,10 @@ part_html definition (b ∷ text) =
 abbrev pub linked : (ℕ → Option ℕ) → Quoting → List ℕ → List ℕ
 linked definition q line = flat_map (part_html definition) (cut_from q line)
 
--- the id that a part of a line begins with, if there is one
-abbrev pub ids_at : List ℕ → List ℕ
-ids_at [] = []
-ids_at (b ∷ text) = if b == 37 then option_to_list (id_of (digits_in text)) else []
-
--- the ids on the line of what is told of a fault that begins with `walk:`
-abbrev pub walk_ids : List ℕ → List ℕ
-walk_ids line = if starts_with nat_eq line (codes "walk:") then flat_map ids_at (cut_from Commented line) else []
-
 -- the ids of the blocks of the walk that shows a fault
 abbrev pub walk_of : Option Finding → List ℕ
 walk_of None = []
-walk_of (Some f) = flat_map walk_ids (lines_of f.lines.now)
+walk_of (Some f) = f.walk.now
 
 -- the id that an operand uses: one that it names other than as the result
 abbrev pub used_in : Plain → Option ℕ
@@ -184,7 +174,7 @@ section_title s =
 -- the name of an id behind a space, if an instruction names it
 abbrev pub name_behind : Scene → Option ℕ → List ℕ
 name_behind S None = []
-name_behind S (Some n) = 32 ∷ short_name (text_in (inst_at S.insts n).operands)
+name_behind S (Some n) = 32 ∷ short_name (name_by (inst_at S.insts n))
 
 -- a result, if there is one, and its name
 abbrev pub label_of : Scene → Option ℕ → List ℕ
@@ -244,11 +234,11 @@ pub record IsScene (is : List PlainInst) (finding : Option Finding) (asked : Opt
   pub walked : (x : ℕ) → S.walked x ≡ list_any (nat_eq x) (walk_of finding)
 
 -- The text is the page of a module: a list of contents, and the pieces of the text for reading.
-pub record IsPage (G : Table) (m : Module) (title : List ℕ) (finding : Option Finding) (asked : Option ℕ) (t : List ℕ)
-    : Type 0 where
+pub record IsPage (G : Table) (reach : Reach) (m : Module) (title : List ℕ) (finding : Option Finding) (asked : Option ℕ)
+    (t : List ℕ) : Type 0 where
   pub subject : Subject
   pub scene : Scene
-  pub of : IsSubject G m finding asked subject
+  pub of : IsSubject G reach m finding asked subject
   pub known : IsScene (plain_insts m) finding asked scene
   pub all : t ≡ page_front title (notice (plain_insts m) asked finding) ++ (flat_map (contents_of scene) (beginnings (plain_insts m) asked)
       ++ (MIDDLE.now ++ (flat_map (page_of scene) (document subject) ++ END.now)))

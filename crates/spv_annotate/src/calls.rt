@@ -11,7 +11,7 @@ ghost use Rattle.spv_annotate.specs.inner.Numbers.{kept};
 
 use crate::numbers::Numbers;
 use crate::opencl::opencl_name;
-use spv_extended::{Call, Set};
+use spv_extended::{Call, Set, set_named};
 use spv_module::{Inst, Operand, opcode};
 use std::alloc::AllocError;
 
@@ -24,22 +24,6 @@ pub fn push_note(out: &mut String, text: &str) -> Result<(), AllocError>
     }
     out.push_str(", ")?;
     out.push_str(text)
-}
-
-/// The set of a name.
-fn set_named(name: &str) -> Set
-    ensures { result ≡ sets.set_named name.now }
-{
-    if name == "OpenCL.std" {
-        return Set::OpenClStd;
-    }
-    if name == "OpenCL.DebugInfo.100" {
-        return Set::OpenClDebugInfo;
-    }
-    if name == "DebugInfo" {
-        return Set::DebugInfo;
-    }
-    Set::Other
 }
 
 /// The set that an instruction imports.

@@ -5,4 +5,6 @@ pub struct Finding<'t> {
     pub inst: u32,
     /// The verdict line, and the lines behind it.
     pub lines: &'t str,
+    /// The ids of the blocks of the walk that shows it, in order; none where no walk does.
+    pub walk: &'t [u32],
 }

@@ -4,7 +4,7 @@ ghost use Rattle.std.specs.Prelude.{◌≡◌, ◌≤◌, ◌<◌, ◌+◌, ◌&
 ghost use Rattle.std.specs.Prelude.{option_and_then};
 ghost use Rattle.std.specs.List.{list_any};
 ghost use Rattle.spv_table.specs.Lookups.{is_number};
-ghost use Rattle.spv_module.specs.Module.{plain_inst, plain_operands};
+ghost use Rattle.spv_module.specs.Module.{plain_inst};
 ghost use Rattle.spv_layout.specs.Place.{AreFew};
 ghost use Rattle.spv_annotate.specs.Module as specs;
 ghost use Rattle.spv_annotate.specs.Module.{definition_of, function_of, naming_of};
@@ -14,7 +14,8 @@ ghost use Rattle.spv_annotate.specs.inner.Numbers.{kept};
 
 use crate::numbers::Numbers;
 use crate::outline::{function_at, function_behind, is_in_asked};
-use spv_module::{Inst, Operand, opcode};
+use spv_module::{Inst, opcode};
+use spv_names::{Naming, named};
 use std::alloc::{AllocError, Global};
 
 /// Keeps a number of an id, if there is one.
@@ -29,24 +30,12 @@ fn keep(numbers: &mut Numbers, id: Option<u32>, number: u32) -> Result<(), Alloc
     }
 }
 
-/// The id that operands of an OpName name.
-fn named_in(operands: &[Operand<'_>]) -> Option<u32>
-    ensures { result ≡ specs.named_in (plain_operands operands.now) }
-{
-    match operands {
-        [Operand::Id(id), Operand::Text(_), ..] => Some(*id),
-        _ => None,
-    }
-}
-
 /// The id that an instruction names, if it is an OpName.
 fn named_by(inst: &Inst<'_>) -> Option<u32>
     ensures { result ≡ specs.named_by (plain_inst inst.now) }
 {
-    if inst.opcode == opcode::NAME {
-        return named_in(inst.operands.as_slice());
-    }
-    None
+    let (id, _) = named(Naming::Name, inst)?;
+    Some(id)
 }
 
 /// Of each id the first instruction that defines it: that has it as its result.

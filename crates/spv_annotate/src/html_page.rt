@@ -27,9 +27,11 @@ use crate::page_pen::{ContentsPen, PagePen};
 use crate::style::{END, HEAD, LIST, MIDDLE, STYLE, TITLED};
 use crate::uses::Uses;
 use crate::walk::walk_of;
-use crate::writer::{annotate_with, first_line};
+use crate::writer::{first_line, write_text};
+use spv_extended::Reach;
 use spv_lines::push_plain;
 use spv_module::{Inst, Module};
+use spv_printer::show_listed;
 use spv_table::Table;
 use std::alloc::{AllocError, Global};
 
@@ -147,21 +149,31 @@ fn push_lines(
     look: Look<'_, '_>,
     table: &Table,
     module: &Module<'_>,
+    reach: Reach,
     finding: Option<Finding<'_>>,
     function: Option<u32>,
 ) -> Result<String, AllocError>
     requires spelled { IsSpelled table.now (plain_insts «module».now) }
     requires words { IsShort (plain_insts «module».now) }
-    ensures { IfOk result (λ t. (S : Subject) × IsSubject table.now «module».now finding.entry function S
+    ensures { IfOk result (λ t. (S : Subject) × IsSubject table.now reach «module».now finding.entry function S
         × (string_bytes t ≡ string_bytes out ++ flat_map (page_of (scene look.entry)) (document S))) }
 {
+    let text = show_listed(look.alloc, table, module)?;
     let mut pen = PagePen {
         out,
         look,
         buffer: [0u8; SIZE],
         at: 0,
     };
-    annotate_with(look.alloc, table, module, finding, function, &mut pen)?;
+    write_text(
+        look.alloc,
+        module,
+        reach,
+        finding,
+        function,
+        text.as_str(),
+        &mut pen,
+    )?;
     pen.finish()?;
     let PagePen { out, .. } = pen;
     Ok(out)
@@ -172,6 +184,7 @@ fn page_by(
     look: Look<'_, '_>,
     table: &Table,
     module: &Module<'_>,
+    reach: Reach,
     title: &str,
     finding: Option<Finding<'_>>,
     function: Option<u32>,
@@ -179,11 +192,11 @@ fn page_by(
     requires known { IsScene (plain_insts «module».now) finding function (scene look) }
     requires spelled { IsSpelled table.now (plain_insts «module».now) }
     requires words { IsShort (plain_insts «module».now) }
-    ensures { IfOk result (λ t. IsPage table.now «module».now title.now finding.entry function (string_bytes t)) }
+    ensures { IfOk result (λ t. IsPage table.now reach «module».now title.now finding.entry function (string_bytes t)) }
 {
     let mut front = page_contents(look, title, finding, function)?;
     front.push_str(MIDDLE)?;
-    let mut out = push_lines(front, look, table, module, finding, function)?;
+    let mut out = push_lines(front, look, table, module, reach, finding, function)?;
     out.push_str(END)?;
     Ok(out)
 }
@@ -193,6 +206,7 @@ fn page_over(
     alloc: Global,
     table: &Table,
     module: &Module<'_>,
+    reach: Reach,
     title: &str,
     finding: Option<Finding<'_>>,
     function: Option<u32>,
@@ -204,7 +218,7 @@ fn page_over(
     requires definitions { (x : ℕ) → kept definitions.now x
         ≡ option_and_then (if_asked (plain_insts «module».now) function) (definition_of (plain_insts «module».now) x) }
     requires uses { (x : ℕ) → leading x uses.now.edges.items ≡ users_of (plain_insts «module».now) function x }
-    ensures { IfOk result (λ t. IsPage table.now «module».now title.now finding.entry function (string_bytes t)) }
+    ensures { IfOk result (λ t. IsPage table.now reach «module».now title.now finding.entry function (string_bytes t)) }
 {
     let insts = module.insts.as_slice();
     let namings = find_namings(alloc, insts)?;
@@ -219,7 +233,7 @@ fn page_over(
         faulty: faulty_of(insts, finding),
         walk: &walk,
     };
-    page_by(look, table, module, title, finding, function)
+    page_by(look, table, module, reach, title, finding, function)
 }
 
 /// The page of a module that words spell: what `annotate` writes, as a document of HTML that needs nothing beside it.
@@ -234,13 +248,14 @@ pub fn page(
     alloc: Global,
     table: &Table,
     module: &Module<'_>,
+    reach: Reach,
     title: &str,
     finding: Option<Finding<'_>>,
     function: Option<u32>,
 ) -> Result<String, AllocError>
     requires spelled { IsSpelled table.now (plain_insts «module».now) }
     requires words { IsShort (plain_insts «module».now) }
-    ensures { IfOk result (λ t. IsPage table.now «module».now title.now finding.entry function (string_bytes t)) }
+    ensures { IfOk result (λ t. IsPage table.now reach «module».now title.now finding.entry function (string_bytes t)) }
 {
     let insts = module.insts.as_slice();
     let definitions = find_definitions(alloc, insts)?;
@@ -250,6 +265,7 @@ pub fn page(
             alloc,
             table,
             module,
+            reach,
             title,
             finding,
             function,
@@ -259,6 +275,6 @@ pub fn page(
     }
     let asked = find_asked(alloc, insts, &definitions, function)?;
     page_over(
-        alloc, table, module, title, finding, function, &asked, &uses,
+        alloc, table, module, reach, title, finding, function, &asked, &uses,
     )
 }

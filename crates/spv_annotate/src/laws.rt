@@ -12,7 +12,10 @@ ghost use Rattle.spv_annotate.specs.declared.finding.Finding.{Finding};
 ghost use Rattle.spv_annotate.specs.declared.values.Bits.TheVariants.{Half, Single};
 ghost use Rattle.spv_annotate.specs.Bare.{asked_lines, bare, bare_text};
 ghost use Rattle.spv_annotate.specs.Document.{IsSpelled, IsSubject, Subject, beginning, document, is_of, line_of};
+ghost use Rattle.spv_annotate.specs.Document.{version_line};
 ghost use Rattle.spv_extended.specs.Example.{call, imports};
+ghost use Rattle.spv_extended.specs.declared.reach.Reach.{Reach};
+ghost use Rattle.spv_extended.specs.declared.reach.Reach.TheVariants.{Extended, OpenCl};
 ghost use Rattle.spv_extended.specs.declared.signature.More.TheVariants.{Nothing};
 ghost use Rattle.spv_annotate.specs.declared.linked.Quoting.TheVariants.{Outside};
 ghost use Rattle.spv_annotate.specs.Called.{ids_of, told_operands, unmarked};
@@ -26,13 +29,19 @@ ghost use Rattle.spv_annotate.specs.Values.{IsValue, float_of, hex_of, is_nan, w
 /// gives exactly the shown lines, each control character as `\xNN`, and literals of extended instructions without `%`:
 /// those of the header, and those of the instructions that were asked for, which are all where no function was.
 pub fn bare_text_is_shown()
-    ensures asked { (G : Table) (m : Module) (told : Option Finding) (function : Option ℕ) (S : Subject)
-        → IsSpelled G (plain_insts m) → IsSubject G m told function S
+    ensures asked { (G : Table) (reach : Reach) (m : Module) (told : Option Finding) (function : Option ℕ) (S : Subject)
+        → IsSpelled G (plain_insts m) → IsSubject G reach m told function S
         → bare_text told (flat_map (text_of false) (document S)) ≡ ended (S.header ++ asked_lines S) }
-    ensures whole { (G : Table) (m : Module) (told : Option Finding) (S : Subject)
-        → IsSpelled G (plain_insts m) → IsSubject G m told None S
+    ensures whole { (G : Table) (reach : Reach) (m : Module) (told : Option Finding) (S : Subject)
+        → IsSpelled G (plain_insts m) → IsSubject G reach m told None S
         → bare_text told (flat_map (text_of false) (document S))
         ≡ ended (S.header ++ map (λ n. plain_of (line_of S n)) (range_with_len 0 (length S.insts))) }
+{}
+
+/// The line of the version.
+pub fn version_examples()
+    ensures own { version_line (OpenCl 4) ≡ codes "; Version: 1.4" }
+    ensures profile { ¬ (version_line Extended ≡ codes "; Version: 1.4") }
 {}
 
 /// Names and calls.

@@ -14,7 +14,6 @@ mod html;
 pub mod html_laws;
 mod html_page;
 mod known;
-mod labels;
 pub mod laws;
 mod linked;
 mod literals;
@@ -41,8 +40,7 @@ mod writer;
 
 pub use finding::Finding;
 pub use html_page::page;
-pub use labels::walk_labels;
 pub use piece::{Pen, Piece};
-pub use text::{annotate, has_function};
+pub use text::annotate;
 pub use text_pen::TextPen;
 pub use writer::annotate_with;

@@ -3,7 +3,6 @@
 ghost use Rattle.std.specs.Prelude.{◌≡◌, ◌++◌, ◌∷◌, ◌≤◌, ◌<◌, ℕ, List, IfSome, OnOk, Some, get_or, length};
 ghost use Rattle.std.specs.Prelude.{drop, option_and_then, string_bytes, take, true};
 ghost use Rattle.std.specs.List.{list_all, prefix_len};
-ghost use Rattle.std.specs.Option.{option_to_list};
 ghost use Rattle.spv_lines.specs.Digits as digits;
 ghost use Rattle.spv_annotate.specs.declared.linked.TheConstants.{LINK};
 ghost use Rattle.spv_annotate.specs.inner.Linked as specs;
@@ -11,7 +10,7 @@ ghost use Rattle.spv_annotate.specs.inner.Linked.{base, is_steady, part_len, unt
 ghost use Rattle.spv_annotate.specs.inner.Numbers.{kept};
 ghost use Rattle.spv_annotate.specs.Html.{escaped};
 ghost use Rattle.spv_annotate.specs.Quoted as quoted;
-ghost use Rattle.spv_annotate.specs.Page.{id_html, id_of, ids_at, link_to, linked, part_html};
+ghost use Rattle.spv_annotate.specs.Page.{id_html, id_of, link_to, linked, part_html};
 ghost use Rattle.spv_annotate.specs.Quoted.{after_byte};
 
 use crate::buffer::{push_between, put_number, put_octets};
@@ -146,7 +145,7 @@ pub fn size_until_id(line: &[u8], quoting: Quoting) -> usize
 }
 
 /// How many bytes the first part of a line has, up to the next id behind the first byte.
-pub fn part_size(line: &[u8], quoting: Quoting) -> usize
+fn part_size(line: &[u8], quoting: Quoting) -> usize
     ensures size { result ≡ part_len quoting line.now }
     ensures within { result ≤ length line.now }
 {
@@ -283,19 +282,6 @@ fn id_in(word: &[u8]) -> Option<u32>
         Ok(id) => Some(id),
         Err(_) => None,
     }
-}
-
-/// The id that a part of a line begins with.
-pub fn id_at(part: &[u8]) -> Option<u32>
-    ensures { option_to_list result ≡ ids_at part.now }
-{
-    let [first, rest @ ..] = part else {
-        return None;
-    };
-    if *first != b'%' {
-        return None;
-    }
-    id_in(&part[..1 + digit_count(rest)])
 }
 
 /// What is kept of the id that a word is, as `%7`.

@@ -16,24 +16,25 @@ use crate::short::push_short;
 use crate::words::push_id;
 use spv_extended::Signature;
 use spv_module::{Inst, Operand, opcode};
+use spv_names::{Naming, named};
 use std::alloc::AllocError;
 
-/// The name in an OpName.
-fn text_in<'a>(operands: &[Operand<'a>]) -> &'a str
-    ensures { result.now ≡ specs.text_in (plain_operands operands.now) }
+/// The name that an OpName gives.
+fn name_by<'a>(inst: &Inst<'a>) -> &'a str
+    ensures { result.now ≡ specs.name_by (plain_inst inst.now) }
 {
-    match operands {
-        [_, Operand::Text(text), ..] => text,
-        _ => "",
+    match named(Naming::Name, inst) {
+        Some((_, name)) => name,
+        None => "",
     }
 }
 
 /// The name in the OpName of that number.
 pub fn name_at<'a>(insts: &'a [Inst<'_>], at: u32) -> &'a str
-    ensures { result.now ≡ specs.text_in (inst_at (map plain_inst insts.now) at).operands }
+    ensures { result.now ≡ specs.name_by (inst_at (map plain_inst insts.now) at) }
 {
     match insts.get(at as usize) {
-        Some(inst) => text_in(inst.operands.as_slice()),
+        Some(inst) => name_by(inst),
         None => "",
     }
 }
@@ -81,31 +82,15 @@ fn is_name(insts: &[Inst<'_>], text: &str, naming: Option<u32>) -> bool
     }
 }
 
-/// The function of an OpEntryPoint with these operands, where an OpName gives it the same name.
-fn entry_in(insts: &[Inst<'_>], namings: &Numbers, operands: &[Operand<'_>]) -> Option<u32>
-    requires { (x : ℕ) → kept namings.now x ≡ naming_of (map plain_inst insts.now) x }
-    ensures { result ≡ notes.entry_in (map plain_inst insts.now) (plain_operands operands.now) }
-{
-    match operands {
-        [
-            Operand::Value { .. },
-            Operand::Id(id),
-            Operand::Text(name),
-            ..
-        ] if is_name(insts, name, namings.get(*id)) => Some(*id),
-        _ => None,
-    }
-}
-
 /// The function of an OpEntryPoint, where an OpName gives it the same name.
 fn entry_named(insts: &[Inst<'_>], namings: &Numbers, inst: &Inst<'_>) -> Option<u32>
     requires { (x : ℕ) → kept namings.now x ≡ naming_of (map plain_inst insts.now) x }
     ensures { result ≡ notes.entry_named (map plain_inst insts.now) (plain_inst inst.now) }
 {
-    if inst.opcode == opcode::ENTRY_POINT {
-        return entry_in(insts, namings, inst.operands.as_slice());
+    match named(Naming::EntryPoint, inst) {
+        Some((id, name)) if is_name(insts, name, namings.get(id)) => Some(id),
+        _ => None,
     }
-    None
 }
 
 /// Adds an id and its name, if it has one, but for an id whose name stands on the line already.
@@ -149,8 +134,8 @@ fn push_operand_names(
     Ok(())
 }
 
-/// Adds the names of the ids on the line of an instruction, but for that of an OpName, which has the name itself, and of
-/// the function of an OpEntryPoint, which has the same one.
+/// Adds the names of the ids on the line of an instruction, but for that of an OpName, which has the name itself, and
+/// of the function of an OpEntryPoint, which has the same one.
 ///
 /// An `AllocError` comes only where a growth of memory was refused, and then nothing is said of what is left.
 pub fn push_names(

@@ -7,7 +7,7 @@ ghost use Rattle.spv_annotate.specs.declared.finding.Finding.{Finding};
 ghost use Rattle.spv_annotate.specs.Document.{verdict_line};
 ghost use Rattle.spv_annotate.specs.Example.{two_blocks};
 ghost use Rattle.spv_annotate.specs.Page.{Scene, contents_of, cut_from, linked, notice, on_page, page_of, users_of};
-ghost use Rattle.spv_annotate.specs.Page.{walk_ids};
+ghost use Rattle.spv_annotate.specs.Page.{walk_of};
 ghost use Rattle.spv_annotate.specs.Piece.{PlainPiece, Function, Header, Line, Mark, text_of};
 ghost use Rattle.spv_annotate.specs.Scenes.{nothing_known};
 
@@ -30,11 +30,10 @@ pub fn linked_examples()
     ensures not_number { linked (λ x. Some 12) Outside (codes "%007") ≢ codes "<a href=#12>%007</a>" }
 {}
 
-/// Worked examples of the ids of a walk.
+/// Worked examples of the blocks of a walk.
 pub fn walk_examples()
-    ensures walk { walk_ids (codes "walk: %13 %9") ≡ 13 ∷ 9 ∷ [] }
-    ensures other { walk_ids (codes "in: %13") ≡ [] }
-    ensures not_one { walk_ids (codes "walk: %13") ≢ 1 ∷ [] }
+    ensures walk { (f : Finding) → f.walk.now ≡ 13 ∷ 9 ∷ [] → walk_of (Some f) ≡ 13 ∷ 9 ∷ [] }
+    ensures none { walk_of None ≢ 13 ∷ [] }
 {}
 
 /// Worked examples of what a page of one function leads to.

@@ -1,30 +1,19 @@
 //! The text for reading.
 
 ghost use Rattle.std.specs.Prelude.{◌≡◌, IfOk, string_bytes};
-ghost use Rattle.std.specs.List.{flat_map, list_any};
+ghost use Rattle.std.specs.List.{flat_map};
 ghost use Rattle.spv_module.specs.Module.{plain_insts};
 ghost use Rattle.spv_layout.specs.Place.{IsShort};
-ghost use Rattle.spv_annotate.specs.Document.{IsSpelled, IsSubject, Subject, document, is_function};
+ghost use Rattle.spv_annotate.specs.Document.{IsSpelled, IsSubject, Subject, document};
 ghost use Rattle.spv_annotate.specs.Piece.{text_of};
 
 use crate::finding::Finding;
 use crate::text_pen::TextPen;
 use crate::writer::annotate_with;
-use spv_module::{Module, opcode};
+use spv_extended::Reach;
+use spv_module::Module;
 use spv_table::Table;
 use std::alloc::{AllocError, Global};
-
-/// Whether an OpFunction of a module has an id as its result.
-pub fn has_function(module: &Module<'_>, id: u32) -> bool
-    ensures { result ≡ list_any (is_function id) (plain_insts «module».now) }
-{
-    for inst in &module.insts {
-        if inst.opcode == opcode::FUNCTION && inst.result_id() == Some(id) {
-            return true;
-        }
-    }
-    false
-}
 
 /// The text for reading of a module that words spell, in colours of a terminal or without: what `annotate_with` writes
 /// by a `TextPen`.
@@ -34,6 +23,7 @@ pub fn annotate(
     alloc: Global,
     table: &Table,
     module: &Module<'_>,
+    reach: Reach,
     finding: Option<Finding<'_>>,
     function: Option<u32>,
     color: bool,
@@ -41,14 +31,14 @@ pub fn annotate(
     requires spelled { IsSpelled table.now (plain_insts «module».now) }
     requires words { IsShort (plain_insts «module».now) }
     // The text is that of all pieces of the document, in order.
-    ensures { IfOk result (λ t. (S : Subject) × IsSubject table.now «module».now finding.entry function S
+    ensures { IfOk result (λ t. (S : Subject) × IsSubject table.now reach «module».now finding.entry function S
         × (string_bytes t ≡ flat_map (text_of color) (document S))) }
 {
     let mut pen = TextPen {
         out: String::new(alloc),
         color,
     };
-    annotate_with(alloc, table, module, finding, function, &mut pen)?;
+    annotate_with(alloc, table, module, reach, finding, function, &mut pen)?;
     let TextPen { out, .. } = pen;
     Ok(out)
 }

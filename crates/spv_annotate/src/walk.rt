@@ -6,7 +6,6 @@ ghost use Rattle.spv_annotate.specs.Page as page;
 ghost use Rattle.spv_annotate.specs.inner.Numbers.{kept};
 
 use crate::finding::Finding;
-use crate::labels::walk_labels;
 use crate::numbers::Numbers;
 use std::alloc::{AllocError, Global};
 
@@ -28,8 +27,9 @@ pub fn walk_of(alloc: Global, finding: Option<Finding<'_>>) -> Result<Numbers, A
     ensures { IfOk result (λ walk. (x : ℕ) → is_some (kept walk x)
         ≡ list_any (nat_eq x) (page.walk_of finding.entry)) }
 {
-    let labels = walk_labels(alloc, finding)?;
     let mut walk = Numbers::new(alloc, 0)?;
-    keep_all(&mut walk, labels.as_slice())?;
+    if let Some(finding) = finding {
+        keep_all(&mut walk, finding.walk)?;
+    }
     Ok(walk)
 }

@@ -4,13 +4,15 @@ ghost use Rattle.std.specs.Prelude.{◌≡◌, ◌≤◌, ◌<◌, ◌+◌, ◌+
 ghost use Rattle.std.specs.Prelude.{drop, get_or, is_some, length, option_map, string_bytes, take, true};
 ghost use Rattle.std.specs.List.{flat_map, list_all, range_with_len};
 ghost use Rattle.spv_words.specs.Header.{greatest_length};
+ghost use Rattle.spv_table.specs.Table.{Table as TableView};
 ghost use Rattle.spv_module.specs.Module.{plain_insts};
 ghost use Rattle.spv_layout.specs.Place.{IsShort, first_word_of, word_count};
-ghost use Rattle.spv_lines.specs.Text.{header_lines, inst_line, lines_of};
+ghost use Rattle.spv_lines.specs.Text.{IsShownText, header_lines, inst_line, lines_of};
 ghost use Rattle.spv_lines.specs.Plain.{plain_of};
 ghost use Rattle.spv_annotate.specs.Document as specs;
 ghost use Rattle.spv_annotate.specs.Document.{IsSpelled, IsSubject, Subject, begun, document, entry, header_piece};
-ghost use Rattle.spv_annotate.specs.Document.{is_of, line_pieces, mark_piece, marks, verdict_piece};
+ghost use Rattle.spv_annotate.specs.Document.{is_of, line_pieces, mark_piece, marks, told_header, verdict_piece};
+ghost use Rattle.spv_annotate.specs.Document.{version_line};
 ghost use Rattle.spv_annotate.specs.declared.linked.Quoting.TheVariants.{Outside};
 ghost use Rattle.spv_annotate.specs.Called as called;
 ghost use Rattle.spv_annotate.specs.Called.{told_line, unmarked};
@@ -32,6 +34,8 @@ use crate::piece::{Pen, Piece};
 use crate::section::section_of;
 use crate::standing::Standing;
 use crate::tame::{has_tame_lines, is_tame_line};
+use crate::words::push_number;
+use spv_extended::Reach;
 use spv_lines::{push_plain, split_line};
 use spv_module::{Module, opcode};
 use spv_printer::show_listed;
@@ -45,6 +49,8 @@ pub struct Task<'m, 'a> {
     alloc: Global,
     /// The module.
     module: &'m Module<'a>,
+    /// How far it is looked at.
+    reach: Reach,
     /// What is known of it.
     known: &'m Known,
     /// What is told of a fault.
@@ -107,6 +113,50 @@ fn write_header<'t, P: Pen>(pen: &mut P, text: &'t str, count: usize) -> Result<
         done += 1;
     }
     Ok(rest)
+}
+
+/// Adds the line of the version.
+fn push_version(out: &mut String, reach: Reach) -> Result<(), AllocError>
+    ensures { OnOk result (string_bytes out.new ≡ string_bytes out.old ++ version_line reach) }
+{
+    match reach {
+        Reach::Profile | Reach::Extended => out.push_str("; Version: 1.6"),
+        Reach::OpenCl { minor } => {
+            out.push_str("; Version: 1.")?;
+            push_number(out, u64::from(minor))
+        }
+    }
+}
+
+/// Writes the line of the version.
+fn write_version<P: Pen>(pen: &mut P, alloc: Global, reach: Reach) -> Result<(), AllocError>
+    ensures { OnOk result (IsWritten P.text P.writes (header_piece (version_line reach)) pen.old pen.new) }
+{
+    let mut draft = String::new(alloc);
+    push_version(&mut draft, reach)?;
+    pen.write(Piece::Header(draft.as_str()))?;
+    pen.write(Piece::Break)
+}
+
+/// Writes the lines of the header, by those of a shown text, and gives what stands behind them.
+fn write_heading<'t, P: Pen>(
+    pen: &mut P,
+    task: &Task<'_, '_>,
+    text: &'t str,
+) -> Result<&'t str, AllocError>
+    requires header { take 5 (lines_of text.now) ≡ header_lines task.now.«module».now.header }
+    requires lines { 5 ≤ length (lines_of text.now) }
+    ensures written { OnOk result (IsWritten P.text P.writes
+        (flat_map header_piece (told_header task.now.reach task.now.«module».now.header)) pen.old pen.new) }
+    ensures rest { IfOk result (λ t. lines_of t.now ≡ drop 5 (lines_of text.now)) }
+{
+    let below = write_header(pen, text, 1)?;
+    write_version(pen, task.alloc, task.reach)?;
+    if below.is_empty() {
+        unreachable!();
+    }
+    let (_, rest) = split_line(below);
+    write_header(pen, rest, 3)
 }
 
 /// Writes what begins with an instruction: a function, a block, or outside of functions another section than the one
@@ -422,15 +472,48 @@ fn write_shown<P: Pen>(pen: &mut P, task: &Task<'_, '_>, text: &str) -> Result<(
         pen.old pen.new) }
 {
     write_verdict(pen, task)?;
-    let rest = write_header(pen, text, 5)?;
+    let rest = write_heading(pen, task, text)?;
     write_entries(pen, task, rest)
+}
+
+/// Writes the text for reading of a module that words spell, by its text: what `annotate_with` writes.
+///
+/// An `AllocError` comes only where a growth of memory was refused, and then nothing is said of what is left.
+pub fn write_text<P: Pen>(
+    alloc: Global,
+    module: &Module<'_>,
+    reach: Reach,
+    finding: Option<Finding<'_>>,
+    function: Option<u32>,
+    text: &str,
+    pen: &mut P,
+) -> Result<(), AllocError>
+    requires words { IsShort (plain_insts «module».now) }
+    requires shown { (G : TableView) × IsSpelled G (plain_insts «module».now)
+        × IsShownText G «module».now.header (plain_insts «module».now) text.now }
+    ensures { OnOk result ((S : Subject) × ((G : TableView) → IsSpelled G (plain_insts «module».now)
+        → IsShownText G «module».now.header (plain_insts «module».now) text.now
+        → IsSubject G reach «module».now finding.entry function S)
+        × IsWritten P.text P.writes (document S) pen.old pen.new) }
+{
+    let known = Known::new(alloc, module.insts.as_slice())?;
+    let task = Task {
+        alloc,
+        module,
+        reach,
+        known: &known,
+        finding,
+        function,
+    };
+    write_shown(pen, &task, text)
 }
 
 /// Writes the text for reading of a module that words spell: the line of the verdict, where a fault is told; the five
 /// lines of its header, and the line of each instruction with a comment behind it; empty lines before sections and
 /// functions; and what is told of a fault, below the line of its instruction. Where a function is asked for, by the id
 /// of its OpFunction, only the line of the verdict, those of the header and those from its OpFunction to its
-/// OpFunctionEnd are written, and what is told of a fault there.
+/// OpFunctionEnd are written, and what is told of a fault there. The version is 1.6, and for OpenCL that which the module
+/// has.
 ///
 /// Time is linear in the words, but for logarithms.
 ///
@@ -439,6 +522,7 @@ pub fn annotate_with<P: Pen>(
     alloc: Global,
     table: &Table,
     module: &Module<'_>,
+    reach: Reach,
     finding: Option<Finding<'_>>,
     function: Option<u32>,
     pen: &mut P,
@@ -446,17 +530,9 @@ pub fn annotate_with<P: Pen>(
     requires spelled { IsSpelled table.now (plain_insts «module».now) }
     requires words { IsShort (plain_insts «module».now) }
     // The pieces of the document are written, in order.
-    ensures { OnOk result ((S : Subject) × IsSubject table.now «module».now finding.entry function S
+    ensures { OnOk result ((S : Subject) × IsSubject table.now reach «module».now finding.entry function S
         × IsWritten P.text P.writes (document S) pen.old pen.new) }
 {
     let text = show_listed(alloc, table, module)?;
-    let known = Known::new(alloc, module.insts.as_slice())?;
-    let task = Task {
-        alloc,
-        module,
-        known: &known,
-        finding,
-        function,
-    };
-    write_shown(pen, &task, text.as_str())
+    write_text(alloc, module, reach, finding, function, text.as_str(), pen)
 }

@@ -1,6 +1,6 @@
 //! What errors are shown as: each variant of each type.
 
-use spv_builtin::{GrammarError, Memory, UnpackError};
+use spv_builtin::{GrammarError, Memory};
 use spv_parser::{AsmCode, AsmError};
 use spv_printer::{EncodeCode, EncodeError};
 use spv_words::{Failed, WordError};
@@ -27,8 +27,6 @@ the grammar has an unknown category or quantifier
 a result kind of the grammar stands twice, is quantified, or stands in parameters or bases
 a composite kind of the grammar has no bases, or one that is neither an id nor a literal
 out of memory
-out of memory
-the words are no packed table
 out of memory
 instruction 7: the header does not fit
 instruction 7: no words spell the instruction
@@ -77,11 +75,6 @@ fn messages(rt: HostRuntime) -> Result<(), Fail> {
     show_each(alloc, &[Failed], &mut lines)?;
     show_each(alloc, &[J1, J2, J3, J4, J5, J6, J7, J8], &mut lines)?;
     show_each(alloc, &[Memory], &mut lines)?;
-    show_each(
-        alloc,
-        &[UnpackError::Damaged, UnpackError::Memory],
-        &mut lines,
-    )?;
     show_places(alloc, &mut lines)?;
     assert!(rt; lines.as_str() == MESSAGES);
     Ok(())

@@ -1,5 +1,7 @@
-pub mod Parts
-pub mod Times
+pub mod Computed
+pub mod Fronts
+pub mod Held
+pub mod Made
+pub mod Rows
 pub mod Told
 pub mod Trees
-pub mod Unpacked

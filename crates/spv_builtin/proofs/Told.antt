@@ -8,14 +8,7 @@ use Rattle.spv_table.specs.Table.{Table}
 use Rattle.spv_grammar.specs.declared.error.GrammarError.{GrammarError}
 use Rattle.spv_grammar.specs.declared.error.GrammarError.TheVariants.{J1, J2, J3, J4, J5, J6, J7, J8}
 use Rattle.spv_grammar.specs.Answer.{Gives, tree_breaks, text_breaks}
-use Rattle.spv_builtin.specs.declared.words.TheConstants.{WORDS}
-use Rattle.spv_builtin.specs.Packed.{IsPacked, take_all}
 use Rattle.spv_builtin.specs.Source.{IsGivenBy, IsTableOf, breaks}
-
-pub one_packed : (words : List ℕ) (G H : Table) → IsPacked words G → IsPacked words H → G ≡ H
-one_packed words G H g h =
-    let s : g.start ≡ h.start = same_Some _ _ (sym g.starts ∙ h.starts) in
-    same_Some _ _ (sym g.holds.taken ∙ ap take_all s ∙ h.holds.taken)
 
 -- the text has no tree, and the code is J1
 abbrev pub NoTree : List ℕ → GrammarError → Type 0
@@ -59,7 +52,7 @@ gives_too text G d g is =
 
 module _ (given : (d : Data) (G H : Table) → Gives d G → Gives d H → G ≡ H) where
   pub one_table : (text : Option (List ℕ)) (G H : Table) → IsTableOf text G → IsTableOf text H → G ≡ H
-  one_table None G H g h = one_packed WORDS G H g h
+  one_table None G H g h = g ∙ sym h
   one_table (Some text) G H g h = given h.tree G H (gives_too text G h.tree g h.is_tree) h.gives
 
 module _ (unbroken : (d : Data) (G : Table) (e : GrammarError) → Gives d G → tree_breaks d ≡ Some e → ⊥) where

@@ -1,5 +1,4 @@
-pub mod Example
-pub mod Packed
+pub mod BuiltIn
 pub mod Source
 pub mod Text
 pub mod inner

@@ -1,2 +1,3 @@
 -- Definitions that serve the code alone.
-pub mod Takes
+pub mod Fronts
+pub mod Slots

@@ -1,17 +1,10 @@
 //! Laws of the definitions. Each function does nothing: its contract is what is proved.
-ghost use Rattle.std.specs.Prelude.{◌≡◌, ℕ, List, [], ◌∷◌, ◌++◌, Option, codes};
+ghost use Rattle.std.specs.Prelude.{◌≡◌, ℕ, List, Option, codes};
 ghost use Rattle.spv_table.specs.Table.{Table};
 ghost use Rattle.spv_grammar.specs.declared.error.GrammarError.{GrammarError};
 ghost use Rattle.spv_table.specs.Example.{empty_table};
-ghost use Rattle.spv_builtin.specs.Example.{small_table, small_words};
-ghost use Rattle.spv_builtin.specs.Packed.{IsPacked};
 ghost use Rattle.spv_builtin.specs.Source.{IsTableOf, breaks};
 ghost use Rattle.spv_builtin.specs.Text.{IsGrammarText};
-
-/// At most one table is packed in words.
-pub fn one_packed()
-    ensures { (words : List ℕ) (G H : Table) → IsPacked words G → IsPacked words H → G ≡ H }
-{}
 
 /// There is at most one table of a run, and one that breaks a code has none.
 pub fn one_table()
@@ -21,18 +14,6 @@ pub fn one_table()
 {
     spv_grammar::laws::one_table();
 }
-
-/// Worked examples of packed tables.
-pub fn packed_examples()
-    // No text, no list of names, no kind, no entry.
-    ensures nothing { IsPacked (0 ∷ 0 ∷ 0 ∷ 0 ∷ []) empty_table }
-    ensures small { IsPacked small_words small_table }
-    // A word that is missing, one too many, and an item of the second kind where there is one.
-    ensures cut { (G : Table) → ¬ (IsPacked (0 ∷ 0 ∷ 0 ∷ []) G) }
-    ensures more { (G : Table) → ¬ (IsPacked (0 ∷ 0 ∷ 0 ∷ 0 ∷ 7 ∷ []) G) }
-    ensures unknown { (G : Table) → ¬ (IsPacked
-        (0 ∷ 1 ∷ 0 ∷ 1 ∷ 2 ∷ 0 ∷ 0 ∷ 0 ∷ 1 ∷ 5 ∷ 0 ∷ 1 ∷ 4 ∷ 0 ∷ []) G) }
-{}
 
 /// A worked example of a grammar file: the table of nothing has this text, and not the one with a space.
 pub fn text_examples()

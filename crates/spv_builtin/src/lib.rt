@@ -2,24 +2,19 @@
 //! file is refused for. And the grammar file of a table.
 #![tactic(auto)]
 
-mod error;
+mod built_in;
+mod constants;
 mod fault;
 pub mod laws;
 mod load;
-mod packed;
-mod reader;
 mod reason;
+mod row;
 mod source;
-mod take;
 mod text;
 mod tree;
-mod whole;
-mod words;
 
-pub use error::UnpackError;
 pub use fault::fault_of;
 pub use load::FromGrammar;
-pub use packed::unpack;
 pub use reason::grammar_reason;
 pub use source::table_of;
 pub use spv_grammar::{GrammarError, GrammarFault};
@@ -28,4 +23,3 @@ pub use spv_table::{
     Table,
 };
 pub use text::grammar_text;
-pub use words::WORDS;

@@ -24,7 +24,7 @@ fn digit(number: u8) -> u8
 fn push_octet(out: &mut Vec<u8>, octet: u8) -> Result<(), AllocError>
     ensures { OnOk result (out.new.items ≡ out.old.items ++ octet_shown octet) }
 {
-    if octet < 32 || octet == 127 {
+    if octet < 32 || octet >= 127 {
         return out.extend_from_slice(&[b'\\', b'x', digit(octet / 16), digit(octet % 16)]);
     }
     out.extend_from_slice(&[octet])
@@ -72,8 +72,8 @@ fn lines_of_fault(alloc: Global, fault: &GrammarFault) -> Result<Vec<u8>, AllocE
 }
 
 /// What a grammar file's text is refused for, in lines that end with a line feed: `at:` and the path to it, but where
-/// that is the whole file; `found:` and what stands there, `wanted:` and what is wanted. Each control character of
-/// ASCII is `\xNN`. It is empty where the text breaks no code.
+/// that is the whole file; `found:` and what stands there, `wanted:` and what is wanted. Each octet of a
+/// control character, and each that is none of ASCII, is `\xNN`. It is empty where the text breaks no code.
 ///
 /// # Errors
 ///

@@ -3,11 +3,9 @@ ghost use Rattle.std.specs.Prelude.{◌≢◌, IfOk, IfErr, option_map};
 ghost use Rattle.spv_grammar.specs.declared.error.GrammarError.TheVariants.{J8};
 ghost use Rattle.spv_builtin.specs.Source.{IsTableOf, breaks};
 
-use crate::error::UnpackError;
+use crate::built_in::built_in;
 use crate::laws::one_table;
 use crate::load::FromGrammar;
-use crate::packed::unpack;
-use crate::words::WORDS;
 use spv_grammar::GrammarError;
 use spv_table::Table;
 use std::alloc::Global;
@@ -18,7 +16,7 @@ use std::alloc::Global;
 /// # Errors
 ///
 /// Of J1 to J7 the least that the text breaks; J8 where a growth of memory was refused. The built-in table is never
-/// refused but by J8, and by J2 if its words were damaged.
+/// refused but by J8.
 pub fn table_of(alloc: Global, text: Option<&[u8]>) -> Result<Table, GrammarError>
     ensures table { IfOk result (λ G. IsTableOf (option_map (λ t. t.now) text.entry) G) }
     ensures refused { IfErr result (λ e. e ≢ J8 → breaks (option_map (λ t. t.now) text.entry) e) }
@@ -27,9 +25,8 @@ pub fn table_of(alloc: Global, text: Option<&[u8]>) -> Result<Table, GrammarErro
     if let Some(text) = text {
         return Table::from_slice(alloc, text);
     }
-    match unpack(alloc, &WORDS) {
+    match built_in(alloc) {
         Ok(table) => Ok(table),
-        Err(UnpackError::Damaged) => Err(GrammarError::J2),
-        Err(UnpackError::Memory) => Err(GrammarError::J8),
+        Err(_) => Err(GrammarError::J8),
     }
 }

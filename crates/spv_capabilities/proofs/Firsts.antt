@@ -1,5 +1,6 @@
 -- The first broken rule, where the rules were asked one after another.
-use Rattle.std.proofs.Common.{◌≡◌, ◌<◌, ◌∙◌, inl, ℕ, List, [], ◌∷◌, Some, Bool, true, false, nat_eq, refl, sym, arith}
+use Rattle.std.proofs.Common.{◌≡◌, ◌<◌, ◌∙◌, inl, inr, ℕ, List, [], ◌∷◌, Some, Bool, true, false, nat_eq, refl, sym}
+use Rattle.std.proofs.Common.{arith}
 use Rattle.std.specs.List.{AllByRecursion}
 use Rattle.std.specs.Prelude.{slice_get}
 use Rattle.std.proofs.lemmas.Bool.{eqb-true}
@@ -88,11 +89,13 @@ needs_nothing i e = rw (
   differs i.opcode opcode.TYPE_INT (nat_eq i.opcode opcode.TYPE_INT) refl e refl,
   differs i.opcode opcode.TYPE_FLOAT (nat_eq i.opcode opcode.TYPE_FLOAT) refl e refl,
   differs i.opcode opcode.TYPE_VECTOR (nat_eq i.opcode opcode.TYPE_VECTOR) refl e refl,
+  differs i.opcode opcode.TYPE_IMAGE (nat_eq i.opcode opcode.TYPE_IMAGE) refl e refl,
+  differs i.opcode opcode.TYPE_SAMPLER (nat_eq i.opcode opcode.TYPE_SAMPLER) refl e refl,
 ) refl
 
 capable_then : (G : Table) (is : List PlainInst) (i : PlainInst) → is_asked_more i.opcode ≡ false → AreCovered G is i
     → IsCapable G is i
-capable_then G is i e a = record { entry = a.entry; operands = a.operands; widths = inl (needs_nothing i e) }
+capable_then G is i e a = record { entry = a.entry; operands = a.operands; needs = rw (needs_nothing i e) tt }
 
 pub covered_then : (G : Table) (is : List PlainInst) (i : PlainInst) → IsCapable G is i → AreCovered G is i
 covered_then G is i c = record { entry = c.entry; operands = c.operands }
@@ -101,7 +104,10 @@ entries_then : (G : Table) (is : List PlainInst) (n : ℕ) (i : PlainInst) → i
     → (i.opcode ≡ opcode.FUNCTION → IsSoundLinkage G is n) → KeepsEntries G is n i
 entries_then G is n i e l = record {
   entry = λ h. absurd (not_this i.opcode opcode.ENTRY_POINT e refl h);
-  mode = λ h. absurd (not_this i.opcode opcode.EXECUTION_MODE e refl h);
+  mode = λ h. absurd (elim h [
+    | inl q ↦ not_this i.opcode opcode.EXECUTION_MODE e refl q
+    | inr q ↦ not_this i.opcode opcode.EXECUTION_MODE_ID e refl q
+  ]);
   linkage = l;
 }
 

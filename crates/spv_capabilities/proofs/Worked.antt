@@ -18,7 +18,7 @@ use Rattle.spv_capabilities.specs.Capable.{Has}
 use Rattle.spv_capabilities.specs.Entry.{IsNamed, IsKernelFunction, called_by, entered_by, imported_by}
 use Rattle.spv_capabilities.specs.Asked.{IsImported}
 use Rattle.spv_capabilities.specs.inner.Entry.{IsCalled, IsEntered}
-use Rattle.spv_capabilities.specs.Example.{small, vectors, linked, void_function, kernel, declaration}
+use Rattle.spv_capabilities.specs.Example.{small, vectors, images, linked, void_function, kernel, declaration}
 
 -- the names that an enumerant lists
 abbrev names_of : Option Enumerant → List (List ℕ)
@@ -71,6 +71,25 @@ from_seven _ _ (CapabilityChain.step a b c l later) e = inr (from_six b c later 
 from_five : (a c : ℕ) → CapabilityChain small a c → a ≡ 5 → c ≡ 5
 from_five _ _ (CapabilityChain.here a) e = e
 from_five _ _ (CapabilityChain.step a b c l later) e = absurd (by_five a b e l)
+
+-- there is no capability 13
+by_thirteen : (a b : ℕ) → a ≡ 13 → Lists small a b → ⊥
+by_thirteen a b e l =
+    let is : enumerant_of (capabilities_in small) 13 ≡ Some l.enumerant = subst
+    (λ (n : ℕ). enumerant_of (capabilities_in small) n ≡ Some l.enumerant) e l.is in
+    let no : None ≡ Some l.enumerant = is in
+    cc
+
+from_thirteen : (a c : ℕ) → CapabilityChain small a c → a ≡ 13 → c ≡ 13
+from_thirteen _ _ (CapabilityChain.here a) e = e
+from_thirteen _ _ (CapabilityChain.step a b c l later) e = absurd (by_thirteen a b e l)
+
+pub has_images : Has small images 13
+has_images = record { first = 13; declares = (0, omega arith, refl); chain = CapabilityChain.here 13 }
+
+pub no_read_write : ¬ (Has small images 14)
+no_read_write h = let e = from_thirteen h.first 14 h.chain (sym (one_of 13 h.first h.declares)) in
+    absurd (omega (arith, e))
 
 pub has_kernel : Has small vectors 6
 has_kernel = record {

@@ -1,5 +1,6 @@
 -- Parts of what the rules C2, E1 and E2 demand, by names of their own: evidence speaks of them. [2.16.1, 3.20, 3.31]
-use Rattle.std.specs.Prelude.{◌≡◌, ◌≢◌, ◌⊎◌, ℕ, List, [], Some, codes, IfSome}
+use Rattle.std.specs.Prelude.{◌≢◌, ◌⊎◌, ℕ, List, Some, codes, IfSome}
+use Rattle.std.specs.List.{AllByRecursion}
 use Rattle.spv_table.specs.Table.{Table, entry_of}
 use Rattle.spv_table.specs.Lookups.{number_named}
 use Rattle.spv_module.specs.Operand.{PlainInst}
@@ -16,9 +17,9 @@ IsCoveredEntry G is opcode = IfSome (entry_of G opcode) (λ e. IsCovered G is e.
 abbrev pub IsOtherKind : Table → ℕ → Type 0
 IsOtherKind G k = number_named G (codes "Capability") ≢ Some k
 
--- one of the capabilities is declared or implied, or none is needed [3.31]
-abbrev pub HasNeeded : Table → List PlainInst → List ℕ → Type 0
-HasNeeded G is cs = (cs ≡ []) ⊎ HasOneOf G is cs
+-- of each of these lists one capability is declared or implied [3.31]
+abbrev pub HasNeeded : Table → List PlainInst → List (List ℕ) → Type 0
+HasNeeded G is needs = AllByRecursion (HasOneOf G is) needs
 
 -- A decoration says that the function is linked in. [3.20]
 abbrev pub IsImported : Table → List PlainInst → ℕ → Type 0

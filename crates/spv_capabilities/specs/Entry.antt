@@ -62,7 +62,7 @@ pub record IsKernelFunction (is : List PlainInst) (x : ℕ) : Type 0 where
   pub uncalled : ¬ (IsNamed called_by is function)
 
 -- E2 at an OpEntryPoint: the execution model is Kernel (6), and the id is that of a function that may be an entry
--- point; at an OpExecutionMode: some OpEntryPoint names its function. [3.49.5]
+-- point; at an OpExecutionMode or OpExecutionModeId: some OpEntryPoint names its function. [3.49.5]
 abbrev pub IsSoundEntry : List PlainInst → List Plain → Type 0
 IsSoundEntry is (Value k m ∷ Id x ∷ os) = (m ≡ 6) × IsKernelFunction is x
 IsSoundEntry is _ = ⊥

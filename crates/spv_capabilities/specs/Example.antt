@@ -3,7 +3,7 @@ use Rattle.std.specs.Prelude.{ℕ, List, [], ◌∷◌, codes}
 use Rattle.spv_table.specs.declared.table.Category.TheVariants.{ValueEnum, BitEnum}
 use Rattle.spv_table.specs.declared.table.Enumerant.{Enumerant}
 use Rattle.spv_table.specs.Table.{Sort, Table}
-use Rattle.spv_module.specs.Operand.{Plain, OfType, Result, Id, Text, Value, Mask, PlainInst}
+use Rattle.spv_module.specs.Operand.{Plain, OfType, Result, Id, Word, Text, Value, Mask, PlainInst}
 use Rattle.spv_module.specs.declared.opcode.TheConstants as opcode
 
 abbrev pub enumerant : List ℕ → ℕ → List (List ℕ) → Enumerant
@@ -42,6 +42,15 @@ inst opcode operands = record { opcode = opcode; operands = operands }
 -- OpCapability Vector16
 abbrev pub vectors : List PlainInst
 vectors = inst opcode.CAPABILITY (Value 0 7 ∷ []) ∷ []
+
+-- OpCapability ImageBasic, which the table has not
+abbrev pub images : List PlainInst
+images = inst opcode.CAPABILITY (Value 0 13 ∷ []) ∷ []
+
+-- an image type of an access qualifier
+abbrev pub image_type : ℕ → PlainInst
+image_type access = inst opcode.TYPE_IMAGE
+    (Result 2 ∷ Id 1 ∷ Value 10 1 ∷ Word 0 ∷ Word 0 ∷ Word 0 ∷ Word 0 ∷ Value 11 0 ∷ Value 12 access ∷ [])
 
 -- OpCapability Linkage
 abbrev pub linked : List PlainInst

@@ -13,11 +13,11 @@ use Rattle.spv_capabilities.specs.Capable.{Has, IsCapable}
 use Rattle.spv_capabilities.specs.Memory.{IsModel}
 use Rattle.spv_capabilities.specs.Entry.{IsNamed, imported_by, IsSoundEntry, IsSoundMode}
 
--- E2 speaks of OpEntryPoint, OpExecutionMode and OpFunction: a decoration says that this function is
--- linked in if it is a declaration, and only then. [2.4, 3.17, 3.20; own]
+-- E2 speaks of OpEntryPoint, OpExecutionMode, OpExecutionModeId and OpFunction: an OpDecorate says that this function
+-- is linked in if it is a declaration, and only then. [2.4, 3.17, 3.20; own]
 pub record KeepsEntries (G : Table) (is : List PlainInst) (n : ℕ) (i : PlainInst) : Type 0 where
   pub entry : i.opcode ≡ opcode.ENTRY_POINT → IsSoundEntry is i.operands
-  pub mode : i.opcode ≡ opcode.EXECUTION_MODE → IsSoundMode is i.operands
+  pub mode : (i.opcode ≡ opcode.EXECUTION_MODE) ⊎ (i.opcode ≡ opcode.EXECUTION_MODE_ID) → IsSoundMode is i.operands
   pub linkage : i.opcode ≡ opcode.FUNCTION
       → (IsNamed (imported_by (number_named G (codes "LinkageType"))) is n ↔ (¬ (IsDefinition is n)))
 

@@ -1,12 +1,14 @@
 //! Which capabilities are asked for: the rules C1 and C2, without what was asked before.
 
 ghost use Rattle.std.specs.Prelude.{◌≡◌, ◌↔◌, [], IsTrue, Some, IfSome, IsSomeAnd, codes, option_and_then};
+ghost use Rattle.std.specs.Prelude.{slice_get};
 ghost use Rattle.spv_table.specs.Table.{enumerant_of, kind_of};
 ghost use Rattle.spv_table.specs.Lookups.{value_named, number_named};
 ghost use Rattle.spv_table.specs.Implied.{capabilities_in};
 ghost use Rattle.spv_module.specs.Module.{plain_inst, plain_operands};
 ghost use Rattle.spv_capabilities.specs.Capable.{Has, HasNamed, IsCovered, IsCoveredValue, int_needs, float_needs};
-ghost use Rattle.spv_capabilities.specs.Capable.{vector_needs, needs_of};
+ghost use Rattle.spv_capabilities.specs.Capable.{vector_needs, image_needs, needs_of};
+ghost use Rattle.spv_capabilities.specs.Capable as spec;
 ghost use Rattle.spv_capabilities.specs.Asked.{HasNeeded, IsCoveredEntry};
 ghost use Rattle.spv_capabilities.specs.inner.Capable.{IsKernel};
 
@@ -143,7 +145,32 @@ fn has_vector_needs(survey: &Survey<'_, '_>, operands: &[Operand<'_>]) -> bool
     }
 }
 
-/// Whether the module has a capability of a type's width or count.
+/// Whether the access qualifier of an image type is ReadWrite.
+fn is_read_write(operands: &[Operand<'_>]) -> bool
+    ensures { result ≡ spec.is_read_write (slice_get (plain_operands operands.now) 8) }
+{
+    match operands.get(8) {
+        Some(Operand::Value { value, .. }) => *value == 2,
+        _ => false,
+    }
+}
+
+/// Whether the module has the capabilities of an image type.
+fn has_image_needs(survey: &Survey<'_, '_>, operands: &[Operand<'_>]) -> bool
+    ensures { IsTrue result ↔ HasNeeded survey.now.table survey.now.insts
+        (image_needs (plain_operands operands.now)) }
+{
+    if !survey.has(13) {
+        return false;
+    }
+    if is_read_write(operands) {
+        survey.has(14)
+    } else {
+        true
+    }
+}
+
+/// Whether the module has the capabilities that a type declaration needs.
 pub fn has_needed(survey: &Survey<'_, '_>, inst: &Inst<'_>) -> bool
     ensures { IsTrue result ↔ HasNeeded survey.now.table survey.now.insts (needs_of (plain_inst inst.now)) }
 {
@@ -152,6 +179,8 @@ pub fn has_needed(survey: &Survey<'_, '_>, inst: &Inst<'_>) -> bool
         opcode::TYPE_INT => has_int_needs(survey, operands),
         opcode::TYPE_FLOAT => has_float_needs(survey, operands),
         opcode::TYPE_VECTOR => has_vector_needs(survey, operands),
+        opcode::TYPE_IMAGE => has_image_needs(survey, operands),
+        opcode::TYPE_SAMPLER => survey.has(13),
         _ => true,
     }
 }

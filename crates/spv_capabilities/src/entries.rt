@@ -176,13 +176,14 @@ impl<'m, 'a> Entries<'m, 'a> {
     /// - C1, at OpMemoryModel: the module has not Kernel, or it has Shader (2.16.1, 3.31).
     /// - C2: the entry of the instruction in the grammar table, or an enumerant or a set bit among its operands other
     ///   than those of kind Capability, lists capabilities of which the module has none; or the module has not the
-    ///   capability of a type's width or of a vector's count (3.31; those of widths and counts own).
+    ///   capability of a type's width or of a vector's count, or those of an image or sampler type (3.31; those of
+    ///   widths and counts own).
     /// - M1, at OpMemoryModel: the addressing model is not Physical32 or Physical64, or the memory model is not OpenCL
     ///   (own).
     /// - E1, at OpMemoryModel: there is no OpEntryPoint, and the module has not Linkage (2.16.1).
     /// - E2: an OpEntryPoint of another model than Kernel, or of a function that is no definition, does not return
-    ///   void, or is called; an OpExecutionMode of a function that is no entry point's; an OpFunction of a declaration
-    ///   that is not imported, or of a definition that is (2.4, 2.16.1, 3.17).
+    ///   void, or is called; an OpExecutionMode or OpExecutionModeId of a function that is no entry point's; an
+    ///   OpFunction of a declaration that is not imported, or of a definition that is (2.4, 2.16.1, 3.17).
     ///
     /// `Memory` comes only where a growth of memory was refused: what enumerants ask for is kept.
     #[inline(always)]

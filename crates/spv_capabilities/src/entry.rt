@@ -103,7 +103,7 @@ fn is_sound_entry(survey: &Survey<'_, '_>, operands: &[Operand<'_>]) -> bool
     }
 }
 
-/// Whether E2 is unbroken at an OpExecutionMode with these operands.
+/// Whether E2 is unbroken at an OpExecutionMode or OpExecutionModeId with these operands.
 fn is_sound_mode(survey: &Survey<'_, '_>, operands: &[Operand<'_>]) -> bool
     ensures { IsTrue result ↔ IsSoundMode survey.now.insts (plain_operands operands.now) }
 {
@@ -143,7 +143,10 @@ pub fn keeps_entries(survey: &Survey<'_, '_>, number: u32, inst: &Inst<'_>) -> b
 {
     match inst.opcode {
         opcode::ENTRY_POINT => is_sound_entry(survey, inst.operands.as_slice()),
-        opcode::EXECUTION_MODE => is_sound_mode(survey, inst.operands.as_slice()),
+        opcode::EXECUTION_MODE | opcode::EXECUTION_MODE_ID => is_sound_mode(
+            survey,
+            inst.operands.as_slice(),
+        ),
         opcode::FUNCTION => is_sound_linkage(survey, number),
         _ => true,
     }

@@ -11,7 +11,8 @@ ghost use Rattle.spv_module.specs.declared.fault.Rule.TheVariants as rule;
 ghost use Rattle.spv_module.specs.declared.opcode.TheConstants as opcode;
 ghost use Rattle.spv_capabilities.specs.Entry.{IsKernelFunction, IsSoundEntry, IsSoundMode};
 ghost use Rattle.spv_capabilities.specs.inner.Entry.{IsSoundLinkage};
-ghost use Rattle.spv_capabilities.specs.Example.{small, inst, vectors, linked, entry, void_function, kernel, called};
+ghost use Rattle.spv_capabilities.specs.Example.{small, inst, vectors, images, image_type, linked, entry};
+ghost use Rattle.spv_capabilities.specs.Example.{void_function, kernel, called};
 ghost use Rattle.spv_capabilities.specs.Example.{declaration};
 
 /// Capabilities that a module has, by the small table: what lists Kernel implies it.
@@ -36,6 +37,10 @@ pub fn covered_examples()
     // A vector of eight, and an int of 16 bits.
     ensures vector { HasNeeded small vectors (needs_of (inst opcode.TYPE_VECTOR (Result 2 ∷ Id 1 ∷ Word 8 ∷ []))) }
     ensures short { ¬ (HasNeeded small vectors (needs_of (inst opcode.TYPE_INT (Result 1 ∷ Word 16 ∷ Word 0 ∷ [])))) }
+    // Images and samplers need ImageBasic, and images of the access qualifier ReadWrite ImageReadWrite too.
+    ensures image { HasNeeded small images (needs_of (image_type 0)) }
+    ensures sampler { ¬ (HasNeeded small vectors (needs_of (inst opcode.TYPE_SAMPLER (Result 2 ∷ [])))) }
+    ensures read_write { ¬ (HasNeeded small images (needs_of (image_type 2))) }
 {}
 
 /// Memory models.
@@ -79,6 +84,8 @@ pub fn demand_examples()
     ensures other { Keeps small kernel rule.M1 1 (inst opcode.TYPE_VOID (Result 1 ∷ [])) }
     ensures entry { Keeps small kernel rule.E2 0 entry }
     ensures no_entry { ¬ (Keeps small kernel rule.E2 0 (inst opcode.ENTRY_POINT (Value 9 5 ∷ Id 3 ∷ []))) }
+    ensures mode { Keeps small kernel rule.E2 1 (inst opcode.EXECUTION_MODE_ID (Id 3 ∷ [])) }
+    ensures no_mode { ¬ (Keeps small void_function rule.E2 1 (inst opcode.EXECUTION_MODE_ID (Id 3 ∷ []))) }
 {}
 
 /// The first of these rules that is broken at an instruction.

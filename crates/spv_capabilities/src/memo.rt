@@ -81,8 +81,8 @@ fn is_odd(bits: u32) -> bool
     bits % 2 == 1
 }
 
-/// Whether a rule other than C2 speaks of an opcode other than that of OpFunction, or C2 asks for a width or a count
-/// there.
+/// Whether a rule other than C2 speaks of an opcode other than that of OpFunction, or it declares a type that C2 asks
+/// more of.
 #[inline(always)]
 pub fn is_asked_more(number: u16) -> bool
     ensures { result ≡ known.is_asked_more number }
@@ -93,7 +93,10 @@ pub fn is_asked_more(number: u16) -> bool
         | opcode::EXECUTION_MODE
         | opcode::TYPE_INT
         | opcode::TYPE_FLOAT
-        | opcode::TYPE_VECTOR => true,
+        | opcode::TYPE_VECTOR
+        | opcode::TYPE_IMAGE
+        | opcode::TYPE_SAMPLER
+        | opcode::EXECUTION_MODE_ID => true,
         _ => false,
     }
 }

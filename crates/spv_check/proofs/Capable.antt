@@ -175,10 +175,10 @@ one_of_or_not G is [] = inr (λ h. h)
 one_of_or_not G is (c ∷ cs) = either (has_or_not G is c) (one_of_or_not G is cs)
 
 capable_or_not : (G : Table) (is : List PlainInst) (i : PlainInst) → Decided (IsCapable G is i)
-capable_or_not G is i = anew (λ h. record { entry = h.0; operands = h.1; widths = h.2 })
-    (λ c. (c.entry, c.operands, c.widths))
+capable_or_not G is i = anew (λ h. record { entry = h.0; operands = h.1; needs = h.2 })
+    (λ c. (c.entry, c.operands, c.needs))
     (three (covered_entry G is i.opcode) (all_or_not (IsCoveredOperand G is) (covered_operand G is) i.operands)
-    (either (numbers_same (needs_of i) []) (one_of_or_not G is (needs_of i))))
+    (all_or_not (HasOneOf G is) (one_of_or_not G is) (needs_of i)))
 
 -- M1
 
@@ -246,7 +246,7 @@ entries_or_not : (G : Table) (is : List PlainInst) (n : ℕ) (i : PlainInst) →
 entries_or_not G is n i = anew (λ h. record { entry = h.0; mode = h.1; linkage = h.2 })
     (λ k. (k.entry, k.mode, k.linkage))
     (three (given (cases_eq i.opcode 15) (sound_entry is i.operands))
-    (given (cases_eq i.opcode 16) (sound_mode is i.operands)) (given (cases_eq i.opcode 54) (sound_linkage G is n)))
+    (given (either (cases_eq i.opcode 16) (cases_eq i.opcode 331)) (sound_mode is i.operands)) (given (cases_eq i.opcode 54) (sound_linkage G is n)))
 
 pub capability_or_not : (G : Table) (is : List PlainInst) (r : Rule) (n : ℕ) (i : PlainInst)
     → Decided (Keeps G is r n i)

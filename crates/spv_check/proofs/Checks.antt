@@ -6,7 +6,8 @@ use Rattle.spv_table.specs.Table.{Table}
 use Rattle.spv_table.specs.declared.error.Memory.{Memory as OutOfMemory}
 use Rattle.spv_module.specs.Operand.{PlainInst}
 use Rattle.spv_extended.specs.declared.reach.Reach.{Reach}
-use Rattle.spv_extended.specs.declared.reach.Reach.TheVariants.{Profile}
+use Rattle.spv_extended.specs.Broken as extended_rules
+use Rattle.spv_extended.specs.Reach.{profile_of}
 use Rattle.spv_inst.specs.Outcome.{IsDecodeFault, IsHeaderOf}
 use Rattle.spv_module.specs.Module.{plain_insts}
 use Rattle.spv_module.specs.declared.fault.Stop.{Stop}
@@ -23,7 +24,8 @@ use Rattle.spv_check.specs.declared.checked.Verdict.TheVariants.{Valid, Fault}
 use Rattle.spv_module.specs.declared.fault.Rule.{Rule}
 use Rattle.spv_layout.specs.Broken as layout_rules
 use Rattle.spv_layout.specs.First.{IsUnbroken}
-use Rattle.spv_layout.specs.Plan.{IsPlan}
+use Rattle.spv_layout.specs.Plan.{IsPlan, IsLaidOut}
+use Rattle.spv_layout.proofs.Seen.{seen_layout}
 use Rattle.spv_ids.specs.Outcome.{AreIds}
 use Rattle.spv_check.specs.types.Broken as type_rules
 use Rattle.spv_type_rules.specs.roles.Outcome.{AreInRole}
@@ -32,7 +34,8 @@ use Rattle.spv_ops.specs.Typed.{IsTyped}
 use Rattle.spv_type_rules.specs.Keeps as typing_rules
 use Rattle.spv_check.specs.flow.Outcome.{IsFlow}
 use Rattle.std.specs.Prelude.{Some, slice_get}
-use Rattle.spv_check.proofs.Firsts.{IsBefore, sound}
+use Rattle.spv_check.specs.Fork.{fork_of}
+use Rattle.spv_check.proofs.Firsts.{IsAllButLast, sound}
 use Rattle.spv_module.specs.declared.fault.Fault as fault
 use Rattle.spv_check.specs.Verdict.{IsVerdict, fault_line, valid_line}
 use Rattle.spv_check.proofs.Verdicts.{Laws, fault_invalid, fault_verdict, valid_of, valid_verdict}
@@ -43,18 +46,18 @@ use Rattle.spv_ids.specs.declared.ids.Ids.{Ids}
 use Rattle.spv_check.specs.declared.flow.Flow.{Flow}
 
 -- what all layers answered of a module
-pub kept_of : (G : Table) (p : Program) (places : List Place) (ids : Ids) (flow : Flow) → IsShort p.insts
-    → IsPlan G p.insts places → AreIds G p.bound p.insts ids
+pub kept_of : (G : Table) (reach : Reach) (p : Program) (ids : Ids) (flow : Flow) → IsShort p.insts
+    → IsLaidOut (profile_of reach) G p.insts → AreIds G p.bound p.insts ids
     → AreInRole G p.insts
     → ((r : Rule) (n : ℕ) (i : PlainInst) → slice_get p.insts n ≡ Some i → capability_rules.Keeps G p.insts r n i)
     → ((r : Rule) (n : ℕ) (i : PlainInst) → slice_get p.insts n ≡ Some i
     → typing_rules.Keeps (IsTyped G p.insts) p.insts r n i)
     → IsUnbroken (type_rules.Broken G p.insts) stages.of_roles
-    × IsUnbroken (type_rules.Broken G p.insts) stages.of_types → IsFlow G p.insts flow → IsKept G p
-kept_of G p places ids flow w a b r c t u f = record {
+    × IsUnbroken (type_rules.Broken G p.insts) stages.of_types → IsFlow (fork_of reach) G p.insts flow
+    → ((r : Rule) (n : ℕ) → ¬ (extended_rules.Broken reach p.insts r n)) → IsKept G reach p
+kept_of G reach p ids flow w a b r c t u f x = record {
   few = w;
-  fits = a.fits;
-  layout = a.layout;
+  laid_out = a;
   ids = b.unbroken;
   roles = r;
   capabilities = c;
@@ -63,36 +66,58 @@ kept_of G p places ids flow w a b r c t u f = record {
   branches = f.branches;
   values = f.values;
   calls = f.calls;
+  extended = x;
 }
 
-pub parts_of : (G : Table) (m : Module) (places : List Place) (ids : Ids) (flow : Flow) → IsKept G (program_of m)
-    → IsPlan G (plain_insts m) places
-    → AreIds G m.header.bound (plain_insts m) ids → IsFlow G (plain_insts m) flow
-    → AreParts G (program_of m) m places ids flow
-parts_of G m places ids flow k a b f =
+pub parts_of : (G : Table) (reach : Reach) (m : Module) (places : List Place) (ids : Ids) (flow : Flow)
+    → IsKept G reach (program_of m) → IsPlan G (plain_insts m) places
+    → AreIds G m.header.bound (plain_insts m) ids → IsFlow (fork_of reach) G (plain_insts m) flow
+    → AreParts G reach (program_of m) m places ids flow
+parts_of G reach m places ids flow k a b f =
     record { bound = refl; insts = refl; kept = k; plan = a; numbered = b; flowing = f }
 
-pub before_of : (G : Table) (p : Program) → ((q : Rule) (m : ℕ) → ¬ (layout_rules.Broken G p.insts q m)) → IsKept G p
-    → IsBefore G p.bound p.insts
-before_of G p u k = record { of_layout = u; of_ids = k.ids; of_roles = k.types.0; of_types = k.types.1 }
+-- no rule is broken but, it may be, Y9
+pub last_of : (G : Table) (reach : Reach) (bound : ℕ) (is : List PlainInst) (ids : Ids) (flow : Flow)
+    → ((q : Rule) (m : ℕ) → ¬ (layout_rules.Broken (profile_of reach) G is q m)) → AreIds G bound is ids
+    → IsUnbroken (type_rules.Broken G is) stages.of_roles × IsUnbroken (type_rules.Broken G is) stages.of_types
+    → IsFlow (fork_of reach) G is flow → IsAllButLast G reach bound is
+last_of G reach bound is ids flow u a t f = record {
+  before = record { of_layout = u; of_ids = a.unbroken; of_roles = t.0; of_types = t.1 };
+  branches = f.branches;
+  values = f.values;
+  calls = f.calls;
+}
 
-pub sound_of : (G : Table) (p : Program) → ((q : Rule) (m : ℕ) → ¬ (layout_rules.Broken G p.insts q m)) → IsKept G p
-    → IsSound G Profile p.bound p.insts
-sound_of G p u k = sound G p.bound p.insts (before_of G p u k) k.branches k.values k.calls
+pub sound_of : (G : Table) (reach : Reach) (p : Program)
+    → ((q : Rule) (m : ℕ) → ¬ (layout_rules.Broken (profile_of reach) G p.insts q m)) → IsKept G reach p
+    → IsSound G reach p.bound p.insts
+sound_of G reach p u k =
+    let last : IsAllButLast G reach p.bound p.insts = record {
+      before = record { of_layout = u; of_ids = k.ids; of_roles = k.types.0; of_types = k.types.1 };
+      branches = k.branches;
+      values = k.values;
+      calls = k.calls;
+    } in
+    sound G reach p.bound p.insts last k.extended
 
 pub checked_of : (G : Table) (reach : Reach) (words : List ℕ) (m : Module) (p : Program) → p ≡ program_of m
     → IsReading G reach (plain_insts m) (drop 5 words) → IsHeaderOf words m.header
     → IsSound G reach p.bound p.insts → IsChecked G reach words p
 checked_of G reach words m p e l h s = record { reading = rw e l; bound = rw e h.bound; sound = s }
 
--- parts under one table are those under any that is kept
-pub parts_under : (G H : Table) (p : Program) (m : Module) (places : List Place) (ids : Ids) (flow : Flow) → IsKept G p
-    → AreParts H p m places ids flow → AreParts G p m places ids flow
-parts_under G H p m places ids flow k a = record {
+-- parts under one table, as far as the module was looked at, are those under any that is kept
+pub parts_under : (G H : Table) (reach past : Reach) (p : Program) (m : Module) (places : List Place) (ids : Ids)
+    (flow : Flow) → IsKept G reach p → AreParts H past p m places ids flow → AreParts G reach p m places ids flow
+parts_under G H reach past p m places ids flow k a = record {
   bound = a.bound;
   insts = a.insts;
   kept = k;
-  plan = record { fits = k.fits; layout = k.layout; count = a.plan.count; place = a.plan.place };
+  plan = record {
+    fits = λ n i h. (k.laid_out.fits n i h).shape;
+    layout = seen_layout (profile_of reach) p.insts k.laid_out.layout;
+    count = a.plan.count;
+    place = a.plan.place;
+  };
   numbered = record { unbroken = k.ids; each = a.numbered.each };
   flowing = record { branches = k.branches; values = k.values; calls = k.calls; definitions = a.flowing.definitions };
 }

@@ -28,6 +28,11 @@ three p q r = anew (λ h. (h.0, h.1.0, h.1.1)) (λ h. (h.0, (h.1, h.2))) (both p
 pub four : {P Q R S : Type 0} → Decided P → Decided Q → Decided R → Decided S → Decided (P × Q × R × S)
 four p q r s = anew (λ h. (h.0, h.1.0, h.1.1, h.1.2)) (λ h. (h.0, (h.1, h.2, h.3))) (both p (three q r s))
 
+pub five : {P Q R S T : Type 0} → Decided P → Decided Q → Decided R → Decided S → Decided T
+    → Decided (P × Q × R × S × T)
+five p q r s t = anew (λ h. (h.0, h.1.0, h.1.1, h.1.2, h.1.3)) (λ h. (h.0, (h.1, h.2, h.3, h.4)))
+    (both p (four q r s t))
+
 pub either : {P Q : Type 0} → Decided P → Decided Q → Decided (P ⊎ Q)
 either (inl p) d = inl (inl p)
 either (inr n) (inl q) = inl (inr q)

@@ -5,15 +5,14 @@ use Rattle.spv_module.specs.Operand.{PlainInst}
 use Rattle.spv_module.specs.declared.fault.Rule.{Rule}
 use Rattle.spv_extended.specs.Broken as extended
 use Rattle.spv_extended.specs.declared.reach.Reach.{Reach}
-use Rattle.spv_extended.specs.declared.reach.Reach.TheVariants.{Profile, Extended}
-use Rattle.spv_extended.proofs.Brokens.{of_reach}
+use Rattle.spv_extended.specs.Reach.{profile_of}
 use Rattle.spv_layout.specs.declared.place.Place.{Place}
 use Rattle.spv_layout.specs.DeadPlace.{IsDeadPlace}
-use Rattle.spv_layout.specs.Layout.{IsLayout, classes}
+use Rattle.spv_layout.specs.Layout.{IsLayout, seen_classes}
 use Rattle.spv_layout.specs.First as stage
 use Rattle.spv_layout.specs.First.{stage_of, rank_of, IsUnbroken}
 use Rattle.spv_layout.specs.Broken as layout
-use Rattle.spv_layout.specs.Plan.{IsPlan}
+use Rattle.spv_layout.specs.Plan.{IsLaidOut}
 use Rattle.spv_layout.specs.Plan as plan
 use Rattle.spv_layout.specs.Stage as stages
 use Rattle.spv_ids.specs.Outcome as outcome
@@ -30,14 +29,16 @@ use Rattle.spv_flow.specs.calls.Broken as calls
 use Rattle.spv_check.specs.extended.Outcome as extended_outcome
 use Rattle.spv_check.specs.flow.Outcome as flow_outcome
 use Rattle.spv_check.specs.flow.Outcome.{IsFirstOfFlow}
+use Rattle.spv_check.specs.Fork.{fork_of}
 use Rattle.spv_check.proofs.Stages.{types_stage}
 use Rattle.spv_check.specs.Broken.{Broken, Precedes, IsFirstOfAll, IsSound, IsTold}
 
 -- the stages of the rules
-pub layout_stage : (G : Table) (is : List PlainInst) (r : Rule) (n : ℕ) → layout.Broken G is r n
+pub layout_stage : (reach : Reach) (G : Table) (is : List PlainInst) (r : Rule) (n : ℕ)
+    → layout.Broken (profile_of reach) G is r n
     → (stage_of r ≡ stages.of_profile) ⊎ (stage_of r ≡ stages.of_layout)
-layout_stage G is _ _ (layout.misfit i n h f) = inl refl
-layout_stage G is _ _ (layout.dead r n d) = inr (dead_stage is r n d)
+layout_stage reach G is _ _ (layout.misfit i n h f) = inl refl
+layout_stage reach G is _ _ (layout.dead r n d) = inr (dead_stage (profile_of reach) is r n d)
 
 pub ids_stage : (G : Table) (bound : ℕ) (is : List PlainInst) (r : Rule) (n : ℕ) → ids.Broken G bound is r n
     → stage_of r ≡ stages.of_ids
@@ -50,9 +51,10 @@ staged_stage G is _ _ (IsStaged.branches r n e) = inl e
 staged_stage G is _ _ (IsStaged.missing n m) = inr refl
 staged_stage G is _ _ (IsStaged.pair_missing n m) = inr refl
 
-pub flow_stage : (G : Table) (is : List PlainInst) (r : Rule) (n : ℕ) → flow.Broken G is r n
+pub flow_stage : (reach : Reach) (G : Table) (is : List PlainInst) (r : Rule) (n : ℕ)
+    → flow.Broken (fork_of reach) G is r n
     → (stage_of r ≡ stages.of_branches) ⊎ (stage_of r ≡ stages.of_values)
-flow_stage G is r n b = staged_stage G is r n (staged G is r n b)
+flow_stage reach G is r n b = staged_stage G is r n (staged (fork_of reach) G is r n b)
 
 pub calls_stage : (is : List PlainInst) (r : Rule) (n : ℕ) → calls.Broken is r n → stage_of r ≡ stages.of_calls
 calls_stage is _ _ (calls.on_cycle n e f g call entry to back) = refl
@@ -69,12 +71,12 @@ within r q n m e (inr x) = Precedes.rule e x.0 x.1
 
 -- a rule of the profile
 pub profile_first : (G : Table) (reach : Reach) (bound : ℕ) (is : List PlainInst) (r : Rule) (n : ℕ)
-    → stage.IsFirst (layout.Broken G is) stages.of_profile r n → IsFirstOfAll G reach bound is r n
+    → stage.IsFirst (layout.Broken (profile_of reach) G is) stages.of_profile r n → IsFirstOfAll G reach bound is r n
 profile_first G reach bound is r n f = record { broken = Broken.of_layout r n f.broken; least = least } where
   least : (q : Rule) (m : ℕ) → Broken G reach bound is q m → Precedes r n q m
   least _ _ (Broken.of_layout q m b) =
       let s = f.of_stage in
-      elim (layout_stage G is q m b) [
+      elim (layout_stage reach G is q m b) [
         | inl e ↦ within r q n m (omega arith) (f.least q m e b)
         | inr e ↦
             Precedes.stage (omega arith)
@@ -86,20 +88,21 @@ profile_first G reach bound is r n f = record { broken = Broken.of_layout r n f.
       elim (types_stage G is q m b) [ inl e ↦ Precedes.stage (omega arith) | inr e ↦ Precedes.stage (omega arith) ]
   least _ _ (Broken.of_flow q m b) =
       let s = f.of_stage in
-      elim (flow_stage G is q m b) [ inl e ↦ Precedes.stage (omega arith) | inr e ↦ Precedes.stage (omega arith) ]
+      elim (flow_stage reach G is q m b) [ inl e ↦ Precedes.stage (omega arith) | inr e ↦ Precedes.stage (omega arith) ]
   least _ _ (Broken.of_calls q m b) = let s = f.of_stage in let e = calls_stage is q m b in Precedes.stage (omega arith)
   least _ _ (Broken.of_extended q m b) = let s = f.of_stage in let e = extended_stage reach is q m b in
       Precedes.stage (omega arith)
 
 -- a rule of the layout, where each instruction fits the profile
 pub layout_first : (G : Table) (reach : Reach) (bound : ℕ) (is : List PlainInst) (r : Rule) (n : ℕ)
-    → IsUnbroken (layout.Broken G is) stages.of_profile → stage.IsFirst (layout.Broken G is) stages.of_layout r n
+    → IsUnbroken (layout.Broken (profile_of reach) G is) stages.of_profile
+    → stage.IsFirst (layout.Broken (profile_of reach) G is) stages.of_layout r n
     → IsFirstOfAll G reach bound is r n
 layout_first G reach bound is r n u f = record { broken = Broken.of_layout r n f.broken; least = least } where
   least : (q : Rule) (m : ℕ) → Broken G reach bound is q m → Precedes r n q m
   least _ _ (Broken.of_layout q m b) =
       let s = f.of_stage in
-      elim (layout_stage G is q m b) [
+      elim (layout_stage reach G is q m b) [
         | inl e ↦ absurd (u q m e b)
         | inr e ↦
             within r q n m (omega arith) (f.least q m e b)
@@ -111,14 +114,15 @@ layout_first G reach bound is r n u f = record { broken = Broken.of_layout r n f
       elim (types_stage G is q m b) [ inl e ↦ Precedes.stage (omega arith) | inr e ↦ Precedes.stage (omega arith) ]
   least _ _ (Broken.of_flow q m b) =
       let s = f.of_stage in
-      elim (flow_stage G is q m b) [ inl e ↦ Precedes.stage (omega arith) | inr e ↦ Precedes.stage (omega arith) ]
+      elim (flow_stage reach G is q m b) [ inl e ↦ Precedes.stage (omega arith) | inr e ↦ Precedes.stage (omega arith) ]
   least _ _ (Broken.of_calls q m b) = let s = f.of_stage in let e = calls_stage is q m b in Precedes.stage (omega arith)
   least _ _ (Broken.of_extended q m b) = let s = f.of_stage in let e = extended_stage reach is q m b in
       Precedes.stage (omega arith)
 
 -- a rule on ids, where no rule of the profile or the layout is broken
 pub ids_first : (G : Table) (reach : Reach) (bound : ℕ) (is : List PlainInst) (r : Rule) (n : ℕ)
-    → ((q : Rule) (m : ℕ) → ¬ (layout.Broken G is q m)) → stage.IsFirst (ids.Broken G bound is) stages.of_ids r n
+    → ((q : Rule) (m : ℕ) → ¬ (layout.Broken (profile_of reach) G is q m))
+    → stage.IsFirst (ids.Broken G bound is) stages.of_ids r n
     → IsFirstOfAll G reach bound is r n
 ids_first G reach bound is r n u f = record { broken = Broken.of_ids r n f.broken; least = least } where
   least : (q : Rule) (m : ℕ) → Broken G reach bound is q m → Precedes r n q m
@@ -130,14 +134,15 @@ ids_first G reach bound is r n u f = record { broken = Broken.of_ids r n f.broke
       elim (types_stage G is q m b) [ inl e ↦ Precedes.stage (omega arith) | inr e ↦ Precedes.stage (omega arith) ]
   least _ _ (Broken.of_flow q m b) =
       let s = f.of_stage in
-      elim (flow_stage G is q m b) [ inl e ↦ Precedes.stage (omega arith) | inr e ↦ Precedes.stage (omega arith) ]
+      elim (flow_stage reach G is q m b) [ inl e ↦ Precedes.stage (omega arith) | inr e ↦ Precedes.stage (omega arith) ]
   least _ _ (Broken.of_calls q m b) = let s = f.of_stage in let e = calls_stage is q m b in Precedes.stage (omega arith)
   least _ _ (Broken.of_extended q m b) = let s = f.of_stage in let e = extended_stage reach is q m b in
       Precedes.stage (omega arith)
 
 -- a rule on roles, where no rule of the profile, the layout or on ids is broken
 pub roles_first : (G : Table) (reach : Reach) (bound : ℕ) (is : List PlainInst) (r : Rule) (n : ℕ)
-    → ((q : Rule) (m : ℕ) → ¬ (layout.Broken G is q m)) → IsUnbroken (ids.Broken G bound is) stages.of_ids
+    → ((q : Rule) (m : ℕ) → ¬ (layout.Broken (profile_of reach) G is q m))
+    → IsUnbroken (ids.Broken G bound is) stages.of_ids
     → stage.IsFirst (types.Broken G is) stages.of_roles r n → IsFirstOfAll G reach bound is r n
 roles_first G reach bound is r n u v f = record { broken = Broken.of_types r n f.broken; least = least } where
   least : (q : Rule) (m : ℕ) → Broken G reach bound is q m → Precedes r n q m
@@ -152,14 +157,15 @@ roles_first G reach bound is r n u v f = record { broken = Broken.of_types r n f
       ]
   least _ _ (Broken.of_flow q m b) =
       let s = f.of_stage in
-      elim (flow_stage G is q m b) [ inl e ↦ Precedes.stage (omega arith) | inr e ↦ Precedes.stage (omega arith) ]
+      elim (flow_stage reach G is q m b) [ inl e ↦ Precedes.stage (omega arith) | inr e ↦ Precedes.stage (omega arith) ]
   least _ _ (Broken.of_calls q m b) = let s = f.of_stage in let e = calls_stage is q m b in Precedes.stage (omega arith)
   least _ _ (Broken.of_extended q m b) = let s = f.of_stage in let e = extended_stage reach is q m b in
       Precedes.stage (omega arith)
 
 -- a rule on capabilities, entry points or types, where no rule on roles is broken either
 pub types_first : (G : Table) (reach : Reach) (bound : ℕ) (is : List PlainInst) (r : Rule) (n : ℕ)
-    → ((q : Rule) (m : ℕ) → ¬ (layout.Broken G is q m)) → IsUnbroken (ids.Broken G bound is) stages.of_ids
+    → ((q : Rule) (m : ℕ) → ¬ (layout.Broken (profile_of reach) G is q m))
+    → IsUnbroken (ids.Broken G bound is) stages.of_ids
     → IsUnbroken (types.Broken G is) stages.of_roles → stage.IsFirst (types.Broken G is) stages.of_types r n
     → IsFirstOfAll G reach bound is r n
 types_first G reach bound is r n u v w f = record { broken = Broken.of_types r n f.broken; least = least } where
@@ -175,34 +181,36 @@ types_first G reach bound is r n u v w f = record { broken = Broken.of_types r n
       ]
   least _ _ (Broken.of_flow q m b) =
       let s = f.of_stage in
-      elim (flow_stage G is q m b) [ inl e ↦ Precedes.stage (omega arith) | inr e ↦ Precedes.stage (omega arith) ]
+      elim (flow_stage reach G is q m b) [ inl e ↦ Precedes.stage (omega arith) | inr e ↦ Precedes.stage (omega arith) ]
   least _ _ (Broken.of_calls q m b) = let s = f.of_stage in let e = calls_stage is q m b in Precedes.stage (omega arith)
   least _ _ (Broken.of_extended q m b) = let s = f.of_stage in let e = extended_stage reach is q m b in
       Precedes.stage (omega arith)
 
 -- no rule of the profile, the layout, on ids or on types is broken
-pub record IsBefore (G : Table) (bound : ℕ) (is : List PlainInst) : Type 0 where
-  pub of_layout : (q : Rule) (m : ℕ) → ¬ (layout.Broken G is q m)
+pub record IsBefore (G : Table) (reach : Reach) (bound : ℕ) (is : List PlainInst) : Type 0 where
+  pub of_layout : (q : Rule) (m : ℕ) → ¬ (layout.Broken (profile_of reach) G is q m)
   pub of_ids : IsUnbroken (ids.Broken G bound is) stages.of_ids
   pub of_roles : IsUnbroken (types.Broken G is) stages.of_roles
   pub of_types : IsUnbroken (types.Broken G is) stages.of_types
 
-never_before : (G : Table) (bound : ℕ) (is : List PlainInst) (r q : Rule) (n m : ℕ) → IsBefore G bound is
+never_before : (reach : Reach) (G : Table) (bound : ℕ) (is : List PlainInst) (r q : Rule) (n m : ℕ)
+    → IsBefore G reach bound is
     → types.Broken G is q m → Precedes r n q m
-never_before G bound is r q n m u b =
+never_before reach G bound is r q n m u b =
     elim (types_stage G is q m b) [ inl e ↦ absurd (u.of_roles q m e b) | inr e ↦ absurd (u.of_types q m e b) ]
 
 -- a rule on branches, where none of those is broken
 pub branches_first : (G : Table) (reach : Reach) (bound : ℕ) (is : List PlainInst) (r : Rule) (n : ℕ)
-    → IsBefore G bound is → stage.IsFirst (flow.Broken G is) stages.of_branches r n → IsFirstOfAll G reach bound is r n
+    → IsBefore G reach bound is → stage.IsFirst (flow.Broken (fork_of reach) G is) stages.of_branches r n
+    → IsFirstOfAll G reach bound is r n
 branches_first G reach bound is r n u f = record { broken = Broken.of_flow r n f.broken; least = least } where
   least : (q : Rule) (m : ℕ) → Broken G reach bound is q m → Precedes r n q m
   least _ _ (Broken.of_layout q m b) = absurd (u.of_layout q m b)
   least _ _ (Broken.of_ids q m b) = absurd (u.of_ids q m (ids_stage G bound is q m b) b)
-  least _ _ (Broken.of_types q m b) = never_before G bound is r q n m u b
+  least _ _ (Broken.of_types q m b) = never_before reach G bound is r q n m u b
   least _ _ (Broken.of_flow q m b) =
       let s = f.of_stage in
-      elim (flow_stage G is q m b) [
+      elim (flow_stage reach G is q m b) [
         | inl e ↦ within r q n m (omega arith) (f.least q m e b)
         | inr e ↦
             Precedes.stage (omega arith)
@@ -213,17 +221,17 @@ branches_first G reach bound is r n u f = record { broken = Broken.of_flow r n f
 
 -- a rule on values, where no rule on branches is broken either
 pub values_first : (G : Table) (reach : Reach) (bound : ℕ) (is : List PlainInst) (r : Rule) (n : ℕ)
-    → IsBefore G bound is → IsUnbroken (flow.Broken G is) stages.of_branches
-    → stage.IsFirst (flow.Broken G is) stages.of_values r n
+    → IsBefore G reach bound is → IsUnbroken (flow.Broken (fork_of reach) G is) stages.of_branches
+    → stage.IsFirst (flow.Broken (fork_of reach) G is) stages.of_values r n
     → IsFirstOfAll G reach bound is r n
 values_first G reach bound is r n u v f = record { broken = Broken.of_flow r n f.broken; least = least } where
   least : (q : Rule) (m : ℕ) → Broken G reach bound is q m → Precedes r n q m
   least _ _ (Broken.of_layout q m b) = absurd (u.of_layout q m b)
   least _ _ (Broken.of_ids q m b) = absurd (u.of_ids q m (ids_stage G bound is q m b) b)
-  least _ _ (Broken.of_types q m b) = never_before G bound is r q n m u b
+  least _ _ (Broken.of_types q m b) = never_before reach G bound is r q n m u b
   least _ _ (Broken.of_flow q m b) =
       let s = f.of_stage in
-      elim (flow_stage G is q m b) [
+      elim (flow_stage reach G is q m b) [
         | inl e ↦ absurd (v q m e b)
         | inr e ↦
             within r q n m (omega arith) (f.least q m e b)
@@ -233,68 +241,69 @@ values_first G reach bound is r n u v f = record { broken = Broken.of_flow r n f
       Precedes.stage (omega arith)
 
 -- the rule on calls, where no rule on values is broken either
-pub calls_first : (G : Table) (reach : Reach) (bound : ℕ) (is : List PlainInst) (r : Rule) (n : ℕ) → IsBefore G bound is
-    → IsUnbroken (flow.Broken G is) stages.of_branches → IsUnbroken (flow.Broken G is) stages.of_values
+pub calls_first : (G : Table) (reach : Reach) (bound : ℕ) (is : List PlainInst) (r : Rule) (n : ℕ)
+    → IsBefore G reach bound is
+    → IsUnbroken (flow.Broken (fork_of reach) G is) stages.of_branches
+    → IsUnbroken (flow.Broken (fork_of reach) G is) stages.of_values
     → stage.IsFirst (calls.Broken is) stages.of_calls r n → IsFirstOfAll G reach bound is r n
 calls_first G reach bound is r n u v w f = record { broken = Broken.of_calls r n f.broken; least = least } where
   least : (q : Rule) (m : ℕ) → Broken G reach bound is q m → Precedes r n q m
   least _ _ (Broken.of_layout q m b) = absurd (u.of_layout q m b)
   least _ _ (Broken.of_ids q m b) = absurd (u.of_ids q m (ids_stage G bound is q m b) b)
-  least _ _ (Broken.of_types q m b) = never_before G bound is r q n m u b
+  least _ _ (Broken.of_types q m b) = never_before reach G bound is r q n m u b
   least _ _ (Broken.of_flow q m b) =
-      elim (flow_stage G is q m b) [ inl e ↦ absurd (v q m e b) | inr e ↦ absurd (w q m e b) ]
+      elim (flow_stage reach G is q m b) [ inl e ↦ absurd (v q m e b) | inr e ↦ absurd (w q m e b) ]
   least _ _ (Broken.of_calls q m b) = let s = f.of_stage in let e = calls_stage is q m b in
       within r q n m (omega arith) (f.least q m e b)
   least _ _ (Broken.of_extended q m b) = let s = f.of_stage in let e = extended_stage reach is q m b in
       Precedes.stage (omega arith)
 
--- a module with a plan breaks no rule of the profile or the layout
-pub planned : (G : Table) (is : List PlainInst) (places : List Place)
-    → ((is : List PlainInst) (a : Rule) (k : ℕ) → IsLayout (classes is) → ¬ (IsDeadPlace is a k)) → IsPlan G is places
-    → (r : Rule) (n : ℕ) → ¬ (layout.Broken G is r n)
-planned G is places law plan _ _ (layout.misfit i n h f) = f (plan.fits n i h)
-planned G is places law plan _ _ (layout.dead r n d) = law is r n plan.layout d
+-- a module that is laid out breaks no rule of the profile or the layout
+pub planned : (reach : Reach) (G : Table) (is : List PlainInst)
+    → ((is : List PlainInst) (a : Rule) (k : ℕ) → IsLayout (seen_classes (profile_of reach) is)
+    → ¬ (IsDeadPlace (profile_of reach) is a k))
+    → IsLaidOut (profile_of reach) G is
+    → (r : Rule) (n : ℕ) → ¬ (layout.Broken (profile_of reach) G is r n)
+planned reach G is law laid _ _ (layout.misfit i n h f) = f (laid.fits n i h)
+planned reach G is law laid _ _ (layout.dead r n d) = law is r n laid.layout d
 
--- no rule of any stage of the profile is broken
-pub sound : (G : Table) (bound : ℕ) (is : List PlainInst) → IsBefore G bound is
-    → IsUnbroken (flow.Broken G is) stages.of_branches → IsUnbroken (flow.Broken G is) stages.of_values
-    → IsUnbroken (calls.Broken is) stages.of_calls
-    → IsSound G Profile bound is
-sound G bound is u v w x _ _ (Broken.of_layout r n b) = u.of_layout r n b
-sound G bound is u v w x _ _ (Broken.of_ids r n b) = u.of_ids r n (ids_stage G bound is r n b) b
-sound G bound is u v w x _ _ (Broken.of_types r n b) =
-    elim (types_stage G is r n b) [ inl e ↦ u.of_roles r n e b | inr e ↦ u.of_types r n e b ]
-sound G bound is u v w x _ _ (Broken.of_flow r n b) =
-    elim (flow_stage G is r n b) [ inl e ↦ v r n e b | inr e ↦ w r n e b ]
-sound G bound is u v w x _ _ (Broken.of_calls r n b) = x r n (calls_stage is r n b) b
-sound G bound is u v w x _ _ (Broken.of_extended r n b) = let no : Profile ≡ Extended = of_reach Profile is r n b in cc
+-- no rule of any stage but the last is broken
+pub record IsAllButLast (G : Table) (reach : Reach) (bound : ℕ) (is : List PlainInst) : Type 0 where
+  pub before : IsBefore G reach bound is
+  pub branches : IsUnbroken (flow.Broken (fork_of reach) G is) stages.of_branches
+  pub values : IsUnbroken (flow.Broken (fork_of reach) G is) stages.of_values
+  pub calls : IsUnbroken (calls.Broken is) stages.of_calls
 
--- and Y9 is not, where it is asked
-pub sound_so_far : (G : Table) (reach : Reach) (bound : ℕ) (is : List PlainInst) → IsSound G Profile bound is
+-- and no rule is, where Y9 is not
+pub sound : (G : Table) (reach : Reach) (bound : ℕ) (is : List PlainInst) → IsAllButLast G reach bound is
     → ((r : Rule) (n : ℕ) → ¬ (extended.Broken reach is r n)) → IsSound G reach bound is
-sound_so_far G reach bound is s u _ _ (Broken.of_layout r n b) = s r n (Broken.of_layout r n b)
-sound_so_far G reach bound is s u _ _ (Broken.of_ids r n b) = s r n (Broken.of_ids r n b)
-sound_so_far G reach bound is s u _ _ (Broken.of_types r n b) = s r n (Broken.of_types r n b)
-sound_so_far G reach bound is s u _ _ (Broken.of_flow r n b) = s r n (Broken.of_flow r n b)
-sound_so_far G reach bound is s u _ _ (Broken.of_calls r n b) = s r n (Broken.of_calls r n b)
-sound_so_far G reach bound is s u _ _ (Broken.of_extended r n b) = u r n b
+sound G reach bound is u x _ _ (Broken.of_layout r n b) = u.before.of_layout r n b
+sound G reach bound is u x _ _ (Broken.of_ids r n b) = u.before.of_ids r n (ids_stage G bound is r n b) b
+sound G reach bound is u x _ _ (Broken.of_types r n b) =
+    elim (types_stage G is r n b) [ inl e ↦ u.before.of_roles r n e b | inr e ↦ u.before.of_types r n e b ]
+sound G reach bound is u x _ _ (Broken.of_flow r n b) =
+    elim (flow_stage reach G is r n b) [ inl e ↦ u.branches r n e b | inr e ↦ u.values r n e b ]
+sound G reach bound is u x _ _ (Broken.of_calls r n b) = u.calls r n (calls_stage is r n b) b
+sound G reach bound is u x _ _ (Broken.of_extended r n b) = x r n b
 
--- Y9, where no rule of the profile is broken
+-- Y9, where no other rule is broken
 pub extended_first : (G : Table) (reach : Reach) (bound : ℕ) (is : List PlainInst) (r : Rule) (n : ℕ)
-    → IsSound G Profile bound is → stage.IsFirst (extended.Broken reach is) stages.of_extended r n
+    → IsAllButLast G reach bound is → stage.IsFirst (extended.Broken reach is) stages.of_extended r n
     → IsFirstOfAll G reach bound is r n
 extended_first G reach bound is r n u f = record { broken = Broken.of_extended r n f.broken; least = least } where
   least : (q : Rule) (m : ℕ) → Broken G reach bound is q m → Precedes r n q m
-  least _ _ (Broken.of_layout q m b) = absurd (u q m (Broken.of_layout q m b))
-  least _ _ (Broken.of_ids q m b) = absurd (u q m (Broken.of_ids q m b))
-  least _ _ (Broken.of_types q m b) = absurd (u q m (Broken.of_types q m b))
-  least _ _ (Broken.of_flow q m b) = absurd (u q m (Broken.of_flow q m b))
-  least _ _ (Broken.of_calls q m b) = absurd (u q m (Broken.of_calls q m b))
+  least _ _ (Broken.of_layout q m b) = absurd (u.before.of_layout q m b)
+  least _ _ (Broken.of_ids q m b) = absurd (u.before.of_ids q m (ids_stage G bound is q m b) b)
+  least _ _ (Broken.of_types q m b) = never_before reach G bound is r q n m u.before b
+  least _ _ (Broken.of_flow q m b) =
+      elim (flow_stage reach G is q m b) [ inl e ↦ absurd (u.branches q m e b) | inr e ↦ absurd (u.values q m e b) ]
+  least _ _ (Broken.of_calls q m b) = absurd (u.calls q m (calls_stage is q m b) b)
   least _ _ (Broken.of_extended q m b) = let s = f.of_stage in let e = extended_stage reach is q m b in
       within r q n m (omega arith) (f.least q m e b)
 
 -- what the layers refuse is told
-pub told_layout : (G : Table) (reach : Reach) (bound : ℕ) (is : List PlainInst) (s : Stop) → plan.IsRefusal G is s
+pub told_layout : (G : Table) (reach : Reach) (bound : ℕ) (is : List PlainInst) (s : Stop)
+    → plan.IsRefusal (profile_of reach) G is s
     → IsTold G reach bound is s
 told_layout G reach bound is Memory h = tt
 told_layout G reach bound is (Fault f) h = (
@@ -307,12 +316,14 @@ told_layout G reach bound is (Fault f) h = (
 )
 
 pub told_ids : (G : Table) (reach : Reach) (bound : ℕ) (is : List PlainInst) (s : Stop)
-    → ((r : Rule) (n : ℕ) → ¬ (layout.Broken G is r n)) → outcome.IsRefusal G bound is s → IsTold G reach bound is s
+    → ((r : Rule) (n : ℕ) → ¬ (layout.Broken (profile_of reach) G is r n)) → outcome.IsRefusal G bound is s
+    → IsTold G reach bound is s
 told_ids G reach bound is Memory u h = tt
 told_ids G reach bound is (Fault f) u h = (ids_first G reach bound is f.rule f.inst u h.0, h.1)
 
 pub told_types : (G : Table) (reach : Reach) (bound : ℕ) (is : List PlainInst) (s : Stop)
-    → ((r : Rule) (n : ℕ) → ¬ (layout.Broken G is r n)) → IsUnbroken (ids.Broken G bound is) stages.of_ids
+    → ((r : Rule) (n : ℕ) → ¬ (layout.Broken (profile_of reach) G is r n))
+    → IsUnbroken (ids.Broken G bound is) stages.of_ids
     → types_outcome.IsRefusal G is s → IsTold G reach bound is s
 told_types G reach bound is Memory u v h = tt
 told_types G reach bound is (Fault f) u v h = (
@@ -324,19 +335,20 @@ told_types G reach bound is (Fault f) u v h = (
   h.1,
 )
 
-first_of_flow : (G : Table) (reach : Reach) (bound : ℕ) (is : List PlainInst) (r : Rule) (n : ℕ) → IsBefore G bound is
-    → IsFirstOfFlow G is r n → IsFirstOfAll G reach bound is r n
+first_of_flow : (G : Table) (reach : Reach) (bound : ℕ) (is : List PlainInst) (r : Rule) (n : ℕ)
+    → IsBefore G reach bound is
+    → IsFirstOfFlow (fork_of reach) G is r n → IsFirstOfAll G reach bound is r n
 first_of_flow G reach bound is r n u (IsFirstOfFlow.of_branches f) = branches_first G reach bound is r n u f
 first_of_flow G reach bound is r n u (IsFirstOfFlow.of_values v f) = values_first G reach bound is r n u v f
 first_of_flow G reach bound is r n u (IsFirstOfFlow.of_calls v w f) = calls_first G reach bound is r n u v w f
 
-pub told_flow : (G : Table) (reach : Reach) (bound : ℕ) (is : List PlainInst) (s : Stop) → IsBefore G bound is
-    → flow_outcome.IsRefusal G is s → IsTold G reach bound is s
+pub told_flow : (G : Table) (reach : Reach) (bound : ℕ) (is : List PlainInst) (s : Stop) → IsBefore G reach bound is
+    → flow_outcome.IsRefusal (fork_of reach) G is s → IsTold G reach bound is s
 told_flow G reach bound is Memory u h = tt
 told_flow G reach bound is (Fault f) u h = (first_of_flow G reach bound is f.rule f.inst u h.0, h.1)
 
 pub told_extended : (G : Table) (reach : Reach) (bound : ℕ) (is : List PlainInst) (s : Stop)
-    → IsSound G Profile bound is → extended_outcome.IsRefusal reach is s → IsTold G reach bound is s
+    → IsAllButLast G reach bound is → extended_outcome.IsRefusal reach is s → IsTold G reach bound is s
 told_extended G reach bound is Memory u h = tt
 told_extended G reach bound is (Fault f) u h = (extended_first G reach bound is f.rule f.inst u h.0, h.1)
 
@@ -365,13 +377,13 @@ one_first G reach bound is q r m n f g = meet q r m n (f.least r n g.broken) (g.
 pub of_calls_stage : (G : Table) (reach : Reach) (bound : ℕ) (is : List PlainInst) (r : Rule) (n : ℕ)
     → stage_of r ≡ stages.of_calls → Broken G reach bound is r n → calls.Broken is r n
 of_calls_stage G reach bound is _ _ s (Broken.of_layout r n b) =
-    elim (layout_stage G is r n b) [ inl e ↦ absurd (omega (arith, s, e)) | inr e ↦ absurd (omega (arith, s, e)) ]
+    elim (layout_stage reach G is r n b) [ inl e ↦ absurd (omega (arith, s, e)) | inr e ↦ absurd (omega (arith, s, e)) ]
 of_calls_stage G reach bound is _ _ s (Broken.of_ids r n b) = let e = ids_stage G bound is r n b in
     absurd (omega (arith, s, e))
 of_calls_stage G reach bound is _ _ s (Broken.of_types r n b) =
     elim (types_stage G is r n b) [ inl e ↦ absurd (omega (arith, s, e)) | inr e ↦ absurd (omega (arith, s, e)) ]
 of_calls_stage G reach bound is _ _ s (Broken.of_flow r n b) =
-    elim (flow_stage G is r n b) [ inl e ↦ absurd (omega (arith, s, e)) | inr e ↦ absurd (omega (arith, s, e)) ]
+    elim (flow_stage reach G is r n b) [ inl e ↦ absurd (omega (arith, s, e)) | inr e ↦ absurd (omega (arith, s, e)) ]
 of_calls_stage G reach bound is _ _ s (Broken.of_calls r n b) = b
 of_calls_stage G reach bound is _ _ s (Broken.of_extended r n b) = let e = extended_stage reach is r n b in
     absurd (omega (arith, s, e))

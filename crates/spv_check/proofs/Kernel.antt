@@ -1,6 +1,6 @@
 -- The smallest kernel is a valid module under a small grammar table.
 use Rattle.std.proofs.Common.{◌≡◌, ◌<◌, ◌+◌, ◌&&◌, ℕ, List, [], ◌∷◌, Bool, true, false, Some, nat_lt, lit<, lit≤, refl}
-use Rattle.std.proofs.Common.{arith, map, length, codes}
+use Rattle.std.proofs.Common.{arith, map, length, codes, inl}
 use Rattle.std.specs.Prelude.{IsUtf8}
 use Rattle.std.specs.List.{AllByRecursion, list_all}
 use Rattle.std.proofs.lemmas.Bool.Decides.{nat_tests}
@@ -12,6 +12,7 @@ use Rattle.spv_words.proofs.Refusal.{found_module}
 use Rattle.spv_table.specs.declared.table.Entry.{Entry}
 use Rattle.spv_table.specs.Table.{entry_of, pattern_of}
 use Rattle.spv_module.specs.Operand.{OfType, Result, Id, Text, Value, Mask, PlainInst, start}
+use Rattle.spv_module.specs.declared.profile.Profile.TheVariants.{Own}
 use Rattle.spv_module.specs.Shape.{shape_of}
 use Rattle.spv_module.specs.Spelling.{Takes, HoldsText, mask_parameters}
 use Rattle.spv_inst.specs.Flat.{due}
@@ -29,7 +30,7 @@ use Rattle.spv_check.specs.types.Broken as type_rules
 use Rattle.spv_check.specs.Kernel.{capabilities, addressing_models, memory_models, execution_models, controls, grammar}
 use Rattle.spv_check.specs.Kernel.{operand, operands, entry, capability, model, entry_point, void, of_void, function}
 use Rattle.spv_check.specs.Kernel.{label, return_op, end, kernel}
-use Rattle.spv_check.proofs.KernelRules.{fits, is_layout, ids_kept, capabilities_kept, types_kept, flow_kept}
+use Rattle.spv_check.proofs.KernelRules.{is_laid_out, ids_kept, capabilities_kept, types_kept, flow_kept}
 use Rattle.spv_check.proofs.KernelRules.{calls_kept, each_use}
 use Rattle.spv_extended.specs.declared.reach.Reach.TheVariants.{Profile}
 use Rattle.spv_check.specs.Broken.{IsSound}
@@ -38,12 +39,14 @@ use Rattle.spv_check.specs.Reading.{IsReading}
 use Rattle.spv_check.specs.Valid.{IsValid}
 use Rattle.spv_check.specs.Example.{kernel_program, kernel_body, kernel_words, kernel_bytes}
 use Rattle.spv_check.proofs.Checks.{sound_of}
+use Rattle.spv_check.proofs.Miscalls.{not_asked}
+use Rattle.spv_flow.specs.declared.branches.fork.Fork.TheVariants.{Distinct}
 
 -- Each use is in its role.
 
 in_role : (n k x : ℕ) (r : Role) → IsUsedAt grammar kernel n k x r → Plays kernel r x
-in_role n k x r u = each_use (λ m y q. Plays kernel q y) refl (lit≤ tt, lit≤ tt) (lit≤ tt, lit≤ tt)
-    (lit≤ tt, lit≤ tt) n k x r u
+in_role n k x r u = each_use (λ m y q. Plays kernel q y) refl (inl (lit≤ tt, lit≤ tt))
+    (inl (lit≤ tt, lit≤ tt)) (inl (lit≤ tt, lit≤ tt)) n k x r u
 
 roles_kept : (r : Rule) (n : ℕ) → role_rules.Broken grammar kernel r n → ⊥
 roles_kept _ _ (role_rules.miscast n k x r u not) = not (in_role n k x r u)
@@ -53,27 +56,27 @@ typing_kept _ _ (type_rules.of_roles r n b) = roles_kept r n b
 typing_kept _ _ (type_rules.of_capabilities r n i e not) = not (capabilities_kept r n i e)
 typing_kept _ _ (type_rules.of_types r n i e not) = not (types_kept r n i e)
 
-layout_kept : (r : Rule) (n : ℕ) → layout_rules.Broken grammar kernel r n → ⊥
-layout_kept _ _ (layout_rules.misfit i n e not) = not (fits n i e)
-layout_kept _ _ (layout_rules.dead r n d) = laid_out_or_dead kernel kernel r n is_layout d refl
+layout_kept : (r : Rule) (n : ℕ) → layout_rules.Broken Own grammar kernel r n → ⊥
+layout_kept _ _ (layout_rules.misfit i n e not) = not (is_laid_out.fits n i e)
+layout_kept _ _ (layout_rules.dead r n d) = laid_out_or_dead Own kernel kernel r n is_laid_out.layout d refl
 
-pub kept : IsKept grammar kernel_program
+pub kept : IsKept grammar Profile kernel_program
 kept = record {
   few = lit≤ tt;
-  fits = fits;
-  layout = is_layout;
+  laid_out = is_laid_out;
   ids = λ r n s b. ids_kept r n b;
   roles = record { each = in_role };
   capabilities = capabilities_kept;
   rules = types_kept;
   types = (λ r n s b. typing_kept r n b, λ r n s b. typing_kept r n b);
-  branches = λ r n s b. flow_kept r n b;
-  values = λ r n s b. flow_kept r n b;
+  branches = λ r n s b. flow_kept Distinct r n b;
+  values = λ r n s b. flow_kept Distinct r n b;
   calls = λ r n s b. calls_kept r n b;
+  extended = not_asked Profile kernel refl;
 }
 
 pub sound : IsSound grammar Profile 5 kernel
-sound = sound_of grammar kernel_program layout_kept kept
+sound = sound_of grammar Profile kernel_program layout_kept kept
 
 -- The words spell the list.
 

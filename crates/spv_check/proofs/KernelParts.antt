@@ -22,6 +22,8 @@ use Rattle.spv_check.proofs.Elements.{each}
 use Rattle.spv_check.proofs.KernelRules.{laid, laid_out, at_class, function_only, label_there, in_function, definition}
 use Rattle.spv_check.proofs.KernelRules.{fits, is_layout, ids_kept, flow_kept, calls_kept}
 use Rattle.spv_check.specs.Checked.{AreParts}
+use Rattle.spv_flow.specs.declared.branches.fork.Fork.TheVariants.{Distinct}
+use Rattle.spv_extended.specs.declared.reach.Reach.TheVariants.{Profile}
 use Rattle.spv_check.specs.Example.{place_at, kernel_places, kernel_program}
 use Rattle.spv_check.proofs.Kernel.{kept}
 
@@ -154,7 +156,7 @@ definitions = record {
 
 pub parts : (m : Module) (ids : Ids) (flow : Flow) → m.header.bound ≡ 5 → plain_insts m ≡ kernel
     → ((x : ℕ) → IsDefinitionOf kernel x (definition_in ids x)) → flow.definitions ≡ 1
-    → AreParts grammar kernel_program m kernel_places ids flow
+    → AreParts grammar Profile kernel_program m kernel_places ids flow
 parts m ids flow bound insts each count = record {
   bound = bound;
   insts = insts;
@@ -162,8 +164,8 @@ parts m ids flow bound insts each count = record {
   plan = planned;
   numbered = record { unbroken = λ r n s b. ids_kept r n b; each = each };
   flowing = record {
-    branches = λ r n s b. flow_kept r n b;
-    values = λ r n s b. flow_kept r n b;
+    branches = λ r n s b. flow_kept Distinct r n b;
+    values = λ r n s b. flow_kept Distinct r n b;
     calls = λ r n s b. calls_kept r n b;
     definitions = subst (CountsDefinitions kernel) (sym count) definitions;
   };

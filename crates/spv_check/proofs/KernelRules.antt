@@ -11,6 +11,7 @@ use Rattle.spv_table.specs.Table.{enumerant_of}
 use Rattle.spv_table.specs.Lookups.{number_named}
 use Rattle.spv_table.specs.Implied.{Lists, CapabilityChain, capabilities_in}
 use Rattle.spv_module.specs.Operand.{Plain, PlainInst, result_in}
+use Rattle.spv_module.specs.declared.profile.Profile.TheVariants.{Own}
 use Rattle.spv_module.specs.Operand as operand
 use Rattle.spv_module.specs.declared.fault.Rule.{Rule}
 use Rattle.spv_module.specs.declared.fault.Rule.TheVariants as rule
@@ -25,7 +26,9 @@ use Rattle.spv_layout.specs.declared.form.Role.TheVariants as role
 use Rattle.spv_layout.specs.declared.state.State.TheVariants as at
 use Rattle.spv_layout.specs.Class.{is_among}
 use Rattle.spv_layout.specs.Example as layout
-use Rattle.spv_layout.specs.Layout.{IsLayout, classes}
+use Rattle.spv_layout.specs.Layout.{IsLayout, classes, seen_classes}
+use Rattle.spv_layout.specs.Plan.{IsLaidOut}
+use Rattle.spv_layout.specs.Profile.{has_row}
 use Rattle.spv_layout.specs.Place.{IsAt, IsOfFunction, IsDefinition, IsOfSection}
 use Rattle.spv_layout.specs.Row.{RowEnding, closed, repeated}
 use Rattle.spv_layout.specs.inner.Row.{row}
@@ -56,6 +59,7 @@ use Rattle.spv_type_rules.specs.inner.Function.{IsSoundCall}
 use Rattle.spv_type_rules.specs.Keeps as type_rules
 use Rattle.spv_type_rules.specs.Repeat.{Repeats}
 use Rattle.spv_flow.specs.branches.Broken as flow_rules
+use Rattle.spv_flow.specs.declared.branches.fork.Fork.{Fork}
 use Rattle.spv_flow.specs.branches.Target.{is_phi, is_merge, is_branch, IsOp}
 use Rattle.spv_flow.proofs.lemmas.branches.Firsts.{at_other}
 use Rattle.spv_flow.proofs.lemmas.walks.Staged.{IsStaged, staged}
@@ -195,6 +199,24 @@ laid_out = refl
 
 pub is_layout : IsLayout (classes kernel)
 is_layout = subst IsLayout (sym laid_out) (leads_end laid at.Defined refl (leads_by laid at.Defined refl))
+
+seen_laid_out : seen_classes Own kernel ≡ laid
+unfolding rows
+seen_laid_out = refl
+
+abbrev known_row : PlainInst → Type 0
+known_row i = has_row Own (row_of i.opcode) ≡ true
+
+known : (n : ℕ) (i : PlainInst) → slice_get kernel n ≡ Some i → known_row i
+unfolding rows
+known = each (λ n (i : PlainInst). known_row i) kernel
+    (refl, (refl, (refl, (refl, (refl, (refl, (refl, (refl, (refl, (refl, tt))))))))))
+
+pub is_laid_out : IsLaidOut Own grammar kernel
+is_laid_out = record {
+  fits = λ n i h. record { known = known n i h; shape = fits n i h };
+  layout = subst IsLayout (sym seen_laid_out) (leads_end laid at.Defined refl (leads_by laid at.Defined refl));
+}
 
 pub at_class : (P : ℕ → Type 0) (cs : List Class) → Where (λ (c : Class). is_among c cs) (λ n c. P n) laid → (n : ℕ)
     → IsAt kernel n cs → P n
@@ -456,27 +478,27 @@ control_covered = tt
 capable : (i : PlainInst) → IsCoveredEntry grammar kernel i.opcode
     → AllByRecursion (IsCoveredOperand grammar kernel) i.operands → HasNeeded grammar kernel (needs_of i)
     → IsCapable grammar kernel i
-capable i a b c = record { entry = a; operands = b; widths = c }
+capable i a b c = record { entry = a; operands = b; needs = c }
 
 all_capable : (n : ℕ) (i : PlainInst) → slice_get kernel n ≡ Some i → IsCapable grammar kernel i
 all_capable =
     each (λ n (i : PlainInst). IsCapable grammar kernel i) kernel (
-      capable (capability 4) (inl refl) (λ h. inl refl, tt) (inl refl),
+      capable (capability 4) (inl refl) (λ h. inl refl, tt) tt,
       (
-        capable (capability 6) (inl refl) (λ h. inl refl, tt) (inl refl),
+        capable (capability 6) (inl refl) (λ h. inl refl, tt) tt,
         (
-          capable model (inl refl) (λ h. inr (inl has_addresses), (λ h. inr (inl has_kernel), tt)) (inl refl),
+          capable model (inl refl) (λ h. inr (inl has_addresses), (λ h. inr (inl has_kernel), tt)) tt,
           (
-            capable entry_point (inl refl) (λ h. inr (inl has_kernel), (tt, (tt, tt))) (inl refl),
+            capable entry_point (inl refl) (λ h. inr (inl has_kernel), (tt, (tt, tt))) tt,
             (
-              capable void (inl refl) (tt, tt) (inl refl),
+              capable void (inl refl) (tt, tt) tt,
               (
-                capable of_void (inl refl) (tt, (tt, tt)) (inl refl),
+                capable of_void (inl refl) (tt, (tt, tt)) tt,
                 (
-                  capable function (inl refl) (tt, (tt, (λ h. control_covered, (tt, tt)))) (inl refl),
+                  capable function (inl refl) (tt, (tt, (λ h. control_covered, (tt, tt)))) tt,
                   (
-                    capable label (inl refl) (tt, tt) (inl refl),
-                    (capable return_op (inl refl) tt (inl refl), (capable end (inl refl) tt (inl refl), tt)),
+                    capable label (inl refl) (tt, tt) tt,
+                    (capable return_op (inl refl) tt tt, (capable end (inl refl) tt tt, tt)),
                   ),
                 ),
               ),
@@ -528,7 +550,10 @@ capabilities_kept rule.E1 n i e = λ h. inl (3, record { inst = entry_point; the
 capabilities_kept rule.E2 n i e = record {
   entry = opcode_at 15 (λ m j. IsSoundEntry kernel j.operands)
       (tt, (tt, (tt, (sound_entry, (tt, (tt, (tt, (tt, (tt, (tt, tt)))))))))) n i e;
-  mode = opcode_at 16 (λ m j. IsSoundMode kernel j.operands) nowhere n i e;
+  mode = λ h. elim h [
+    | inl q ↦ opcode_at 16 (λ m j. IsSoundMode kernel j.operands) nowhere n i e q
+    | inr q ↦ opcode_at 331 (λ m j. IsSoundMode kernel j.operands) nowhere n i e q
+  ];
   linkage = opcode_at 54 (λ m j. IsSoundLinkage grammar kernel m)
       (tt, (tt, (tt, (tt, (tt, (tt, (sound_linkage, (tt, (tt, (tt, tt)))))))))) n i e;
 }
@@ -606,11 +631,12 @@ types_kept _ n i e = tt
 
 -- F and A: there is no branch and no OpPhi, and no local value.
 
-pub flow_kept : (r : Rule) (n : ℕ) → flow_rules.Broken grammar kernel r n → ⊥
-flow_kept r n b = unstaged r n b (staged grammar kernel r n b) where
-  unstaged : (r : Rule) (n : ℕ) → flow_rules.Broken grammar kernel r n → IsStaged grammar kernel r n → ⊥
+pub flow_kept : (fork : Fork) (r : Rule) (n : ℕ) → flow_rules.Broken fork grammar kernel r n → ⊥
+flow_kept fork r n b = unstaged r n b (staged fork grammar kernel r n b) where
+  unstaged : (r : Rule) (n : ℕ) → flow_rules.Broken fork grammar kernel r n → IsStaged grammar kernel r n → ⊥
   unstaged _ _ b (IsStaged.branches r n s) =
-      at_other grammar kernel r n (no_op is_phi nowhere n) (no_op is_merge nowhere n) (no_op is_branch nowhere n) s b
+      at_other fork grammar kernel r n (no_op is_phi nowhere n) (no_op is_merge nowhere n) (no_op is_branch nowhere n)
+      s b
   unstaged _ _ b (IsStaged.missing n m) = not_local m.id (used_below n m.operand m.id m.role m.used) m.local.local
   unstaged _ _ b (IsStaged.pair_missing n m) = no_op is_phi nowhere n m.phi
 

@@ -14,6 +14,10 @@ pub mod Verdicts
 pub mod Worked
 pub mod Decided
 pub mod Standing
+pub mod Forms
+pub mod Objects
+pub mod Outside
+pub mod Blocks
 pub mod Rows
 pub mod Capable
 pub mod RulesDecided

@@ -8,7 +8,7 @@ use Rattle.spv_module.specs.Instruction.{Listing}
 use Rattle.spv_extended.specs.Opened.{opened}
 use Rattle.spv_extended.specs.Reach.{looked_at}
 use Rattle.spv_extended.specs.declared.reach.Reach.{Reach}
-use Rattle.spv_extended.specs.declared.reach.Reach.TheVariants.{Profile, Extended}
+use Rattle.spv_extended.specs.declared.reach.Reach.TheVariants.{Profile, Extended, OpenCl}
 use Rattle.spv_layout.specs.Place.{IsShort, operand_words, word_count}
 use Rattle.spv_check.specs.Reading.{IsReading}
 
@@ -22,6 +22,7 @@ pub record KeepsWords : Type 0 where
 pub same_count : KeepsWords → (reach : Reach) (is : List PlainInst) → length (looked_at reach is) ≡ length is
 same_count law Profile is = refl
 same_count law Extended is = law.count is
+same_count law (OpenCl minor) is = law.count is
 
 same_sums : (is js : List PlainInst)
     → map (λ (i : PlainInst). sum_by operand_words i.operands) is ≡ map

@@ -1,17 +1,13 @@
--- What a type id declares, and the rows of types: decided.
-use Rattle.std.proofs.Common.{◌≡◌, ◌≢◌, ◌∙◌, ◌+◌, ℕ, List, [], ◌∷◌, Option, Some, None, Bool, true, false, refl, sym}
-use Rattle.std.proofs.Common.{ap, subst, inl, inr, length, ◌<◌}
-use Rattle.std.specs.Prelude.{IsTrue, IsSome, IsSomeAnd, slice_get}
+-- The rows of types: decided.
+use Rattle.std.proofs.Common.{◌≡◌, ◌≢◌, ◌<◌, ◌≤◌, ◌+◌, ℕ, List, [], ◌∷◌, Option, Some, None, Bool, true, false, refl}
+use Rattle.std.proofs.Common.{ap, subst, inl, inr, length}
+use Rattle.std.specs.Prelude.{IsSome, IsSomeAnd, slice_get, drop}
 use Rattle.std.specs.List.{AllByRecursion}
 use Rattle.std.proofs.lemmas.Bool.{cases_eq}
-use Rattle.std.proofs.lemmas.Option.{same_Some}
 use Rattle.spv_module.specs.Operand.{Plain, PlainInst}
-use Rattle.spv_module.specs.Width.{definition_of}
-use Rattle.spv_type_forms.specs.declared.form.Scalar.{Scalar}
 use Rattle.spv_type_forms.specs.declared.form.Scalar.TheVariants as scalar
 use Rattle.spv_type_forms.specs.declared.form.Form.{Form}
 use Rattle.spv_type_forms.specs.declared.form.Form.TheVariants as form
-use Rattle.spv_type_forms.specs.declared.form.Sort.{Sort}
 use Rattle.spv_type_forms.specs.declared.form.Sort.TheVariants as sort
 use Rattle.spv_type_forms.specs.declared.form.Components.{Components}
 use Rattle.spv_conditions.specs.declared.condition.Kind.{Kind}
@@ -23,192 +19,46 @@ use Rattle.spv_conditions.specs.declared.asked.Rest.TheVariants as rest
 use Rattle.spv_conditions.specs.declared.asked.Asked.{Asked}
 use Rattle.spv_conditions.specs.declared.asked.Asked.TheVariants as asked
 use Rattle.spv_conditions.specs.Asks.{HoldsOf}
+use Rattle.spv_conditions.specs.Block.{IsLocalSize, after_block}
 use Rattle.spv_conditions.specs.Chain.{led_by, led_to}
 use Rattle.spv_conditions.specs.Condition.{Agrees, HasResult, IsComposite, IsNamedClass, IsOf, bits_of}
 use Rattle.spv_conditions.specs.Path.{reached_by, stop_at}
 use Rattle.spv_conditions.specs.Rest.{RestHolds, IsComponent, IsShare, AreSeveral, IsShareAt, AreFilling, AreCounted}
 use Rattle.spv_conditions.specs.Rest.{IsPartAt, OfParts, OfVector, both_sizes, shares_of}
 use Rattle.spv_conditions.specs.Values.{type_at}
-use Rattle.spv_conditions.specs.Variable.{MayHave, MayInitialize, class_of, initializers_in}
+use Rattle.spv_conditions.specs.Variable.{MayHave, MayInitialize, HasClass, class_of, initializers_in}
+use Rattle.spv_conditions.specs.Group.{enumerant_in, all_ids_in, IsPacked}
+use Rattle.spv_conditions.specs.Further.{after_enumerant, IsIntConstant, IsLasting, IsText, IsGroup, IsNoGroup}
+use Rattle.spv_conditions.specs.Image.{places_in, extent_in, IsNumeric}
+use Rattle.spv_conditions.specs.Texels.{mask_in, is_mask, values_end, IsSampleFit, IsSignFit, AreImageOperands}
 use Rattle.spv_conditions.proofs.lemmas.Paths.{all_within, never_stops}
 use Rattle.spv_type_forms.specs.Form.{form_of}
-use Rattle.spv_type_forms.specs.Types.{components_of, IsDataForm, IsData, IsSomeInt, IsNumber, IsVector, IsPointer}
-use Rattle.spv_type_forms.specs.Types.{PointsTo, HasSort, sort_of, pointee_in, class_in}
-use Rattle.spv_type_forms.specs.inner.Types.{IsB}
+use Rattle.spv_type_forms.specs.Objects.{pipe_access_of}
+use Rattle.spv_type_forms.specs.Types.{components_of, IsInt, IsObject, IsPlain, IsVector, IsPointer, PointsTo, sort_of}
+use Rattle.spv_type_forms.specs.Types.{pointee_in, class_in}
 use Rattle.spv_type_forms.specs.Operands.{words_in, ids_in, after_head, result_type_in}
-use Rattle.spv_type_forms.specs.Parts.{part_of, count_of, AreParts, ArePartsFrom}
+use Rattle.spv_type_forms.specs.Parts.{part_of, count_of}
 use Rattle.spv_type_forms.specs.Reach.{AreWithin}
-use Rattle.spv_type_forms.specs.inner.Definitions.{is_constant_opcode}
 use Rattle.spv_ops.specs.Table.{conditions_of}
 use Rattle.spv_type_forms.specs.Values.{types_of}
 use Rattle.spv_ops.specs.Values.{values_of}
 use Rattle.spv_ops.specs.Typed.{Typed}
 use Rattle.spv_ops.specs.inner.Typed.{IsTypedIn}
-use Rattle.spv_check.proofs.Decided.{Decided, anew, both, three, either, opposite, some_and, pinned, number_same}
-use Rattle.spv_check.proofs.Decided.{numbers_same, all_or_not, is_true}
-use Rattle.spv_check.proofs.Standing.{global_section_or_not, function_or_none, global_or_not, less_or_not}
-
--- what an id declares
-
-pub int_or_not : (f : Option Form) → Decided ((w : ℕ) × (f ≡ Some (form.Scalar (scalar.Int w))))
-int_or_not (Some (form.Scalar (scalar.Int w))) = inl (w, refl)
-int_or_not _ = inr (λ h. let e = h.1 in cc)
-
-pub float_or_not : (f : Option Form) → Decided ((w : ℕ) × (f ≡ Some (form.Scalar (scalar.Float w))))
-float_or_not (Some (form.Scalar (scalar.Float w))) = inl (w, refl)
-float_or_not _ = inr (λ h. let e = h.1 in cc)
-
-pub bool_or_not : (f : Option Form) → Decided (f ≡ Some (form.Scalar scalar.Bool))
-bool_or_not (Some (form.Scalar scalar.Bool)) = inl refl
-bool_or_not _ = inr (λ e. cc)
-
-pub vector_or_not : (f : Option Form) → Decided ((c n : ℕ) × (f ≡ Some (form.Vector c n)))
-vector_or_not (Some (form.Vector c n)) = inl (c, n, refl)
-vector_or_not _ = inr (λ h. let e = h.2 in cc)
-
-pub pointer_or_not : (f : Option Form) → Decided ((c p : ℕ) × (f ≡ Some (form.Pointer c p)))
-pointer_or_not (Some (form.Pointer c p)) = inl (c, p, refl)
-pointer_or_not _ = inr (λ h. let e = h.2 in cc)
-
-pub void_or_not : (f : Option Form) → Decided (f ≡ Some form.Void)
-void_or_not (Some form.Void) = inl refl
-void_or_not _ = inr (λ e. cc)
-
-pub opaque_or_not : (f : Option Form) → Decided (f ≡ Some form.Opaque)
-opaque_or_not (Some form.Opaque) = inl refl
-opaque_or_not _ = inr (λ e. cc)
-
-pub int_of_width : (f : Option Form) (w : ℕ) → Decided (f ≡ Some (form.Scalar (scalar.Int w)))
-int_of_width f w = elim (int_or_not f) [
-  | inr none ↦ inr (λ h. none (w, h))
-  | inl i ↦ anew (λ e. (let k = i.1 in cc)) (λ h. (let k = i.1 in cc)) (cases_eq i.0 w)
-]
-
--- a pointer of a class to something
-pub pointer_of_class : (f : Option Form) (c : ℕ) → Decided ((p : ℕ) × (f ≡ Some (form.Pointer c p)))
-pointer_of_class f c = elim (pointer_or_not f) [
-  | inr none ↦ inr (λ h. none (c, h.0, h.1))
-  | inl i ↦ anew (λ e. (i.1, (let k = i.2 in cc))) (λ h. (let k = i.2 in let l = h.1 in cc)) (cases_eq i.0 c)
-]
-
-pub points_or_not : (is : List PlainInst) (t p : ℕ) → Decided (PointsTo is t p)
-points_or_not is t p = number_same (pointee_in (form_of is t)) (Some p)
-
--- to the same
-points_somewhere : (is : List PlainInst) (t : ℕ) (P : ℕ → Type 0) → ((p : ℕ) → Decided (P p))
-    → Decided ((p : ℕ) × PointsTo is t p × P p)
-points_somewhere is t P d = pinned (pointee_in (form_of is t)) P d
-
-points_at_all : (is : List PlainInst) (t : ℕ) → Decided ((p : ℕ) × PointsTo is t p)
-points_at_all is t = anew (λ h. (h.0, h.1)) (λ h. (h.0, h.1, tt)) (points_somewhere is t (λ p. Unit {0}) (λ p. inl tt))
-
-data_form : (f : Form) → Decided (IsDataForm f)
-data_form form.Void = inr (λ h. h)
-data_form form.Opaque = inr (λ h. h)
-data_form form.Function = inr (λ h. h)
-data_form _ = inl tt
-
-pub data_or_not : (is : List PlainInst) (t : ℕ) → Decided (IsData is t)
-data_or_not is t = some_and (form_of is t) IsDataForm data_form
-
-pub some_int : (is : List PlainInst) (t : ℕ) → Decided (IsSomeInt is t)
-some_int is t = int_or_not (form_of is t)
-
-number_or_not : (is : List PlainInst) (t : ℕ) → Decided (IsNumber is t)
-number_or_not is t = either (some_int is t) (float_or_not (form_of is t))
-
--- components
-
-abbrev parts : Scalar → ℕ → Components
-parts s n = record { scalar = s; count = n }
-
-bool_in : (s : Scalar) → Decided (s ≡ scalar.Bool)
-bool_in scalar.Bool = inl refl
-bool_in _ = inr (λ e. cc)
-
-count_same : (o : Option Components) (s q : Scalar) (n m : ℕ) → o ≡ Some (parts s n) → o ≡ Some (parts q m) → n ≡ m
-count_same o s q n m a b = ap (λ (c : Components). c.count) (same_Some (parts s n) (parts q m) (sym a ∙ b))
-
-bools : (o : Option Components) → Decided ((n : ℕ) × (o ≡ Some (parts scalar.Bool n)))
-bools None = inr (λ h. let e = h.1 in cc)
-bools (Some c) = anew (λ e. (c.count, ap (λ (s : Scalar). Some (parts s c.count)) e))
-    (λ h. ap (λ (k : Components). k.scalar) (same_Some c (parts scalar.Bool h.0) h.1)) (bool_in c.scalar)
-
-bools_of : (o : Option Components) (n : ℕ) → Decided (o ≡ Some (parts scalar.Bool n))
-bools_of o n = elim (bools o) [
-  | inr none ↦ inr (λ h. none (n, h))
-  | inl b ↦ anew (λ e. subst (λ (k : ℕ). o ≡ Some (parts scalar.Bool k)) e b.1)
-      (λ h. count_same o scalar.Bool scalar.Bool b.0 n b.1 h) (cases_eq b.0 n)
-]
-
-sort_same : (a b : Sort) → Decided (a ≡ b)
-sort_same sort.Int sort.Int = inl refl
-sort_same sort.Float sort.Float = inl refl
-sort_same sort.Bool sort.Bool = inl refl
-sort_same _ _ = inr (λ e. cc)
-
-has_sort : (is : List PlainInst) (s : Sort) (t : ℕ) → Decided (HasSort s is t)
-has_sort is s t = some_and (components_of is t) (λ c. sort_of c.scalar ≡ s) (λ c. sort_same (sort_of c.scalar) s)
-
-named_class : (c : ℕ) → Decided (IsNamedClass c)
-named_class c = either (cases_eq c 4) (either (cases_eq c 5) (cases_eq c 7))
-
-two_pointers : (is : List PlainInst) (r o : ℕ)
-    → Decided ((class p q : ℕ) × IsPointer is o class p × IsPointer is r class q)
-two_pointers is r o = elim (pointer_or_not (form_of is o)) [
-  | inr none ↦ inr (λ h. none (h.0, h.1, h.3))
-  | inl f ↦ anew (λ k. (f.0, f.1, k.0, f.2, k.1))
-      (λ h. (
-      let a = f.2 in
-      let b = h.3 in
-      let c : h.0 ≡ f.0 = cc in
-      (h.2, subst (λ (k : ℕ). IsPointer is r k h.2) c h.4)))
-      (pointer_of_class (form_of is r) f.0)
-]
-
-bool_vectors : (is : List PlainInst) (r o : ℕ) → Decided ((c n : ℕ) × IsVector is r c n × IsB is o n)
-bool_vectors is r o = elim (vector_or_not (form_of is r)) [
-  | inr none ↦ inr (λ h. none (h.0, h.1, h.2))
-  | inl f ↦ anew (λ k. (f.0, f.1, f.2, k))
-      (λ h. (
-      let a = f.2 in
-      let b = h.2 in
-      let d : h.1 ≡ f.1 = cc in
-      subst (λ (n : ℕ). IsB is o n) d h.3))
-      (bools_of (components_of is o) f.1)
-]
-
--- composites
-
-parts_from : (is : List PlainInst) (t k : ℕ) (us : List ℕ) → Decided (ArePartsFrom is t k us)
-parts_from is t k [] = inl tt
-parts_from is t k (u ∷ us) = both (number_same (part_of is t k) (Some u)) (parts_from is t (k + 1) us)
-
-pub parts_or_not : (is : List PlainInst) (t : ℕ) (us : List ℕ) → Decided (AreParts is t us)
-parts_or_not is t us = both (number_same (count_of is t) (Some (length us))) (parts_from is t 0 us)
-
-component_or_not : (n k : ℕ) → Decided (IsComponent n k)
-component_or_not n k = either (less_or_not k n) (cases_eq k 4294967295)
-
-vector_with : (is : List PlainInst) (o c : ℕ) → Decided ((n : ℕ) × IsVector is o c n)
-vector_with is o c = elim (vector_or_not (form_of is o)) [
-  | inr none ↦ inr (λ h. none (c, h.0, h.1))
-  | inl f ↦ anew (λ e. (f.1, (let a = f.2 in cc))) (λ h. (let a = f.2 in let b = h.1 in cc)) (cases_eq f.0 c)
-]
-
--- variables
-
-class_at : (is : List PlainInst) (n class : ℕ) → Decided (MayHave is n class)
-class_at is n class = either (three (global_section_or_not is n) (opposite (cases_eq class 7))
-    (opposite (cases_eq class 8))) (elim (function_or_none is n) [
-      | inr none ↦ inr (λ h. none (h.0, h.1))
-      | inl f ↦ anew (λ e. (f.0, f.1, e)) (λ h. h.2) (cases_eq class 7)
-    ])
-
-initializer_or_not : (is : List PlainInst) (x : ℕ) → Decided (MayInitialize is x)
-initializer_or_not is x = either
-    (some_and (definition_of is x) (λ d. IsTrue (is_constant_opcode d.opcode))
-    (λ d. is_true (is_constant_opcode d.opcode))) (global_or_not is x)
+use Rattle.spv_check.proofs.Decided.{Decided, anew, both, either, opposite, some_and, pinned, number_same, numbers_same}
+use Rattle.spv_check.proofs.Decided.{all_or_not, is_true}
+use Rattle.spv_check.proofs.Standing.{least_or_not, less_or_not}
+use Rattle.spv_check.proofs.Forms.{bool_or_not, bool_vectors, class_at, component_or_not, data_or_not, has_sort}
+use Rattle.spv_check.proofs.Forms.{initializer_or_not, int_of_width, made_or_not, named_class, number_or_not, object_or_not}
+use Rattle.spv_check.proofs.Forms.{parts_or_not, plain_or_not, pointer_of_class, pointer_or_not, points_at_all}
+use Rattle.spv_check.proofs.Forms.{points_or_not, points_somewhere, sampled_of, scalar_or_not, some_int, sort_same}
+use Rattle.spv_check.proofs.Forms.{struct_or_not, two_pointers, vector_of_count, vector_or_not, vector_with}
+use Rattle.spv_check.proofs.Objects.{constant_at, counts_or_not, image_operands, image_or_not, numeric_or_not}
+use Rattle.spv_check.proofs.Objects.{range_or_not, range_struct, sample_fit, sampled_image, sign_fit, size_array}
+use Rattle.spv_check.proofs.Objects.{size_or_not, texel_or_not, texel_pointer}
+use Rattle.spv_check.proofs.Blocks.{block_or_not, local_size, locals_or_not}
+use Rattle.spv_check.proofs.Outside.{are_some, cluster_size, clusters_or_not, group_or_not, int_constant}
+use Rattle.spv_check.proofs.Outside.{lasting_or_not, may_stand, members_or_not, no_group, packed_or_not, scan_or_not}
+use Rattle.spv_check.proofs.Outside.{text_or_not}
 
 -- kinds
 
@@ -230,6 +80,10 @@ composite_form form.Struct = inl tt
 composite_form (form.Array e l) = inl tt
 composite_form _ = inr (λ h. h)
 
+components_or_not : (o : Option Components) → Decided (IsSome o)
+components_or_not None = inr (λ h. let e = h in cc)
+components_or_not (Some c) = inl refl
+
 kind_or_not : (is : List PlainInst) (k : Kind) (t : ℕ) → Decided (IsOf is k t)
 kind_or_not is kind.Int t = some_int is t
 kind_or_not is kind.Int32 t = int_of_width (form_of is t) 32
@@ -245,14 +99,34 @@ kind_or_not is kind.GenericPointer t = pointer_of_class (form_of is t) 8
 kind_or_not is kind.NamedPointer t = named_pointer is t
 kind_or_not is kind.Vector t = vector_or_not (form_of is t)
 kind_or_not is kind.Composite t = some_and (form_of is t) IsComposite composite_form
+kind_or_not is kind.Plain t = plain_or_not is t
+kind_or_not is kind.Scalars t = components_or_not (components_of is t)
+kind_or_not is kind.Floats32 t = some_and (components_of is t) (λ c. c.scalar ≡ scalar.Float 32)
+    (λ c. scalar_or_not c.scalar (scalar.Float 32))
+kind_or_not is kind.FewInts t = some_and (components_of is t) (λ c. (sort_of c.scalar ≡ sort.Int) × (c.count ≤ 3))
+    (λ c. both (sort_same (sort_of c.scalar) sort.Int) (least_or_not c.count 3))
+kind_or_not is kind.Ballot t = made_or_not (components_of is t) (scalar.Int 32) 4
+kind_or_not is kind.Int8Pointer t =
+    some_and (pointee_in (form_of is t)) (λ p. IsInt is p 8) (λ p. int_of_width (form_of is p) 8)
+kind_or_not is kind.Int32Pointer t =
+    some_and (pointee_in (form_of is t)) (λ p. IsInt is p 32) (λ p. int_of_width (form_of is p) 32)
+kind_or_not is kind.PlainPointer t = some_and (pointee_in (form_of is t)) (IsPlain is) (plain_or_not is)
+kind_or_not is kind.GlobalPointer t = pointer_of_class (form_of is t) 5
+kind_or_not is (kind.Object o) t = object_or_not (form_of is t) o
+kind_or_not is (kind.ObjectPointer o) t =
+    some_and (pointee_in (form_of is t)) (IsObject is o) (λ p. object_or_not (form_of is p) o)
+kind_or_not is (kind.Pipe access) t = number_same (pipe_access_of is t) (Some access)
+kind_or_not is kind.Size t = size_or_not is t
+kind_or_not is kind.Sizes t = either (size_or_not is t) (either (size_array is 2 t) (size_array is 3 t))
+kind_or_not is kind.RangeStruct t = range_struct is t
+kind_or_not is kind.Range t = range_or_not is t
+kind_or_not is kind.NumbersPointer t =
+    some_and (pointee_in (form_of is t)) (IsNumeric is) (numeric_or_not is)
+kind_or_not is (kind.Image k) t = image_or_not is k t
+kind_or_not is kind.SampledImage t = sampled_image is t
+kind_or_not is kind.Four t = vector_of_count is t 4
 
 -- relations
-
-scalar_or_not : (s q : Scalar) → Decided (s ≡ q)
-scalar_or_not (scalar.Int v) (scalar.Int w) = anew (λ e. ap scalar.Int e) (λ e. cc) (cases_eq v w)
-scalar_or_not (scalar.Float v) (scalar.Float w) = anew (λ e. ap scalar.Float e) (λ e. cc) (cases_eq v w)
-scalar_or_not scalar.Bool scalar.Bool = inl refl
-scalar_or_not _ _ = inr (λ e. cc)
 
 same_component : (is : List PlainInst) (t u : ℕ) → Decided ((c m n : ℕ) × IsVector is t c m × IsVector is u c n)
 same_component is t u = elim (vector_or_not (form_of is t)) [
@@ -265,6 +139,11 @@ same_component is t u = elim (vector_or_not (form_of is t)) [
       (h.2, subst (λ (d : ℕ). IsVector is u d h.2) c h.4)))
       (vector_with is u f.0)
 ]
+
+across_or_not : (is : List PlainInst) (c d t u : ℕ)
+    → Decided ((p q : ℕ) × IsPointer is t c p × IsPointer is u d q)
+across_or_not is c d t u = anew (λ h. (h.0.0, h.1.0, h.0.1, h.1.1)) (λ h. ((h.0, h.2), (h.1, h.3)))
+    (both (pointer_of_class (form_of is t) c) (pointer_of_class (form_of is u) d))
 
 relation_or_not : (is : List PlainInst) (q : Relation) (t u : ℕ) → Decided (Agrees is q t u)
 relation_or_not is relation.Same t u = cases_eq t u
@@ -284,6 +163,19 @@ relation_or_not is relation.SameClass t u = two_pointers is u t
 relation_or_not is relation.VectorOf t u = vector_with is t u
 relation_or_not is relation.ComponentOf t u = vector_with is u t
 relation_or_not is relation.SameComponent t u = same_component is t u
+relation_or_not is relation.PairOf t u = both (struct_or_not (form_of is t)) (parts_or_not is t (u ∷ u ∷ []))
+relation_or_not is relation.Across t u = either (across_or_not is 4 5 t u) (across_or_not is 5 4 t u)
+relation_or_not is relation.SampledImageOf t u = sampled_of (form_of is t) u
+relation_or_not is relation.TexelPointer t u = texel_pointer is t u
+relation_or_not is relation.Place t u = both (has_sort is sort.Int t)
+    (counts_or_not is places_in (λ n m. n ≡ m) (λ n m. cases_eq n m) t u)
+relation_or_not is relation.IntCoordinate t u = both (has_sort is sort.Int t)
+    (counts_or_not is places_in (λ n m. n ≤ m) (λ n m. least_or_not n m) t u)
+relation_or_not is relation.Coordinate t u = both (numeric_or_not is t)
+    (counts_or_not is places_in (λ n m. n ≤ m) (λ n m. least_or_not n m) t u)
+relation_or_not is relation.Extent t u = both (has_sort is sort.Int t)
+    (counts_or_not is extent_in (λ n m. n ≡ m) (λ n m. cases_eq n m) t u)
+relation_or_not is relation.Texel t u = texel_or_not is t u
 
 -- other conditions
 
@@ -307,20 +199,16 @@ within_or_not : (is : List PlainInst) (os : List Plain) (t : ℕ) → Decided (A
 within_or_not is os t =
     anew (λ e. all_within is os 0 t e) (λ w. never_stops is os 0 t w) (number_same (stop_at is 0 os t) None)
 
-vector_of_count : (is : List PlainInst) (t m : ℕ) → Decided ((c : ℕ) × IsVector is t c m)
-vector_of_count is t m = elim (vector_or_not (form_of is t)) [
-  | inr none ↦ inr (λ h. none (h.0, m, h.1))
-  | inl f ↦ anew (λ e. (f.0, (let a = f.2 in cc))) (λ h. (let a = f.2 in let b = h.1 in cc)) (cases_eq f.1 m)
-]
+has_class : (is : List PlainInst) (r : Option ℕ) (os : List Plain) → Decided (HasClass is r os)
+has_class is r os = some_and r (λ t. IsSomeAnd (class_of os) (λ c. class_in (form_of is t) ≡ Some c))
+    (λ t. some_and (class_of os) (λ c. class_in (form_of is t) ≡ Some c)
+    (λ c. number_same (class_in (form_of is t)) (Some c)))
 
 rest_or_not : (is : List PlainInst) (n : ℕ) (i : PlainInst) (r : Option ℕ) (types : List ℕ) (q : Rest)
     → Decided (RestHolds is n i r types q)
 rest_or_not is n i r types rest.Weights =
     either (numbers_same (words_in i.operands) []) (cases_eq (length (words_in i.operands)) 2)
-rest_or_not is n i r types rest.StorageClass =
-    some_and r (λ t. IsSomeAnd (class_of (after_head i.operands)) (λ c. class_in (form_of is t) ≡ Some c))
-    (λ t. some_and (class_of (after_head i.operands)) (λ c. class_in (form_of is t) ≡ Some c)
-    (λ c. number_same (class_in (form_of is t)) (Some c)))
+rest_or_not is n i r types rest.StorageClass = has_class is r (after_head i.operands)
 rest_or_not is n i r types rest.ClassHere = some_and (class_of (after_head i.operands)) (MayHave is n) (class_at is n)
 rest_or_not is n i r types rest.Initializer =
     all_or_not (MayInitialize is) (initializer_or_not is) (initializers_in (after_head i.operands))
@@ -360,6 +248,38 @@ rest_or_not is n i r types rest.Count =
 rest_or_not is n i r types (rest.Part k) = some_and r (λ t. IsPartAt is t types k (form_of is t))
     (λ t. of_parts (form_of is t) (IsSomeAnd (slice_get types k) (λ u. part_of is t k ≡ Some u))
     (some_and (slice_get types k) (λ u. part_of is t k ≡ Some u) (λ u. number_same (part_of is t k) (Some u))))
+rest_or_not is n i r types rest.CastClass = has_class is r (drop 1 (after_head i.operands))
+rest_or_not is n i r types rest.Scan = scan_or_not i
+rest_or_not is n i r types rest.Cluster = clusters_or_not i (length types)
+rest_or_not is n i r types rest.ClusterSize = cluster_size is i types
+rest_or_not is n i r types (rest.Constant k) = constant_at is i k
+rest_or_not is n i r types rest.Packed =
+    some_and (slice_get types 0) (λ o. IsSomeAnd r (λ t. IsPacked is (enumerant_in i.operands) t o))
+    (λ o. some_and r (λ t. IsPacked is (enumerant_in i.operands) t o)
+    (λ t. packed_or_not is (enumerant_in i.operands) t o))
+rest_or_not is n i r types (rest.ImageMask k) =
+    both (is_true (is_mask k (mask_in i.operands))) (cases_eq (length types) (values_end k (mask_in i.operands)))
+rest_or_not is n i r types rest.ImageSample =
+    some_and (slice_get types 0) (IsSampleFit is (mask_in i.operands)) (sample_fit is (mask_in i.operands))
+rest_or_not is n i r types (rest.ImageSign s) =
+    some_and (type_at r types s) (IsSignFit is (mask_in i.operands)) (sign_fit is (mask_in i.operands))
+rest_or_not is n i r types (rest.ImageOperands k) =
+    some_and (slice_get types 0) (AreImageOperands is i k types (mask_in i.operands))
+    (image_operands is i k types (mask_in i.operands))
+rest_or_not is n i r types rest.Extended = may_stand is n i r
+rest_or_not is n i r types rest.ModeIds =
+    are_some (IsIntConstant is) (int_constant is) (after_enumerant i.operands)
+rest_or_not is n i r types rest.DecorationIds =
+    are_some (IsLasting is) (lasting_or_not is) (after_enumerant i.operands)
+rest_or_not is n i r types rest.Texts = are_some IsText text_or_not (after_enumerant i.operands)
+rest_or_not is n i r types rest.Group =
+    some_and (slice_get (all_ids_in i.operands) 0) (IsGroup is) (group_or_not is)
+rest_or_not is n i r types rest.NoMoreGroups =
+    all_or_not (IsNoGroup is) (no_group is) (all_ids_in (drop 1 i.operands))
+rest_or_not is n i r types rest.Members = members_or_not is None (drop 1 i.operands)
+rest_or_not is n i r types (rest.Block k) = block_or_not is (ids_in (after_head i.operands)) k types
+rest_or_not is n i r types (rest.LocalSizes k) = all_or_not (IsLocalSize is) (local_size is) (after_block k types)
+rest_or_not is n i r types (rest.Locals k) = locals_or_not is (ids_in (after_head i.operands)) k types
 
 -- all conditions
 

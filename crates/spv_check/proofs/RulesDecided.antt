@@ -18,6 +18,10 @@ use Rattle.spv_type_forms.specs.declared.form.Form.TheVariants as form
 use Rattle.spv_type_forms.specs.Form.{form_in, form_of}
 use Rattle.spv_type_forms.specs.Types.{scalar_in, class_in, IsSomeInt, IsData}
 use Rattle.spv_type_forms.specs.Parts.{length_of, AreParts}
+use Rattle.spv_type_forms.specs.declared.form.Object.TheVariants as object
+use Rattle.spv_type_forms.specs.declared.objects.Image.{Image}
+use Rattle.spv_type_forms.specs.Objects.{image_in, image_of}
+use Rattle.spv_type_forms.proofs.Deciding.{lacks_or_not}
 use Rattle.spv_type_forms.specs.Operands.{ids_in, after_head}
 use Rattle.spv_type_forms.specs.Values.{types_of}
 use Rattle.spv_ops.specs.Typed.{IsTyped}
@@ -27,9 +31,11 @@ use Rattle.spv_type_rules.specs.roles.inner.Role.{IsTypeDeclaration, IsValue, Is
 use Rattle.spv_type_rules.specs.declared.declaration.Declaration.{Declaration}
 use Rattle.spv_type_rules.specs.declared.declaration.Declaration.TheVariants.{Int, Float, Vector, Array, Struct}
 use Rattle.spv_type_rules.specs.declared.declaration.Declaration.TheVariants.{Pointer, Function, Forward}
+use Rattle.spv_type_rules.specs.declared.declaration.Declaration.TheVariants as declaration
 use Rattle.spv_type_rules.specs.declared.constant.Constant.{Constant}
 use Rattle.spv_type_rules.specs.declared.constant.Constant.TheVariants as constant
 use Rattle.spv_type_rules.specs.Declaration.{declaration_of, IsLength, IsPointerAfter, DeclaresSoundly}
+use Rattle.spv_type_rules.specs.Declaration.{IsSoundImage, IsSampled}
 use Rattle.spv_type_rules.specs.Asked.{IsIntWidth, IsFloatWidth, IsVectorCount}
 use Rattle.spv_type_rules.specs.inner.Declaration.{IsSoundDeclaration}
 use Rattle.spv_type_rules.specs.Constant.{constant_of, is_part_opcode, IsPart, FitsWidth, AreConstantParts, Constitutes}
@@ -39,11 +45,12 @@ use Rattle.spv_type_rules.specs.Function.{parameter_type_of, OfFunction, Returns
 use Rattle.spv_type_rules.specs.Function.{CallsSoundly}
 use Rattle.spv_type_rules.specs.Keeps.{KeepsFunctions, KeepsReturns, Keeps}
 use Rattle.spv_type_rules.specs.inner.Keeps.{CallsAreSound}
-use Rattle.spv_check.proofs.Decided.{Decided, held, anew, both, either, opposite, given, some_and, matched, pinned}
+use Rattle.spv_check.proofs.Decided.{Decided, held, anew, both, five, either, opposite, given, some_and, matched, pinned}
 use Rattle.spv_check.proofs.Decided.{number_same, all_or_not, is_true}
 use Rattle.spv_check.proofs.Standing.{least_or_not, less_or_not, defined_with, function_or_none, global_or_not}
-use Rattle.spv_check.proofs.Rows.{int_or_not, float_or_not, bool_or_not, void_or_not, opaque_or_not, data_or_not}
-use Rattle.spv_check.proofs.Rows.{some_int, parts_or_not, typed_or_not}
+use Rattle.spv_check.proofs.Forms.{int_or_not, float_or_not, bool_or_not, void_or_not, opaque_or_not, data_or_not}
+use Rattle.spv_check.proofs.Forms.{some_int, object_or_not, parts_or_not}
+use Rattle.spv_check.proofs.Rows.{typed_or_not}
 
 -- Y1
 
@@ -53,7 +60,8 @@ some_or_not (Some x) = inl refl
 
 pub plays_or_not : (is : List PlainInst) (r : Role) (x : ℕ) → Decided (Plays is r x)
 plays_or_not is role.OfType x = some_and (definition_of is x) IsTypeDeclaration
-    (λ d. both (least_or_not 19 d.opcode) (least_or_not d.opcode 33))
+    (λ d. either (both (least_or_not 19 d.opcode) (least_or_not d.opcode 38))
+    (either (cases_eq d.opcode 322) (cases_eq d.opcode 327)))
 plays_or_not is role.Value x = some_and (definition_of is x) IsValue
     (λ d. both (some_or_not (type_in d.operands)) (opposite (cases_eq d.opcode 54)))
 plays_or_not is role.Function x = some_and (definition_of is x) (IsOfOpcode 54) (λ d. cases_eq d.opcode 54)
@@ -109,6 +117,12 @@ pointer_after is n t class = anew
     (p.place, (d, record { after = p.after; inst = d.inst; there = d.there; pointer = p.pointer }))))
     (defined_with is t (IsAfter is n class) (after_or_not is n class))
 
+sound_image : (is : List PlainInst) (m : Image) → Decided (IsSoundImage is m)
+sound_image is m =
+    let f = form_of is m.sampled_type in
+    five (either (void_or_not f) (either (int_or_not f) (float_or_not f))) (least_or_not m.depth 2)
+    (least_or_not m.arrayed 1) (least_or_not m.multisampled 1) (least_or_not m.sampled 2)
+
 declares : (is : List PlainInst) (n : ℕ) (d : Declaration) (os : List Plain) → Decided (DeclaresSoundly is n d os)
 declares is n Int (Result t ∷ Word w ∷ Word s ∷ []) = both (int_width w) (cases_eq s 0)
 declares is n Float (Result t ∷ Word w ∷ []) = float_width w
@@ -120,6 +134,9 @@ declares is n Pointer (Result t ∷ Value k class ∷ Id p ∷ []) = either (dat
 declares is n Function (Result t ∷ Id r ∷ os) = both (either (data_or_not is r) (void_or_not (form_of is r)))
     (all_or_not (IsData is) (data_or_not is) (ids_in os))
 declares is n Forward (Id p ∷ Value k class ∷ []) = pointer_after is n p class
+declares is n declaration.Image os = some_and (image_in os) (IsSoundImage is) (sound_image is)
+declares is n declaration.SampledImage (Result t ∷ Id i ∷ []) = some_and (image_of is i) IsSampled
+    (λ m. both (opposite (cases_eq m.dim 5)) (opposite (cases_eq m.dim 6)))
 declares is n _ os = inr (λ h. h)
 
 declaration_or_not : (is : List PlainInst) (n : ℕ) (i : PlainInst) → Decided (IsSoundDeclaration is n i)
@@ -161,7 +178,10 @@ constitutes is constant.Bool r os = bool_or_not (form_of is r)
 constitutes is constant.Number r (Number low high words ∷ []) = fits_width is r low
 constitutes is constant.Composite r os = constant_parts is false r (ids_in os)
 constitutes is constant.SpecComposite r os = constant_parts is true r (ids_in os)
-constitutes is constant.Null r os = data_or_not is r
+constitutes is constant.Null r os = both (data_or_not is r) (opposite (lacks_or_not is r))
+constitutes is constant.Sampler r (Value a mode ∷ Word n ∷ Value f filter ∷ []) =
+    both (object_or_not (form_of is r) object.Sampler) (least_or_not n 1)
+constitutes is constant.PipeStorage r os = object_or_not (form_of is r) object.PipeStorage
 constitutes is _ r os = inr (λ h. h)
 
 constant_or_not : (is : List PlainInst) (i : PlainInst) → Decided (IsSoundConstant is i)

@@ -11,7 +11,8 @@ use Rattle.spv_layout.specs.declared.class.Class.TheVariants.{ExecutionMode, Sou
 use Rattle.spv_layout.specs.declared.class.Class.TheVariants.{Function, FunctionEnd, Label}
 use Rattle.spv_layout.specs.Class.{is_among}
 use Rattle.spv_layout.specs.Layout.{classes}
-use Rattle.spv_layout.specs.Place.{IsAt, IsLast, IsWithin, IsOfFunction, IsDefinition, IsOfSection, section_of}
+use Rattle.spv_layout.specs.Place.{IsAt, IsLast, IsWithin, IsOfFunction, IsOfBlock, IsDefinition, IsOfSection}
+use Rattle.spv_layout.specs.Place.{section_of, terminators}
 use Rattle.spv_layout.proofs.Places.{last_same, function_same}
 use Rattle.spv_layout.proofs.Spans.{at_moved}
 use Rattle.spv_ids.specs.Definition.{IsDefinedAt}
@@ -68,6 +69,9 @@ within_or_not is c others n = elim (last_or_none is c n) [
 
 pub function_or_none : (is : List PlainInst) (n : ℕ) → Decided ((f : ℕ) × IsOfFunction is n f)
 function_or_none is n = within_or_not is Function (FunctionEnd ∷ []) n
+
+pub block_or_none : (is : List PlainInst) (n : ℕ) → Decided ((b : ℕ) × IsOfBlock is n b)
+block_or_none is n = within_or_not is Label terminators n
 
 pub of_function_or_not : (is : List PlainInst) (n f : ℕ) → Decided (IsOfFunction is n f)
 of_function_or_not is n f = elim (function_or_none is n) [

@@ -7,10 +7,12 @@ use Rattle.spv_words.specs.declared.words.Order.TheVariants.{Big}
 use Rattle.spv_words.specs.declared.words.WordError.TheVariants.{W2}
 use Rattle.spv_table.specs.Table.{Table}
 use Rattle.spv_module.specs.Instruction.{end}
+use Rattle.spv_module.specs.declared.profile.Profile as declared
 use Rattle.spv_module.specs.declared.fault.Rule.TheVariants.{I7, L2}
 use Rattle.spv_module.specs.Operand.{PlainInst}
 use Rattle.spv_extended.specs.declared.reach.Reach.{Reach}
-use Rattle.spv_extended.specs.declared.reach.Reach.TheVariants.{Profile, Extended}
+use Rattle.spv_extended.specs.declared.reach.Reach.TheVariants.{Profile, Extended, OpenCl}
+use Rattle.spv_extended.specs.Reach.{profile_of}
 use Rattle.spv_layout.specs.DeadPlace.{IsDeadPlace}
 use Rattle.spv_layout.specs.declared.state.State.TheVariants as at
 use Rattle.spv_layout.proofs.Brokens.{dead_first}
@@ -50,8 +52,8 @@ pub never_valid : (G : Table) (reach : Reach) (bytes line : List ℕ) → (line 
 never_valid G reach bytes line e h law v = let w = refused W2 h in refused_is_not_valid W2 (rw e at (law _ line w v))
 
 -- a list without instructions begins a module and is none
-no_instructions : IsDeadPlace [] L2 0
-no_instructions = IsDeadPlace.unfinished [] (leads_begin [] at.Capabilities leads_first)
+no_instructions : (p : declared.Profile) → IsDeadPlace p [] L2 0
+no_instructions p = IsDeadPlace.unfinished [] (leads_begin [] at.Capabilities leads_first)
     (leads_no_end [] at.Capabilities refl leads_first)
 
 none_there : (n : ℕ) (i : PlainInst) → ¬ (slice_get [] n ≡ Some i)
@@ -59,13 +61,14 @@ none_there n i h = let l = slice_get_within [] n i h in absurd (omega arith)
 
 unfinished_first : (G : Table) (reach : Reach) (bound : ℕ) → IsFirstOfAll G reach bound [] L2 0
 unfinished_first G reach bound =
-    layout_first G reach bound [] L2 0 (fit_unbroken G [] (λ n i h. absurd (none_there n i h)))
-    (dead_first G [] L2 0 no_instructions)
+    layout_first G reach bound [] L2 0 (fit_unbroken (profile_of reach) G [] (λ n i h. absurd (none_there n i h)))
+    (dead_first (profile_of reach) G [] L2 0 (no_instructions (profile_of reach)))
 
 -- no words are the reading of no instructions
 nothing_read : (G : Table) (reach : Reach) → IsReading G reach [] []
 nothing_read G Profile = record { spelled = []; listing = end []; seen = refl }
 nothing_read G Extended = record { spelled = []; listing = end []; seen = refl }
+nothing_read G (OpenCl minor) = record { spelled = []; listing = end []; seen = refl }
 
 pub header_alone : (G : Table) (reach : Reach) (bytes : List ℕ)
     → IsModule Big bytes (119734787 ∷ 67072 ∷ 7 ∷ 5 ∷ 0 ∷ []) → IsVerdict G reach bytes (fault_line L2 0 5)

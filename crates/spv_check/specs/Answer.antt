@@ -42,5 +42,6 @@ StopsAs (stop.Fault f) r = r ≡ Ok (Fault f)
 StopsAs stop.Memory r = IfOk r (λ _. ⊥)
 
 -- The parts are those of the checked module.
-abbrev pub ArePartsOf : Table → Program → Parts → Type 0
-ArePartsOf G p parts = AreParts G p parts.«module».now parts.plan.now parts.ids.now parts.flow.now
+abbrev pub ArePartsOf : Table → Reach → Program → Parts → Type 0
+ArePartsOf G reach p parts =
+    AreParts G reach p parts.«module».now parts.plan.now parts.ids.now parts.flow.now

@@ -6,11 +6,11 @@ use Rattle.spv_module.specs.Module.{plain_insts}
 use Rattle.spv_module.specs.declared.fault.Rule.{Rule}
 use Rattle.spv_module.specs.declared.module.Module.{Module}
 use Rattle.spv_extended.specs.declared.reach.Reach.{Reach}
+use Rattle.spv_extended.specs.Broken as extended_rules
+use Rattle.spv_extended.specs.Reach.{profile_of}
 use Rattle.spv_layout.specs.First.{IsUnbroken}
-use Rattle.spv_layout.specs.Layout.{IsLayout, classes}
 use Rattle.spv_layout.specs.Place.{IsShort}
-use Rattle.spv_layout.specs.Plan.{IsPlan}
-use Rattle.spv_layout.specs.Shape.{FitsShape}
+use Rattle.spv_layout.specs.Plan.{IsPlan, IsLaidOut}
 use Rattle.spv_layout.specs.Stage.{of_branches, of_calls, of_ids, of_roles, of_types, of_values}
 use Rattle.spv_layout.specs.declared.place.Place.{Place}
 use Rattle.spv_ids.specs.Broken as id_rules
@@ -26,16 +26,16 @@ use Rattle.spv_flow.specs.calls.Broken as call_rules
 use Rattle.spv_check.specs.flow.Outcome.{IsFlow}
 use Rattle.spv_check.specs.declared.flow.Flow.{Flow}
 use Rattle.spv_check.specs.Broken.{IsSound}
+use Rattle.spv_check.specs.Fork.{fork_of}
 use Rattle.spv_check.specs.Program.{Program}
 use Rattle.spv_check.specs.Reading.{IsReading}
 
--- All that the layers demand of a module, by the profile, is kept under the table. [own]
-pub record IsKept (G : Table) (p : Program) : Type 0 where
+-- All that the layers demand of a module, as far as it is looked at, is kept under the table. [own]
+pub record IsKept (G : Table) (reach : Reach) (p : Program) : Type 0 where
   -- it has few enough words
   pub few : IsShort p.insts
-  -- each instruction fits its row, and all together are laid out as a module
-  pub fits : (n : ℕ) (i : PlainInst) → slice_get p.insts n ≡ Some i → FitsShape G i
-  pub layout : IsLayout (classes p.insts)
+  -- each instruction fits its row, which the profile has, and all together are laid out as a module
+  pub laid_out : IsLaidOut (profile_of reach) G p.insts
   -- D
   pub ids : IsUnbroken (id_rules.Broken G p.bound p.insts) of_ids
   -- Y1; C, M and E; and the other rules Y
@@ -46,19 +46,21 @@ pub record IsKept (G : Table) (p : Program) : Type 0 where
       → typing_rules.Keeps (IsTyped G p.insts) p.insts r n i
   pub types : IsUnbroken (type_rules.Broken G p.insts) of_roles × IsUnbroken (type_rules.Broken G p.insts) of_types
   -- F, A and G
-  pub branches : IsUnbroken (flow_rules.Broken G p.insts) of_branches
-  pub values : IsUnbroken (flow_rules.Broken G p.insts) of_values
+  pub branches : IsUnbroken (flow_rules.Broken (fork_of reach) G p.insts) of_branches
+  pub values : IsUnbroken (flow_rules.Broken (fork_of reach) G p.insts) of_values
   pub calls : IsUnbroken (call_rules.Broken p.insts) of_calls
+  -- Y9
+  pub extended : (r : Rule) (n : ℕ) → ¬ (extended_rules.Broken reach p.insts r n)
 
 -- The module is that one, and the places, ids and flow are its own.
-pub record AreParts (G : Table) (p : Program) (m : Module) (places : List Place) (ids : Ids)
+pub record AreParts (G : Table) (reach : Reach) (p : Program) (m : Module) (places : List Place) (ids : Ids)
     (flow : Flow) : Type 0 where
   pub bound : m.header.bound ≡ p.bound
   pub insts : plain_insts m ≡ p.insts
-  pub kept : IsKept G p
+  pub kept : IsKept G reach p
   pub plan : IsPlan G p.insts places
   pub numbered : AreIds G p.bound p.insts ids
-  pub flowing : IsFlow G p.insts flow
+  pub flowing : IsFlow (fork_of reach) G p.insts flow
 
 -- The module is the one list of the words, as far as it is looked at, with the bound that word 3 is, and valid under
 -- the table. [own]
@@ -76,4 +78,4 @@ pub record IsCheckedBy (G : Table) (m : Module) (places : List Place) (ids : Ids
   pub reach : Reach
   pub words : List ℕ
   pub checked : IsChecked G reach words (program_of m)
-  pub parts : AreParts G (program_of m) m places ids flow
+  pub parts : AreParts G reach (program_of m) m places ids flow

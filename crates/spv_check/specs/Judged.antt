@@ -9,6 +9,7 @@ use Rattle.spv_module.specs.declared.fault.Stop.{Stop}
 use Rattle.spv_module.specs.declared.fault.Stop.TheVariants.{Fault, Memory}
 use Rattle.spv_module.specs.declared.module.Module.{Module}
 use Rattle.spv_extended.specs.declared.reach.Reach.{Reach}
+use Rattle.spv_extended.specs.Reach.{profile_of}
 use Rattle.spv_layout.specs.Plan as layout
 use Rattle.spv_layout.specs.Plan.{IsPlan}
 use Rattle.spv_ids.specs.Outcome as ids
@@ -18,6 +19,7 @@ use Rattle.spv_check.specs.extended.Outcome as extended
 use Rattle.spv_check.specs.flow.Outcome as flow
 use Rattle.spv_check.specs.Broken.{IsSound, IsTold}
 use Rattle.spv_check.specs.Checked.{IsKept}
+use Rattle.spv_check.specs.Fork.{fork_of}
 use Rattle.spv_check.specs.Program.{Program}
 use Rattle.spv_check.specs.Reading.{IsReading}
 use Rattle.spv_check.specs.declared.judged.Judged.{Judged}
@@ -33,12 +35,12 @@ pub record AreWordsOf (G : Table) (reach : Reach) (m : Module) (words : List ℕ
 
 -- The stages that were passed made these of the module, and the next one refused it so.
 abbrev pub IsRefusedAt : Table → Reach → ℕ → List PlainInst → Reached → Stop → Type 0
-IsRefusedAt G reach bound is Decoded s = layout.IsRefusal G is s
+IsRefusedAt G reach bound is Decoded s = layout.IsRefusal (profile_of reach) G is s
 IsRefusedAt G reach bound is (Placed places) s = IsPlan G is places × ids.IsRefusal G bound is s
 IsRefusedAt G reach bound is (Numbered places numbers) s =
     IsPlan G is places × AreIds G bound is numbers × types.IsRefusal G is s
 IsRefusedAt G reach bound is (Typed places numbers) s =
-    IsPlan G is places × AreIds G bound is numbers × flow.IsRefusal G is s
+    IsPlan G is places × AreIds G bound is numbers × flow.IsRefusal (fork_of reach) G is s
 IsRefusedAt G reach bound is Sound s = extended.IsRefusal reach is s
 
 -- The module, under the bound, is that of the list; its fault is the first broken rule of all; and a stage refused it
@@ -53,7 +55,7 @@ pub record IsRefused (G : Table) (reach : Reach) (bound : ℕ) (is : List PlainI
 -- A valid module keeps all that the layers demand, and has this bound and these instructions.
 pub record IsCheckedOf (G : Table) (reach : Reach) (bound : ℕ) (is : List PlainInst) (p : Program) : Type 0 where
   pub whole : p ≡ record { bound = bound; insts = is }
-  pub kept : IsKept G p
+  pub kept : IsKept G reach p
   pub sound : IsSound G reach bound is
 
 -- The module breaks no rule, or this is its fault.

@@ -1,6 +1,7 @@
 pub mod Answer
 pub mod Broken
 pub mod Checked
+pub mod Fork
 pub mod Kernel
 pub mod Example
 pub mod Judged

@@ -62,6 +62,7 @@ impl<'a> Checked<'a> {
     ghost use Rattle.std.specs.Prelude.{◌≡◌};
     ghost use Rattle.spv_table.specs.Table.{Table};
     ghost use Rattle.spv_module.specs.Module.{plain_insts};
+    ghost use Rattle.spv_extended.specs.declared.reach.Reach.{Reach};
     ghost use Rattle.spv_check.specs.Checked.{IsCheckedBy, IsKept};
     ghost use Rattle.spv_check.specs.Answer.{ArePartsOf};
 
@@ -90,8 +91,8 @@ impl<'a> Checked<'a> {
 
     /// The module, and what the layers know of it. It takes no memory.
     pub fn parts(&self) -> Parts<'_, 'a>
-        ensures some { (G : Table) × ArePartsOf G self.now result }
-        ensures each { (G : Table) → IsKept G self.now → ArePartsOf G self.now result }
+        ensures some { (G : Table) × (reach : Reach) × ArePartsOf G reach self.now result }
+        ensures each { (G : Table) (reach : Reach) → IsKept G reach self.now → ArePartsOf G reach self.now result }
     {
         Parts {
             module: &self.module,

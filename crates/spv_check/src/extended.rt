@@ -8,7 +8,7 @@ ghost use Rattle.spv_extended.specs.Broken.{Broken};
 ghost use Rattle.spv_layout.specs.Plan.{IsPlan};
 ghost use Rattle.spv_check.specs.extended.Outcome.{IsRefusal};
 
-use spv_extended::{Reach, first_miscalled};
+use spv_extended::{Reach, first_miscalled, opens};
 use spv_layout::Plan;
 use spv_module::{Module, Rule, Stop};
 use std::alloc::Global;
@@ -30,12 +30,12 @@ pub fn extended_check(
     ensures unbroken { IfOk result (λ _. (r : Rule) (n : ℕ) → ¬ (Broken reach (plain_insts «module».now) r n)) }
     ensures refused { IfErr result (λ s. IsRefusal reach (plain_insts «module».now) s) }
 {
-    match reach {
-        Reach::Profile => Ok(()),
-        Reach::Extended => match first_miscalled(alloc, module) {
-            Ok(None) => Ok(()),
-            Ok(Some(inst)) => Err(plan.stop_at(Rule::Y9, inst)),
-            Err(_) => Err(Stop::Memory),
-        },
+    if !opens(reach) {
+        return Ok(());
+    }
+    match first_miscalled(alloc, module) {
+        Ok(None) => Ok(()),
+        Ok(Some(inst)) => Err(plan.stop_at(Rule::Y9, inst)),
+        Err(_) => Err(Stop::Memory),
     }
 }

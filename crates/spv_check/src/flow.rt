@@ -13,7 +13,7 @@ pub mod laws;
 
 use crate::flow::counting::count_definitions;
 use crate::types::Types;
-use spv_flow::branches::check_branches;
+use spv_flow::branches::{Fork, check_branches};
 use spv_flow::calls::first_cycle;
 use spv_flow::walks::check_values;
 use spv_ids::Ids;
@@ -40,7 +40,8 @@ impl Flow {
 }
 
 /// Looks at the flow of a module: its branches, then its values, then its calls. `plan`, `ids` and `types` are what
-/// `lay_out`, `number` and `type_check` answered of that module; of the types nothing is asked.
+/// `lay_out`, `number` and `type_check` answered of that module; of the types nothing is asked. `fork` says whether
+/// F4 is asked.
 ///
 /// A `Fault` tells the first rule that is broken, with its instruction and that instruction's first word (words and
 /// instructions from 0). Each of these comes only where none of those before is broken anywhere:
@@ -59,6 +60,7 @@ pub fn flow_check(
     plan: &Plan,
     ids: &Ids,
     _types: &Types,
+    fork: Fork,
 ) -> Result<Flow, Stop>
     // The condition of `lay_out`, and that the plan and the ids are what was answered, by some table.
     requires words { IsShort (plain_insts «module».now) }
@@ -66,12 +68,12 @@ pub fn flow_check(
         × AreIds G «module».now.header.bound (plain_insts «module».now) ids.now }
     ensures flow { (G : Table) → IsPlan G (plain_insts «module».now) plan.now
         → AreIds G «module».now.header.bound (plain_insts «module».now) ids.now
-        → IfOk result (λ flow. IsFlow G (plain_insts «module».now) flow) }
+        → IfOk result (λ flow. IsFlow fork G (plain_insts «module».now) flow) }
     ensures refused { (G : Table) → IsPlan G (plain_insts «module».now) plan.now
         → AreIds G «module».now.header.bound (plain_insts «module».now) ids.now
-        → IfErr result (λ s. IsRefusal G (plain_insts «module».now) s) }
+        → IfErr result (λ s. IsRefusal fork G (plain_insts «module».now) s) }
 {
-    check_branches(alloc, module, plan, ids)?;
+    check_branches(alloc, module, plan, ids, fork)?;
     check_values(alloc, module, plan, ids)?;
     if let Some(call) = first_cycle(alloc, module, plan, ids)? {
         return Err(plan.stop_at(Rule::G1, call));

@@ -8,8 +8,9 @@ ghost use Rattle.spv_check.specs.Judged.{AreWordsOf, IsJudged, RefusesAs};
 use crate::checked::Checked;
 use crate::extended::extended_check;
 use crate::flow::flow_check;
+use crate::fork::fork_of;
 use crate::types::type_check;
-use spv_extended::Reach;
+use spv_extended::{Reach, profile_of};
 use spv_ids::{Ids, number};
 use spv_layout::laws::member_or_dead;
 use spv_layout::{Plan, lay_out};
@@ -80,7 +81,7 @@ pub fn judge<'a>(
     ensures { IfOk result (λ j. IsJudged table.now reach «module».entry.header.bound (plain_insts «module».entry) j) }
 {
     member_or_dead();
-    let plan = match lay_out(alloc, table, &module) {
+    let plan = match lay_out(alloc, profile_of(reach), table, &module) {
         Ok(plan) => plan,
         Err(stop) => return refused(stop, module, Reached::Decoded),
     };
@@ -92,7 +93,7 @@ pub fn judge<'a>(
         Ok(types) => types,
         Err(stop) => return refused(stop, module, Reached::Numbered(plan, ids)),
     };
-    let flow = match flow_check(alloc, &module, &plan, &ids, &types) {
+    let flow = match flow_check(alloc, &module, &plan, &ids, &types, fork_of(reach)) {
         Ok(flow) => flow,
         Err(stop) => return refused(stop, module, Reached::Typed(plan, ids)),
     };

@@ -1,5 +1,5 @@
 //! What follows from the definitions of a verdict. Each function does nothing: its contract is what is proved.
-ghost use Rattle.std.specs.Prelude.{◌≡◌, ◌↔◌, ◌++◌, ◌∷◌, [], ℕ, List};
+ghost use Rattle.std.specs.Prelude.{◌≡◌, ◌≢◌, ◌↔◌, ◌++◌, ◌∷◌, [], ℕ, List};
 ghost use Rattle.std.specs.Prelude.{Option, true, false, codes};
 ghost use Rattle.spv_table.specs.Table.{Table};
 ghost use Rattle.spv_module.specs.Operand.{PlainInst};
@@ -9,7 +9,9 @@ ghost use Rattle.spv_module.specs.declared.fault.Rule.{Rule};
 ghost use Rattle.spv_module.specs.declared.fault.Rule.TheVariants.{A1, G1, I7, L2, Y7};
 ghost use Rattle.spv_module.specs.declared.module.Module.{Module};
 ghost use Rattle.spv_extended.specs.declared.reach.Reach.{Reach};
-ghost use Rattle.spv_extended.specs.declared.reach.Reach.TheVariants.{Profile, Extended};
+ghost use Rattle.spv_extended.specs.declared.reach.Reach.TheVariants.{Profile, Extended, OpenCl};
+ghost use Rattle.spv_flow.specs.declared.branches.fork.Fork.TheVariants.{Distinct};
+ghost use Rattle.spv_check.specs.Fork.{fork_of};
 ghost use Rattle.spv_layout.specs.Place.{IsShort};
 ghost use Rattle.spv_layout.specs.declared.place.Place.{Place};
 ghost use Rattle.spv_ids.specs.declared.ids.Ids.{Ids};
@@ -74,8 +76,8 @@ pub fn one_first()
 /// No rule is broken on a program of few enough words exactly where it keeps all that the layers demand, which is said
 /// without a `not`.
 pub fn kept_exactly()
-    ensures { (G : Table) (p : Program) → IsShort p.insts
-        → IsSound G Profile p.bound p.insts ↔ IsKept G p }
+    ensures { (G : Table) (reach : Reach) (p : Program) → IsShort p.insts
+        → IsSound G reach p.bound p.insts ↔ IsKept G reach p }
 {
     member_or_dead();
 }
@@ -141,16 +143,17 @@ pub fn outcome_examples()
 /// The smallest kernel, under a small grammar table.
 pub fn kernel_examples()
     ensures sound { IsSound grammar Profile 5 kernel }
-    ensures kept { IsKept grammar kernel_program }
+    ensures kept { IsKept grammar Profile kernel_program }
     // A function that an entry point leads to calls itself.
-    ensures not_kept { (G : Table) (bound : ℕ) → ¬ (IsKept G (record { bound = bound; insts = looped })) }
+    ensures not_kept { (G : Table) (reach : Reach) (bound : ℕ)
+        → ¬ (IsKept G reach (record { bound = bound; insts = looped })) }
     // Its places, and what is kept of the definitions of its ids and of its functions; it has not those of another
     // program.
     ensures parts { (m : Module) (ids : Ids) (flow : Flow) → m.header.bound ≡ 5 → plain_insts m ≡ kernel
         → ((x : ℕ) → IsDefinitionOf kernel x (definition_in ids x)) → flow.definitions ≡ 1
-        → AreParts grammar kernel_program m kernel_places ids flow }
-    ensures other_parts { (G : Table) (m : Module) (places : List Place) (ids : Ids) (flow : Flow)
-        → m.header.bound ≡ 5 → ¬ (AreParts G other_program m places ids flow) }
+        → AreParts grammar Profile kernel_program m kernel_places ids flow }
+    ensures other_parts { (G : Table) (reach : Reach) (m : Module) (places : List Place) (ids : Ids) (flow : Flow)
+        → m.header.bound ≡ 5 → ¬ (AreParts G reach other_program m places ids flow) }
     // The words are that module, and not one with another bound.
     ensures checked { IsChecked grammar Profile kernel_words kernel_program }
     ensures other_bound { ¬ (IsChecked grammar Profile kernel_words other_program) }
@@ -161,6 +164,14 @@ pub fn kernel_examples()
 {
     examples();
 }
+
+/// What is asked of the two labels of an OpBranchConditional.
+pub fn fork_examples()
+    ensures profile { fork_of Profile ≡ Distinct }
+    // Of a kernel of OpenCL it is asked since version 1.6.
+    ensures newest { fork_of (OpenCl 6) ≡ Distinct }
+    ensures earlier { fork_of (OpenCl 5) ≢ Distinct }
+{}
 
 /// What words are the reading of.
 pub fn reading_examples()

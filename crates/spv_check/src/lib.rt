@@ -4,6 +4,7 @@
 mod checked;
 mod extended;
 pub mod flow;
+mod fork;
 mod judged;
 mod judging;
 pub mod laws;
@@ -16,6 +17,7 @@ mod verdict_line;
 
 pub use checked::{Checked, Parts, Verdict};
 pub use flow::{Flow, flow_check};
+pub use fork::fork_of;
 pub use judged::{Judged, Reached, judge};
 pub use judging::check;
 pub use line::Line;

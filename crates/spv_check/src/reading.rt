@@ -8,7 +8,7 @@ ghost use Rattle.spv_layout.specs.Place.{IsShort};
 ghost use Rattle.spv_check.specs.Reading.{IsReading};
 
 use spv_extended::laws::opening_keeps;
-use spv_extended::{Reach, open};
+use spv_extended::{Reach, open, opens};
 use spv_inst::decode;
 use spv_layout::laws::word_counts;
 use spv_module::{Module, Stop};
@@ -44,9 +44,8 @@ pub fn read<'a>(
     opening_keeps();
     let _words = image.len();
     let mut module = decode(alloc, table, image)?;
-    match reach {
-        Reach::Profile => {}
-        Reach::Extended => open(alloc, &mut module)?,
+    if opens(reach) {
+        open(alloc, &mut module)?;
     }
     Ok(module)
 }

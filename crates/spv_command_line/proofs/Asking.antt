@@ -25,13 +25,15 @@ use Rattle.spv_command_line.specs.declared.command_line.Task.{Task}
 use Rattle.spv_command_line.specs.declared.command_line.Task.TheVariants as tasks
 use Rattle.spv_command_line.specs.declared.command_line.UseError.{UseError}
 use Rattle.spv_command_line.specs.declared.command_line.UseError.TheVariants.{NoCommand, Memory, Help, Version}
-use Rattle.spv_command_line.specs.CommandLine.{Answers, IsAsked, IsCodeOf, IsColor, IsCommand, IsCommandOf, IsDetailed, IsFlag, IsForm, IsJudge, IsNaming, IsNoCommand, color_word, count_of, error_of, inputs_among, program, task_name}
-use Rattle.spv_command_line.specs.inner.CommandLine.{IsGiven, IsGivenFor, IsOfFiles, form_of, naming_of}
+use Rattle.spv_command_line.specs.CommandLine.{Answers, IsAsked, IsCodeOf, IsColor, IsCommand, IsCommandOf, IsDetailed, IsFlag, IsForm, IsJudge, IsNaming, IsNoCommand, IsScope, IsScopeOf, color_word, count_of, error_of, inputs_among, program, task_name}
+use Rattle.spv_command_line.specs.inner.CommandLine.{IsGiven, IsGivenFor, IsOfFiles, form_of, naming_of, scope_of}
 use Rattle.spv_rules.specs.Errors.{any_name}
 use Rattle.spv_rules.specs.Rules.{IsNamed}
 use Rattle.spv_rules.specs.declared.errors.AnyCode.{AnyCode}
 use Rattle.spv_command_line.specs.Number.{AreNumbers, AreNumbersOf, IsChoice, IsChoiceIfAny, IsChoiceOf, IsNumber, IsNumberOf}
 use Rattle.spv_names.specs.declared.chosen.Chosen.{Chosen}
+use Rattle.spv_scope.specs.declared.scope.Scope.{Scope}
+use Rattle.spv_scope.specs.declared.scope.Scope.TheVariants.{Own, Extended, OpenCl}
 
 -- the command line is one of which `clap` tells the matches and the faults
 pub is_simple_lem : is_simple program ≡ true
@@ -62,44 +64,44 @@ met (Some b) name rows e f = cc
 
 -- a command's name, its files, and the sum of the letters of its name, by which names are told apart
 abbrev pub name_of : Command → Text
-name_of (Judge task g fs v x n q j) = task_name task
-name_of (Show g f v) = codes "show"
-name_of (Annotate g f v function form color) = codes "annotate"
-name_of (Graph g f v function) = codes "graph"
-name_of (Asm g f out big explain) = codes "asm"
-name_of (Trace g f function choices limit v x) = codes "trace"
+name_of (Judge task g fs s n q j) = task_name task
+name_of (Show g f s) = codes "show"
+name_of (Annotate g f s function form color) = codes "annotate"
+name_of (Graph g f s function) = codes "graph"
+name_of (Asm g f out big explain o) = codes "asm"
+name_of (Trace g f function choices limit s) = codes "trace"
 name_of (Rules code j) = codes "rules"
 name_of (Grammar f) = codes "grammar"
 
 abbrev files_of : Command → List Text
-files_of (Judge task g fs v x n q j) = map (λ f. f.now) fs.items
-files_of (Show g f v) = f.now ∷ []
-files_of (Annotate g f v function form color) = f.now ∷ []
-files_of (Graph g f v function) = f.now ∷ []
-files_of (Asm g f out big explain) = f.now ∷ []
-files_of (Trace g f function choices limit v x) = f.now ∷ []
+files_of (Judge task g fs s n q j) = map (λ f. f.now) fs.items
+files_of (Show g f s) = f.now ∷ []
+files_of (Annotate g f s function form color) = f.now ∷ []
+files_of (Graph g f s function) = f.now ∷ []
+files_of (Asm g f out big explain o) = f.now ∷ []
+files_of (Trace g f function choices limit s) = f.now ∷ []
 files_of (Rules code j) = []
 files_of (Grammar f) = []
 
 abbrev sum_of : Command → ℕ
-sum_of (Judge tasks.Check g fs v x n q j) = 510
-sum_of (Judge (tasks.Explain full) g fs v x n q j) = 753
-sum_of (Show g f v) = 449
-sum_of (Annotate g f v function form color) = 858
-sum_of (Graph g f v function) = 530
-sum_of (Asm g f out big explain) = 321
-sum_of (Trace g f function choices limit v x) = 527
+sum_of (Judge tasks.Check g fs s n q j) = 510
+sum_of (Judge (tasks.Explain full) g fs s n q j) = 753
+sum_of (Show g f s) = 449
+sum_of (Annotate g f s function form color) = 858
+sum_of (Graph g f s function) = 530
+sum_of (Asm g f out big explain o) = 321
+sum_of (Trace g f function choices limit s) = 527
 sum_of (Rules code j) = 555
 sum_of (Grammar f) = 743
 
 letters : (c : Command) → sum (name_of c) ≡ sum_of c
-letters (Judge tasks.Check g fs v x n q j) = refl
-letters (Judge (tasks.Explain full) g fs v x n q j) = refl
-letters (Show g f v) = refl
-letters (Annotate g f v function form color) = refl
-letters (Graph g f v function) = refl
-letters (Asm g f out big explain) = refl
-letters (Trace g f function choices limit v x) = refl
+letters (Judge tasks.Check g fs s n q j) = refl
+letters (Judge (tasks.Explain full) g fs s n q j) = refl
+letters (Show g f s) = refl
+letters (Annotate g f s function form color) = refl
+letters (Graph g f s function) = refl
+letters (Asm g f out big explain o) = refl
+letters (Trace g f function choices limit s) = refl
 letters (Rules code j) = refl
 letters (Grammar f) = refl
 
@@ -115,22 +117,22 @@ module _ (environment : Option Text) (name : Text) (rows : List Row) where
   asked_files m g fs h = ap (λ (o : Option (Text × Option Text × Option (List Text))). unwrap_or (option_map (λ p. p.2) o) None) h
 
   pub named : (c : Command) → IsCommand environment (Some (name, rows)) c → name ≡ name_of c
-  named (Judge task g fs v x n q j) h = asked_name _ _ _ h.asked
-  named (Show g f v) h = asked_name _ _ _ h.0
-  named (Annotate g f v function form color) h = asked_name _ _ _ h.asked
-  named (Graph g f v function) h = asked_name _ _ _ h.asked
-  named (Asm g f out big explain) h = asked_name _ _ _ h.0
-  named (Trace g f function choices limit v x) h = asked_name _ _ _ h.asked
+  named (Judge task g fs s n q j) h = asked_name _ _ _ h.asked
+  named (Show g f s) h = asked_name _ _ _ h.0
+  named (Annotate g f s function form color) h = asked_name _ _ _ h.asked
+  named (Graph g f s function) h = asked_name _ _ _ h.asked
+  named (Asm g f out big explain o) h = asked_name _ _ _ h.0
+  named (Trace g f function choices limit s) h = asked_name _ _ _ h.asked
   named (Rules code j) h = lone_name name _ h.asked
   named (Grammar f) h = lone_name name _ h.0
 
   filed : (c : Command) → IsOfFiles name → IsCommand environment (Some (name, rows)) c → all_of (codes "file") rows ≡ Some (files_of c)
-  filed (Judge task g fs v x n q j) takes h = asked_files _ _ _ h.asked
-  filed (Show g f v) takes h = asked_files _ _ _ h.0
-  filed (Annotate g f v function form color) takes h = asked_files _ _ _ h.asked
-  filed (Graph g f v function) takes h = asked_files _ _ _ h.asked
-  filed (Asm g f out big explain) takes h = asked_files _ _ _ h.0
-  filed (Trace g f function choices limit v x) takes h = asked_files _ _ _ h.asked
+  filed (Judge task g fs s n q j) takes h = asked_files _ _ _ h.asked
+  filed (Show g f s) takes h = asked_files _ _ _ h.0
+  filed (Annotate g f s function form color) takes h = asked_files _ _ _ h.asked
+  filed (Graph g f s function) takes h = asked_files _ _ _ h.asked
+  filed (Asm g f out big explain o) takes h = asked_files _ _ _ h.0
+  filed (Trace g f function choices limit s) takes h = asked_files _ _ _ h.asked
   filed (Rules code j) takes h = absurd (takes.0 (lone_name name _ h.asked))
   filed (Grammar f) takes h = absurd (takes.1 (lone_name name _ h.0))
 
@@ -145,7 +147,7 @@ module _ (environment : Option Text) (name : Text) (rows : List Row) where
   -- of no file or several there is only a task
   pub no_command_of_several : (files : List Text) → ¬ (length files ≡ 1) → all_of (codes "file") rows ≡ Some files → IsOfFiles name
       → ((task : Task) → ¬ (name ≡ task_name task)) → IsNoCommand environment (Some (name, rows))
-  no_command_of_several files several all takes none (Judge task g fs v x n q j) h = none task (named (Judge task g fs v x n q j) h)
+  no_command_of_several files several all takes none (Judge task g fs s n q j) h = none task (named (Judge task g fs s n q j) h)
   no_command_of_several files several all takes none (Rules code j) h = takes.0 (named (Rules code j) h)
   no_command_of_several files several all takes none (Grammar f) h = takes.1 (named (Grammar f) h)
   no_command_of_several files several all takes none c h =
@@ -155,23 +157,35 @@ module _ (environment : Option Text) (name : Text) (rows : List Row) where
   -- of one file, with another name there is none
   pub no_command_of_name : IsOfFiles name → ((task : Task) → ¬ (name ≡ task_name task)) → ¬ (name ≡ codes "show") → ¬ (name ≡ codes "annotate")
       → ¬ (name ≡ codes "graph") → ¬ (name ≡ codes "asm") → ¬ (name ≡ codes "trace") → IsNoCommand environment (Some (name, rows))
-  no_command_of_name takes none show annotate graph asm trace (Judge task g fs v x n q j) h = none task (named (Judge task g fs v x n q j) h)
-  no_command_of_name takes none show annotate graph asm trace (Show g f v) h = show (named (Show g f v) h)
-  no_command_of_name takes none show annotate graph asm trace (Annotate g f v function form color) h = annotate (named (Annotate g f v function form color) h)
-  no_command_of_name takes none show annotate graph asm trace (Graph g f v function) h = graph (named (Graph g f v function) h)
-  no_command_of_name takes none show annotate graph asm trace (Asm g f out big explain) h = asm (named (Asm g f out big explain) h)
-  no_command_of_name takes none show annotate graph asm trace (Trace g f function choices limit v x) h = trace (named (Trace g f function choices limit v x) h)
+  no_command_of_name takes none show annotate graph asm trace (Judge task g fs s n q j) h = none task (named (Judge task g fs s n q j) h)
+  no_command_of_name takes none show annotate graph asm trace (Show g f s) h = show (named (Show g f s) h)
+  no_command_of_name takes none show annotate graph asm trace (Annotate g f s function form color) h = annotate (named (Annotate g f s function form color) h)
+  no_command_of_name takes none show annotate graph asm trace (Graph g f s function) h = graph (named (Graph g f s function) h)
+  no_command_of_name takes none show annotate graph asm trace (Asm g f out big explain o) h = asm (named (Asm g f out big explain o) h)
+  no_command_of_name takes none show annotate graph asm trace (Trace g f function choices limit s) h = trace (named (Trace g f function choices limit s) h)
   no_command_of_name takes none show annotate graph asm trace (Rules code j) h = takes.0 (named (Rules code j) h)
   no_command_of_name takes none show annotate graph asm trace (Grammar f) h = takes.1 (named (Grammar f) h)
+
+  -- where what its options ask of a version is none
+  pub not_scoped : ((scope : Scope) → ¬ (IsScopeOf rows scope)) → ¬ (name ≡ codes "asm") → ¬ (name ≡ codes "rules") → ¬ (name ≡ codes "grammar")
+      → IsNoCommand environment (Some (name, rows))
+  not_scoped none asm rules grammar (Judge task g fs s n q j) h = none s h.scope_is
+  not_scoped none asm rules grammar (Show g f s) h = none s h.1
+  not_scoped none asm rules grammar (Annotate g f s function form color) h = none s h.scope_is
+  not_scoped none asm rules grammar (Graph g f s function) h = none s h.scope_is
+  not_scoped none asm rules grammar (Asm g f out big explain o) h = asm (named (Asm g f out big explain o) h)
+  not_scoped none asm rules grammar (Trace g f function choices limit s) h = none s h.scope_is
+  not_scoped none asm rules grammar (Rules code j) h = rules (named (Rules code j) h)
+  not_scoped none asm rules grammar (Grammar f) h = grammar (named (Grammar f) h)
 
 never : ¬ (IsTrue false)
 never e = cc
 
 -- of a name there is no command, where there is none of its kind
 module _ (environment : Option Text) (rows : List Row) where
-  unjudged : (task : Task) → ((k : Task) (g : Option Text) (fs : List Text) (v x : Bool) (n : Naming) (q j : Bool)
-      → ¬ (IsJudge environment (Some (task_name task, rows)) k g fs v x n q j)) → IsNoCommand environment (Some (task_name task, rows))
-  unjudged task none (Judge k g fs v x n q j) h = none _ _ _ _ _ _ _ _ h
+  unjudged : (task : Task) → ((k : Task) (g : Option Text) (fs : List Text) (s : Scope) (n : Naming) (q j : Bool)
+      → ¬ (IsJudge environment (Some (task_name task, rows)) k g fs s n q j)) → IsNoCommand environment (Some (task_name task, rows))
+  unjudged task none (Judge k g fs s n q j) h = none _ _ _ _ _ _ _ h
   unjudged tasks.Check none c h = let e : 510 ≡ sum_of c = spelled environment (codes "check") rows c h in omega (arith, e)
   unjudged (tasks.Explain full) none c h = let e : 753 ≡ sum_of c = spelled environment (codes "explain") rows c h in omega (arith, e)
 
@@ -179,7 +193,7 @@ module _ (environment : Option Text) (rows : List Row) where
   pub not_judged : (task : Task) (g : Option Text) (all : List (Bor Text))
       → IsAsked environment (Some (task_name task, rows)) (task_name task) g (map (λ f. f.now) all)
       → IsTrue false ↔ ((1 ≤ length all) × (inputs_among (map (λ f. f.now) all) ≤ 1)) → IsNoCommand environment (Some (task_name task, rows))
-  not_judged task g all e answer = unjudged task (λ k h fs v x n q j i.
+  not_judged task g all e answer = unjudged task (λ k h fs s n q j i.
       let files : List Text = map (λ (f : Bor Text). f.now) all in
       let count = length-map all (λ (f : Bor Text). f.now) in
       let same : Some files ≡ Some fs = sym (asked_files environment (task_name task) rows _ _ _ e) ∙ asked_files environment (task_name task) rows _ _ _ i.asked in
@@ -190,48 +204,61 @@ module _ (environment : Option Text) (rows : List Row) where
   -- where names are asked for and against
   pub not_named : (task : Task) → ((naming : Naming) → ¬ (IsNaming (first_of (codes "with-filename") rows) (first_of (codes "no-filename") rows) naming))
       → IsNoCommand environment (Some (task_name task, rows))
-  not_named task none = unjudged task (λ k h fs v x n q j i. none n i.names)
+  not_named task none = unjudged task (λ k h fs s n q j i. none n i.names)
 
   -- where what its options ask for is none
   pub not_annotated : ((color : Color) → ¬ (IsColor (first_of (codes "color") rows) color))
       → IsNoCommand environment (Some (codes "annotate", rows))
-  not_annotated none (Annotate g f v function form color) h = none color h.color_is
-  not_annotated none (Judge tasks.Check g fs v x n q j) h = let e : 858 ≡ 510 = spelled environment (codes "annotate") rows (Judge tasks.Check g fs v x n q j) h in omega (arith, e)
+  not_annotated none (Annotate g f s function form color) h = none color h.color_is
+  not_annotated none (Judge tasks.Check g fs s n q j) h = let e : 858 ≡ 510 = spelled environment (codes "annotate") rows (Judge tasks.Check g fs s n q j) h in omega (arith, e)
   not_annotated none c h = let e : 858 ≡ sum_of c = spelled environment (codes "annotate") rows c h in omega (arith, e)
 
   pub not_assembled : first_of (codes "out") rows ≡ None → IsNoCommand environment (Some (codes "asm", rows))
-  not_assembled none (Asm g f out big explain) h = let o = h.1 in cc
-  not_assembled none (Judge tasks.Check g fs v x n q j) h = let e : 321 ≡ 510 = spelled environment (codes "asm") rows (Judge tasks.Check g fs v x n q j) h in omega (arith, e)
+  not_assembled none (Asm g f out big explain o) h = let o = h.1 in cc
+  not_assembled none (Judge tasks.Check g fs s n q j) h = let e : 321 ≡ 510 = spelled environment (codes "asm") rows (Judge tasks.Check g fs s n q j) h in omega (arith, e)
   not_assembled none c h = let e : 321 ≡ sum_of c = spelled environment (codes "asm") rows c h in omega (arith, e)
 
   pub not_traced : ((function : Chosen) (choices : List ℕ) (limit : ℕ) → IsChoiceOf (first_of (codes "function") rows) function
       → AreNumbersOf (first_of (codes "choices") rows) choices → IsNumberOf (first_of (codes "limit") rows) limit → ⊥)
       → IsNoCommand environment (Some (codes "trace", rows))
-  not_traced none (Trace g f function choices limit v x) h = none function choices.items limit h.function_is h.choices_are h.limit_is
-  not_traced none (Judge tasks.Check g fs v x n q j) h = let e : 527 ≡ 510 = spelled environment (codes "trace") rows (Judge tasks.Check g fs v x n q j) h in omega (arith, e)
+  not_traced none (Trace g f function choices limit s) h = none function choices.items limit h.function_is h.choices_are h.limit_is
+  not_traced none (Judge tasks.Check g fs s n q j) h = let e : 527 ≡ 510 = spelled environment (codes "trace") rows (Judge tasks.Check g fs s n q j) h in omega (arith, e)
   not_traced none c h = let e : 527 ≡ sum_of c = spelled environment (codes "trace") rows c h in omega (arith, e)
 
   pub not_ruled : ((code : Option AnyCode) → ¬ (IsCodeOf (first_of (codes "code") rows) code)) → IsNoCommand environment (Some (codes "rules", rows))
   not_ruled none (Rules code j) h = none code h.code_is
-  not_ruled none (Judge tasks.Check g fs v x n q j) h = let e : 555 ≡ 510 = spelled environment (codes "rules") rows (Judge tasks.Check g fs v x n q j) h in omega (arith, e)
+  not_ruled none (Judge tasks.Check g fs s n q j) h = let e : 555 ≡ 510 = spelled environment (codes "rules") rows (Judge tasks.Check g fs s n q j) h in omega (arith, e)
   not_ruled none c h = let e : 555 ≡ sum_of c = spelled environment (codes "rules") rows c h in omega (arith, e)
 
 task_is_of_files : (task : Task) → IsOfFiles (task_name task)
 task_is_of_files tasks.Check = (λ e. let s : 510 ≡ 555 = ap sum e in omega (arith, s), λ e. let s : 510 ≡ 743 = ap sum e in omega (arith, s))
 task_is_of_files (tasks.Explain full) = (λ e. let s : 753 ≡ 555 = ap sum e in omega (arith, s), λ e. let s : 753 ≡ 743 = ap sum e in omega (arith, s))
 
+-- a task whose options ask of a version for what is none
+pub not_scoped_task : (environment : Option Text) (rows : List Row) (task : Task) → ((scope : Scope) → ¬ (IsScopeOf rows scope))
+    → IsNoCommand environment (Some (task_name task, rows))
+not_scoped_task environment rows tasks.Check none =
+    not_scoped environment (codes "check") rows none (λ e. let s : 510 ≡ 321 = ap sum e in omega (arith, s)) (task_is_of_files tasks.Check).0 (task_is_of_files tasks.Check).1
+not_scoped_task environment rows (tasks.Explain full) none =
+    not_scoped environment (codes "explain") rows none (λ e. let s : 753 ≡ 321 = ap sum e in omega (arith, s)) (task_is_of_files (tasks.Explain full)).0 (task_is_of_files (tasks.Explain full)).1
+
+-- the same of a command on one file, by the letters of its name
+pub not_scoped_name : (environment : Option Text) (name : Text) (rows : List Row) → ¬ (sum name ≡ 321) → ¬ (sum name ≡ 555) → ¬ (sum name ≡ 743)
+    → ((scope : Scope) → ¬ (IsScopeOf rows scope)) → IsNoCommand environment (Some (name, rows))
+not_scoped_name environment name rows asm rules grammar none =
+    not_scoped environment name rows none (λ e. asm (ap sum e)) (λ e. rules (ap sum e)) (λ e. grammar (ap sum e))
+
 -- a task on its files
-pub judge_met : (environment : Option Text) (rows : List Row) (task : Task) (g : Option Text) (all items : List (Bor Text)) (v x : Bool) (n : Naming) (q j : Bool)
+pub judge_met : (environment : Option Text) (rows : List Row) (task : Task) (g : Option Text) (all items : List (Bor Text)) (s : Scope) (n : Naming) (q j : Bool)
     → IsAsked environment (Some (task_name task, rows)) (task_name task) g (map (λ f. f.now) all) → items ≡ all
     → IsTrue true ↔ ((1 ≤ length all) × (inputs_among (map (λ f. f.now) all) ≤ 1))
     → IsDetailed (first_of (codes "full") rows) task
-    → IsFlag (first_of (codes "as-1.6") rows) v
-    → IsFlag (first_of (codes "extended") rows) x
+    → IsScopeOf rows s
     → IsNaming (first_of (codes "with-filename") rows) (first_of (codes "no-filename") rows) n
     → IsFlag (first_of (codes "quiet") rows) q
     → IsFlag (first_of (codes "json") rows) j
-    → IsJudge environment (Some (task_name task, rows)) task g (map (λ f. f.now) items) v x n q j
-judge_met environment rows task g all items v x n q j e i answer detail version extended names quiet json =
+    → IsJudge environment (Some (task_name task, rows)) task g (map (λ f. f.now) items) s n q j
+judge_met environment rows task g all items s n q j e i answer detail scope names quiet json =
     let count = length-map all (λ (f : Bor Text). f.now) in
     let long = (answer.0 refl).0 in
     rw i (record {
@@ -239,8 +266,7 @@ judge_met environment rows task g all items v x n q j e i answer detail version 
       detail = detail;
       some = omega (arith, count, long);
       once = (answer.0 refl).1;
-      version = version;
-      extended_is = extended;
+      scope_is = scope;
       names = names;
       quiet_is = quiet;
       json_is = json;
@@ -257,12 +283,12 @@ no_command_met environment found e = subst (λ (o : Option (Text × List Row)). 
     unnamed : IsNoCommand environment None
     unnamed (Rules code j) h = let a = h.asked in cc
     unnamed (Grammar f) h = let a = h.0 in cc
-    unnamed (Judge task g fs v x n q j) h = let a = h.asked in cc
-    unnamed (Show g f v) h = let a = h.0 in cc
-    unnamed (Annotate g f v function form color) h = let a = h.asked in cc
-    unnamed (Graph g f v function) h = let a = h.asked in cc
-    unnamed (Asm g f out big explain) h = let a = h.0 in cc
-    unnamed (Trace g f function choices limit v x) h = let a = h.asked in cc
+    unnamed (Judge task g fs s n q j) h = let a = h.asked in cc
+    unnamed (Show g f s) h = let a = h.0 in cc
+    unnamed (Annotate g f s function form color) h = let a = h.asked in cc
+    unnamed (Graph g f s function) h = let a = h.asked in cc
+    unnamed (Asm g f out big explain o) h = let a = h.0 in cc
+    unnamed (Trace g f function choices limit s) h = let a = h.asked in cc
 
 -- what stands behind a name, by the name and its rows
 pub given_for : (found : Option (Text × List Row)) (name m : Text) (rows : List Row) (r : Result Command UseError) (environment : Option Text)
@@ -327,6 +353,19 @@ naming_read true true on off o e x y = rw e unnamed
     unnamed OfSeveral h = h.0 (x.0 refl)
     unnamed Always h = h.1 (y.0 refl)
     unnamed Never h = h.0 (x.0 refl)
+
+-- as which version a module is read, and how far it is looked at, by three flags
+pub scope_read : (a b c : Bool) (newest extended opencl : Option Text) (o : Option Scope) → o ≡ scope_of a b c → IsFlag newest a → IsFlag extended b → IsFlag opencl c
+    → MatchOption o ((scope : Scope) → ¬ (IsScope newest extended opencl scope)) (λ scope. IsScope newest extended opencl scope)
+scope_read true b true newest extended opencl o e x y z = rw e none
+  where
+    none : (scope : Scope) → ¬ (IsScope newest extended opencl scope)
+    none (Own as_1_6) h = h.2 (z.0 refl)
+    none (Extended as_1_6) h = h.2 (z.0 refl)
+    none OpenCl h = h.0 (x.0 refl)
+scope_read false b true newest extended opencl o e x y z = rw e (λ q. never (x.1 q), z.0 refl)
+scope_read a true false newest extended opencl o e x y z = rw e (x, y.0 refl, λ q. never (z.1 q))
+scope_read a false false newest extended opencl o e x y z = rw e (x, λ q. never (y.1 q), λ q. never (z.1 q))
 
 -- what an option is as a number
 pub number_read : (r : Option (Bor Text)) (read text : Option Text) (s : Bor Text) (o : Option ℕ) → option_map (λ b. b.now) r ≡ read → read ≡ text → r ≡ Some s

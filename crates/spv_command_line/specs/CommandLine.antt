@@ -31,6 +31,8 @@ use Rattle.spv_rules.specs.Rules.{IsNamed}
 use Rattle.spv_rules.specs.declared.errors.AnyCode.{AnyCode}
 use Rattle.spv_command_line.specs.Number.{AreNumbersOf, IsChoiceIfAny, IsChoiceOf, IsNumberOf}
 use Rattle.spv_names.specs.declared.chosen.Chosen.{Chosen}
+use Rattle.spv_scope.specs.declared.scope.Scope.{Scope}
+use Rattle.spv_scope.specs.declared.scope.Scope.TheVariants.{Own, Extended, OpenCl}
 
 -- an option with a value, which may be given
 abbrev pub option : Text → Rule
@@ -55,7 +57,7 @@ file_word = must (word (codes "file"))
 abbrev pub files_word : Rule
 files_word = record file_word { range = Some (record { start_inclusive = 1; end_inclusive = usize_max }) }
 
--- `--grammar G`, `--as-1.6`, `--extended`, `--json` and `--verbose`
+-- `--grammar G`, `--as-1.6`, `--extended`, `--opencl`, `--json` and `--verbose`
 abbrev pub grammar_option : Rule
 grammar_option = option (codes "grammar")
 
@@ -64,6 +66,9 @@ as_1_6_flag = flag (codes "as-1.6")
 
 abbrev pub extended_flag : Rule
 extended_flag = flag (codes "extended")
+
+abbrev pub opencl_flag : Rule
+opencl_flag = flag (codes "opencl")
 
 abbrev pub json_flag : Rule
 json_flag = flag (codes "json")
@@ -79,11 +84,11 @@ with_filename_flag = record (flag (codes "with-filename")) { short = Some 72 }
 abbrev pub command : Text → List Rule → Shape
 command name rules = (fold with_rule (new_app name) rules).top
 
--- `[--as-1.6] [--extended] [--with-filename] [--no-filename] [--quiet] [--json] [--verbose]`
+-- `[--as-1.6] [--extended] [--opencl] [--with-filename] [--no-filename] [--quiet] [--json] [--verbose]`
 abbrev pub judging_flags : List Rule
 judging_flags =
-    as_1_6_flag ∷ extended_flag ∷ with_filename_flag ∷ flag (codes "no-filename") ∷ flag (codes "quiet") ∷ json_flag
-    ∷ verbose_flag ∷ []
+    as_1_6_flag ∷ extended_flag ∷ opencl_flag ∷ with_filename_flag ∷ flag (codes "no-filename") ∷ flag (codes "quiet")
+    ∷ json_flag ∷ verbose_flag ∷ []
 
 -- `check [--grammar G] FILE ..` with these flags
 abbrev pub check_command : Shape
@@ -93,32 +98,33 @@ check_command = command (codes "check") (grammar_option ∷ files_word ∷ judgi
 abbrev pub explain_command : Shape
 explain_command = command (codes "explain") (grammar_option ∷ files_word ∷ flag (codes "full") ∷ judging_flags)
 
--- `show [--grammar G] FILE [--as-1.6] [--verbose]`
+-- `show [--grammar G] FILE [--as-1.6] [--opencl] [--verbose]`
 abbrev pub show_command : Shape
-show_command = command (codes "show") (grammar_option ∷ file_word ∷ as_1_6_flag ∷ verbose_flag ∷ [])
+show_command = command (codes "show") (grammar_option ∷ file_word ∷ as_1_6_flag ∷ opencl_flag ∷ verbose_flag ∷ [])
 
--- `annotate [--grammar G] FILE [--function FUNCTION] [--html] [--color WHEN] [--as-1.6] [--verbose]`
+-- `annotate [--grammar G] FILE [--function FUNCTION] [--html] [--color WHEN] [--as-1.6] [--opencl] [--verbose]`
 abbrev pub annotate_command : Shape
 annotate_command = command (codes "annotate")
     (grammar_option ∷ file_word ∷ option (codes "function") ∷ flag (codes "html") ∷ option (codes "color")
-    ∷ as_1_6_flag ∷ verbose_flag ∷ [])
+    ∷ as_1_6_flag ∷ opencl_flag ∷ verbose_flag ∷ [])
 
--- `graph [--grammar G] FILE [--function FUNCTION] [--as-1.6] [--verbose]`
+-- `graph [--grammar G] FILE [--function FUNCTION] [--as-1.6] [--opencl] [--verbose]`
 abbrev pub graph_command : Shape
 graph_command = command (codes "graph")
-    (grammar_option ∷ file_word ∷ option (codes "function") ∷ as_1_6_flag ∷ verbose_flag ∷ [])
+    (grammar_option ∷ file_word ∷ option (codes "function") ∷ as_1_6_flag ∷ opencl_flag ∷ verbose_flag ∷ [])
 
--- `trace [--grammar G] FILE --function FUNCTION [--choices LIST] --limit N [--as-1.6] [--extended] [--verbose]`
+-- `trace [--grammar G] FILE --function FUNCTION [--choices LIST] --limit N [--as-1.6] [--extended] [--opencl]
+-- [--verbose]`
 abbrev pub trace_command : Shape
 trace_command = command (codes "trace")
     (grammar_option ∷ file_word ∷ must (option (codes "function")) ∷ option (codes "choices")
-    ∷ must (option (codes "limit")) ∷ as_1_6_flag ∷ extended_flag ∷ verbose_flag ∷ [])
+    ∷ must (option (codes "limit")) ∷ as_1_6_flag ∷ extended_flag ∷ opencl_flag ∷ verbose_flag ∷ [])
 
--- `asm [--grammar G] FILE --out OUT [--big] [--explain] [--verbose]`
+-- `asm [--grammar G] FILE --out OUT [--big] [--explain] [--opencl] [--verbose]`
 abbrev pub asm_command : Shape
 asm_command = command (codes "asm")
     (grammar_option ∷ file_word ∷ must (option (codes "out")) ∷ flag (codes "big") ∷ flag (codes "explain")
-    ∷ verbose_flag ∷ [])
+    ∷ opencl_flag ∷ verbose_flag ∷ [])
 
 -- `rules [CODE] [--json] [--verbose]`
 abbrev pub rules_command : Shape
@@ -168,15 +174,32 @@ IsNaming on off OfSeveral = (on ≢ Some (codes "true")) × (off ≢ Some (codes
 IsNaming on off Always = (on ≡ Some (codes "true")) × (off ≢ Some (codes "true"))
 IsNaming on off Never = (on ≢ Some (codes "true")) × (off ≡ Some (codes "true"))
 
+-- The texts of `--as-1.6`, `--extended` and `--opencl` ask for this: as which version a module is read, and how far it
+-- is looked at. OpenCL looks at what `--extended` does, and does not go with `--as-1.6`.
+abbrev pub IsScope : Option Text → Option Text → Option Text → Scope → Type 0
+IsScope newest extended opencl (Own as_1_6) =
+    IsFlag newest as_1_6 × (extended ≢ Some (codes "true")) × (opencl ≢ Some (codes "true"))
+IsScope newest extended opencl (Extended as_1_6) =
+    IsFlag newest as_1_6 × (extended ≡ Some (codes "true")) × (opencl ≢ Some (codes "true"))
+IsScope newest extended opencl OpenCl = (newest ≢ Some (codes "true")) × (opencl ≡ Some (codes "true"))
+
+-- The same of the options that were read.
+abbrev pub IsScopeOf : List Row → Scope → Type 0
+IsScopeOf rows scope =
+    IsScope (first_of (codes "as-1.6") rows) (first_of (codes "extended") rows) (first_of (codes "opencl") rows) scope
+
+abbrev pub IsScopeIn : Option (Text × List Row) → Scope → Type 0
+IsScopeIn None scope = ⊥
+IsScopeIn (Some (name, rows)) scope = IsScopeOf rows scope
+
 -- they are `trace` of one file, with the function and the numbers that its options are
 pub record IsTrace (environment : Option Text) (found : Option (Text × List Row)) (grammar : Option Text) (file : Text)
-    (function : Chosen) (choices : List ℕ) (limit : ℕ) (as_1_6 extended : Bool) : Type 0 where
+    (function : Chosen) (choices : List ℕ) (limit : ℕ) (scope : Scope) : Type 0 where
   pub asked : IsAsked environment found (codes "trace") grammar (file ∷ [])
   pub function_is : IsChoiceOf (text_in (codes "function") found) function
   pub choices_are : AreNumbersOf (text_in (codes "choices") found) choices
   pub limit_is : IsNumberOf (text_in (codes "limit") found) limit
-  pub version : IsFlag (text_in (codes "as-1.6") found) as_1_6
-  pub extended_is : IsFlag (text_in (codes "extended") found) extended
+  pub scope_is : IsScopeIn found scope
 
 -- the text of the word is the name of the code, in capital or small letters, or there are neither
 abbrev pub IsCodeOf : Option Text → Option AnyCode → Type 0
@@ -208,18 +231,18 @@ IsColor (Some text) color = text ≡ color_word color
 
 -- they are `annotate` of one file, of the whole module or of that function
 pub record IsAnnotate (environment : Option Text) (found : Option (Text × List Row)) (grammar : Option Text)
-    (file : Text) (as_1_6 : Bool) (function : Option Chosen) (form : Form) (color : Color) : Type 0 where
+    (file : Text) (scope : Scope) (function : Option Chosen) (form : Form) (color : Color) : Type 0 where
   pub asked : IsAsked environment found (codes "annotate") grammar (file ∷ [])
-  pub version : IsFlag (text_in (codes "as-1.6") found) as_1_6
+  pub scope_is : IsScopeIn found scope
   pub function_is : IsChoiceIfAny (text_in (codes "function") found) function
   pub form_is : IsForm (text_in (codes "html") found) form
   pub color_is : IsColor (text_in (codes "color") found) color
 
 -- they are `graph` of one file, of the calls or of that function
 pub record IsGraph (environment : Option Text) (found : Option (Text × List Row)) (grammar : Option Text)
-    (file : Text) (as_1_6 : Bool) (function : Option Chosen) : Type 0 where
+    (file : Text) (scope : Scope) (function : Option Chosen) : Type 0 where
   pub asked : IsAsked environment found (codes "graph") grammar (file ∷ [])
-  pub version : IsFlag (text_in (codes "as-1.6") found) as_1_6
+  pub scope_is : IsScopeIn found scope
   pub function_is : IsChoiceIfAny (text_in (codes "function") found) function
 
 -- the command that does a task
@@ -242,14 +265,12 @@ inputs_among files = count_of (codes "-") files
 
 -- they are a task on one file or more, of which at most one is the standard input
 pub record IsJudge (environment : Option Text) (found : Option (Text × List Row)) (task : Task)
-    (grammar : Option Text) (files : List Text) (as_1_6 extended : Bool) (naming : Naming)
-    (quiet json : Bool) : Type 0 where
+    (grammar : Option Text) (files : List Text) (scope : Scope) (naming : Naming) (quiet json : Bool) : Type 0 where
   pub asked : IsAsked environment found (task_name task) grammar files
   pub detail : IsDetailed (text_in (codes "full") found) task
   pub some : 1 ≤ length files
   pub once : inputs_among files ≤ 1
-  pub version : IsFlag (text_in (codes "as-1.6") found) as_1_6
-  pub extended_is : IsFlag (text_in (codes "extended") found) extended
+  pub scope_is : IsScopeIn found scope
   pub names : IsNaming (text_in (codes "with-filename") found) (text_in (codes "no-filename") found) naming
   pub quiet_is : IsFlag (text_in (codes "quiet") found) quiet
   pub json_is : IsFlag (text_in (codes "json") found) json
@@ -260,22 +281,20 @@ path_of grammar = option_map (λ g. g.now) grammar
 
 -- they are a command with all of its texts; a flag that was read has the text `true`
 abbrev pub IsCommand : Option Text → Option (Text × List Row) → Command → Type 0
-IsCommand environment found (Judge task grammar files as_1_6 extended naming quiet json) =
-    IsJudge environment found task (path_of grammar) (map (λ file. file.now) files.items) as_1_6 extended naming quiet
-    json
-IsCommand environment found (Show grammar file as_1_6) =
-    IsAsked environment found (codes "show") (path_of grammar) (file.now ∷ [])
-    × IsFlag (text_in (codes "as-1.6") found) as_1_6
-IsCommand environment found (Annotate grammar file as_1_6 function form color) =
-    IsAnnotate environment found (path_of grammar) file.now as_1_6 function form color
-IsCommand environment found (Graph grammar file as_1_6 function) =
-    IsGraph environment found (path_of grammar) file.now as_1_6 function
-IsCommand environment found (Asm grammar file out big explain) =
+IsCommand environment found (Judge task grammar files scope naming quiet json) =
+    IsJudge environment found task (path_of grammar) (map (λ file. file.now) files.items) scope naming quiet json
+IsCommand environment found (Show grammar file scope) =
+    IsAsked environment found (codes "show") (path_of grammar) (file.now ∷ []) × IsScopeIn found scope
+IsCommand environment found (Annotate grammar file scope function form color) =
+    IsAnnotate environment found (path_of grammar) file.now scope function form color
+IsCommand environment found (Graph grammar file scope function) =
+    IsGraph environment found (path_of grammar) file.now scope function
+IsCommand environment found (Asm grammar file out big explain opencl) =
     IsAsked environment found (codes "asm") (path_of grammar) (file.now ∷ [])
     × (text_in (codes "out") found ≡ Some out.now) × IsFlag (text_in (codes "big") found) big
-    × IsFlag (text_in (codes "explain") found) explain
-IsCommand environment found (Trace grammar file function choices limit as_1_6 extended) =
-    IsTrace environment found (path_of grammar) file.now function choices.items limit as_1_6 extended
+    × IsFlag (text_in (codes "explain") found) explain × IsFlag (text_in (codes "opencl") found) opencl
+IsCommand environment found (Trace grammar file function choices limit scope) =
+    IsTrace environment found (path_of grammar) file.now function choices.items limit scope
 IsCommand environment found (Rules code json) = IsRules found code json
 IsCommand environment found (Grammar file) =
     (name_in found ≡ Some (codes "grammar")) × (text_in (codes "file") found ≡ path_of file)

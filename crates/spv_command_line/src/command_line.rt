@@ -9,14 +9,15 @@ ghost use Rattle.spv_command_line.specs.CommandLine.{inputs_among, path_of, task
 ghost use Rattle.spv_command_line.specs.inner.CommandLine.{IsGiven, IsGivenFor, IsOfFiles};
 
 use crate::options::{
-    chosen_if_given, chosen_of, color_in, form_in, is_as_1_6, is_extended, is_set, naming_in,
-    number_of, numbers_of,
+    chosen_if_given, chosen_of, color_in, form_in, is_set, naming_in, number_of, numbers_of,
+    scope_in,
 };
 use crate::program::{all_words, words_for};
 use clap::ArgMatches;
 use clap::error::ErrorKind;
 use spv_names::Chosen;
 use spv_rules::AnyCode;
+use spv_scope::Scope;
 use std::alloc::{AllocError, Global};
 use thiserror::Error;
 
@@ -74,10 +75,8 @@ pub enum Command<'a> {
         grammar: Option<&'a str>,
         /// The paths of the modules: one or more, of which at most one is `-`, the standard input.
         files: Vec<&'a str>,
-        /// Whether a module of an earlier version is taken as one of 1.6.
-        as_1_6: bool,
-        /// Whether the operands of extended instructions are looked at too.
-        extended: bool,
+        /// As which version a module is read, and how far it is looked at.
+        scope: Scope,
         /// Which verdicts have the name of their file before them.
         naming: Naming,
         /// Whether no verdict is written, and the exit status alone tells it.
@@ -91,8 +90,8 @@ pub enum Command<'a> {
         grammar: Option<&'a str>,
         /// The path of the module.
         file: &'a str,
-        /// Whether a module of an earlier version is taken as one of 1.6.
-        as_1_6: bool,
+        /// As which version the module is read, and how far it is looked at: never as with `--extended`.
+        scope: Scope,
     },
     /// `spv annotate [--grammar G] FILE`: the text of a module for people, with comments.
     Annotate {
@@ -100,8 +99,8 @@ pub enum Command<'a> {
         grammar: Option<&'a str>,
         /// The path of the module.
         file: &'a str,
-        /// Whether a module of an earlier version is taken as one of 1.6.
-        as_1_6: bool,
+        /// As which version the module is read, and how far it is looked at: never as with `--extended`.
+        scope: Scope,
         /// The only function that is written, if it is only one.
         function: Option<Chosen<'a>>,
         /// What is written.
@@ -115,8 +114,8 @@ pub enum Command<'a> {
         grammar: Option<&'a str>,
         /// The path of the module.
         file: &'a str,
-        /// Whether a module of an earlier version is taken as one of 1.6.
-        as_1_6: bool,
+        /// As which version the module is read, and how far it is looked at: never as with `--extended`.
+        scope: Scope,
         /// The function whose blocks are drawn; without it the calls of the module are.
         function: Option<Chosen<'a>>,
     },
@@ -132,6 +131,8 @@ pub enum Command<'a> {
         big: bool,
         /// Whether the fault of a text is explained.
         explain: bool,
+        /// Whether a text may tell version 1.0 to 1.5 too, which the module then has: `--opencl`.
+        opencl: bool,
     },
     /// `spv trace [--grammar G] --function FUNCTION [--choices 0,1] --limit N FILE`: the run of an entry point's function.
     Trace {
@@ -146,10 +147,8 @@ pub enum Command<'a> {
         choices: Vec<u32>,
         /// The greatest number of steps; a step is one instruction that is executed.
         limit: u32,
-        /// Whether a module of an earlier version is taken as one of 1.6.
-        as_1_6: bool,
-        /// Whether the operands of extended instructions are looked at too.
-        extended: bool,
+        /// As which version a module is read, and how far it is looked at.
+        scope: Scope,
     },
     /// `spv rules [CODE]`: what each code says, or one of them. No file is read.
     Rules {
@@ -205,19 +204,25 @@ fn refusal(kind: ErrorKind) -> UseError
     }
 }
 
-/// The command `show` with the texts of these.
-fn show_in<'a>(found: &ArgMatches<'a>, grammar: Option<&'a str>, file: &'a str) -> Command<'a>
-    ensures { IsGivenFor (codes "show") (rows_of (found_of found.now)) (path_of grammar.entry) (file.now ∷ [])
-        (Ok result) }
+/// The command `show` with the texts of these, if its options go together.
+fn show_in<'a>(
+    found: &ArgMatches<'a>,
+    grammar: Option<&'a str>,
+    file: &'a str,
+) -> Result<Command<'a>, UseError>
+    ensures { IsGivenFor (codes "show") (rows_of (found_of found.now)) (path_of grammar.entry) (file.now ∷ []) result }
 {
-    Command::Show {
+    let Some(scope) = scope_in(found) else {
+        return Err(UseError::NoCommand);
+    };
+    Ok(Command::Show {
         grammar,
         file,
-        as_1_6: is_as_1_6(found),
-    }
+        scope,
+    })
 }
 
-/// The command `annotate` with the texts of these, if its own is a word for a use of colour.
+/// The command `annotate` with the texts of these, if its own is a word for a use of colour and its options go together.
 fn annotate_in<'a>(
     found: &ArgMatches<'a>,
     grammar: Option<&'a str>,
@@ -228,27 +233,36 @@ fn annotate_in<'a>(
 {
     let function = chosen_if_given(found, "function");
     let color = color_in(found)?;
+    let Some(scope) = scope_in(found) else {
+        return Err(UseError::NoCommand);
+    };
     Ok(Command::Annotate {
         grammar,
         file,
-        as_1_6: is_as_1_6(found),
+        scope,
         function,
         form: form_in(found),
         color,
     })
 }
 
-/// The command `graph` with the texts of these.
-fn graph_in<'a>(found: &ArgMatches<'a>, grammar: Option<&'a str>, file: &'a str) -> Command<'a>
-    ensures { IsGivenFor (codes "graph") (rows_of (found_of found.now)) (path_of grammar.entry) (file.now ∷ [])
-        (Ok result) }
+/// The command `graph` with the texts of these, if its options go together.
+fn graph_in<'a>(
+    found: &ArgMatches<'a>,
+    grammar: Option<&'a str>,
+    file: &'a str,
+) -> Result<Command<'a>, UseError>
+    ensures { IsGivenFor (codes "graph") (rows_of (found_of found.now)) (path_of grammar.entry) (file.now ∷ []) result }
 {
-    Command::Graph {
+    let Some(scope) = scope_in(found) else {
+        return Err(UseError::NoCommand);
+    };
+    Ok(Command::Graph {
         grammar,
         file,
-        as_1_6: is_as_1_6(found),
+        scope,
         function: chosen_if_given(found, "function"),
-    }
+    })
 }
 
 /// The command `asm` with the texts of these, if `clap` read its own too.
@@ -268,10 +282,11 @@ fn asm_in<'a>(
         out,
         big: is_set(found, "big"),
         explain: is_set(found, "explain"),
+        opencl: is_set(found, "opencl"),
     })
 }
 
-/// The command `trace` with the texts of these, if its own are numbers too.
+/// The command `trace` with the texts of these, if its own are numbers too and its options go together.
 fn trace_in<'a>(
     alloc: Global,
     found: &ArgMatches<'a>,
@@ -289,14 +304,16 @@ fn trace_in<'a>(
     let Some(choices) = numbers_of(alloc, found, "choices")? else {
         return Err(UseError::NoCommand);
     };
+    let Some(scope) = scope_in(found) else {
+        return Err(UseError::NoCommand);
+    };
     Ok(Command::Trace {
         grammar,
         file,
         function,
         choices,
         limit,
-        as_1_6: is_as_1_6(found),
-        extended: is_extended(found),
+        scope,
     })
 }
 
@@ -339,9 +356,9 @@ fn one_file_command<'a>(
     ensures { IsGivenFor name.now (rows_of (found_of found.now)) (path_of grammar.entry) (file.now ∷ []) result }
 {
     match name {
-        "show" => Ok(show_in(found, grammar, file)),
+        "show" => show_in(found, grammar, file),
         "annotate" => annotate_in(found, grammar, file),
-        "graph" => Ok(graph_in(found, grammar, file)),
+        "graph" => graph_in(found, grammar, file),
         "asm" => asm_in(found, grammar, file),
         "trace" => trace_in(alloc, found, grammar, file),
         _ => Err(UseError::NoCommand),
@@ -409,13 +426,15 @@ fn judge_command<'a>(
     let Some(naming) = naming_in(found) else {
         return Err(UseError::NoCommand);
     };
+    let Some(scope) = scope_in(found) else {
+        return Err(UseError::NoCommand);
+    };
     let files = Vec::from_slice(alloc, files)?;
     Ok(Command::Judge {
         task,
         grammar,
         files,
-        as_1_6: is_as_1_6(found),
-        extended: is_extended(found),
+        scope,
         naming,
         quiet: is_set(found, "quiet"),
         json: is_set(found, "json"),
@@ -509,9 +528,10 @@ pub fn arguments<'a>(alloc: Global, words: &'a [&'a str]) -> Result<Command<'a>,
 ///
 /// # Errors
 ///
-/// `NoCommand`: the words fit no command, an option is given twice, both `--with-filename` and `--no-filename` are, `-`
-/// is two of the files, or a code is unknown. `Memory`: a growth of memory was refused. `Help`: they ask for help, by
-/// `help`, `--help` or `-h`. `Version`: they ask for the version, by `--version` or `-V`.
+/// `NoCommand`: the words fit no command, an option is given twice, both `--with-filename` and `--no-filename` are or
+/// both `--as-1.6` and `--opencl`, `-` is two of the files, or a code is unknown. `Memory`: a growth of memory was
+/// refused. `Help`: they ask for help, by `help`, `--help` or `-h`. `Version`: they ask for the version, by `--version`
+/// or `-V`.
 pub fn arguments_in<'a>(
     alloc: Global,
     words: &'a [&'a str],

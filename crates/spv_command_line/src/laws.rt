@@ -4,11 +4,12 @@ ghost use Rattle.std.specs.Prelude.{true, false, codes, map, Vec};
 ghost use Rattle.std.specs.Borrow.{Bor};
 ghost use Rattle.std.specs.Global.{Global};
 ghost use Rattle.clap.specs.Words.{Text};
-ghost use Rattle.spv_command_line.specs.CommandLine.{AnswersTo, IsColor, IsDetailed, IsFlag, IsForm, IsNaming, count_of};
+ghost use Rattle.spv_command_line.specs.CommandLine.{AnswersTo, IsColor, IsDetailed, IsFlag, IsForm, IsNaming, IsScope};
+ghost use Rattle.spv_command_line.specs.CommandLine.{count_of};
 ghost use Rattle.spv_command_line.specs.declared.command_line.Color.{Color};
 ghost use Rattle.spv_command_line.specs.declared.command_line.Color.TheVariants as colors;
 ghost use Rattle.spv_command_line.specs.declared.command_line.Color.TheVariants.{Auto};
-ghost use Rattle.spv_command_line.specs.declared.command_line.Command.TheVariants.{Annotate, Graph, Judge, Rules};
+ghost use Rattle.spv_command_line.specs.declared.command_line.Command.TheVariants.{Annotate, Graph, Judge, Rules, Show};
 ghost use Rattle.spv_command_line.specs.declared.command_line.Form.TheVariants as forms;
 ghost use Rattle.spv_command_line.specs.declared.command_line.Form.TheVariants.{Page};
 ghost use Rattle.spv_command_line.specs.declared.command_line.UseError.TheVariants.{NoCommand};
@@ -17,6 +18,8 @@ ghost use Rattle.spv_command_line.specs.declared.command_line.Naming.TheVariants
 ghost use Rattle.spv_command_line.specs.declared.command_line.Task.TheVariants.{Check, Explain};
 ghost use Rattle.spv_command_line.specs.Number.{AreNumbers, IsChoice, IsChoiceIfAny, IsNumber};
 ghost use Rattle.spv_names.specs.declared.chosen.Chosen.TheVariants.{Id, Name};
+ghost use Rattle.spv_scope.specs.declared.scope.Scope.{Scope};
+ghost use Rattle.spv_scope.specs.declared.scope.Scope.TheVariants.{Own, Extended, OpenCl};
 
 /// Worked examples of numbers of the command line.
 pub fn number_examples()
@@ -56,6 +59,11 @@ pub fn option_examples()
     ensures color { IsColor (Some (codes "never")) colors.Never }
     ensures no_color { (color : Color) → ¬ (IsColor (Some (codes "sometimes")) color) }
     ensures auto_color { IsColor None Auto }
+    // OpenCL takes in what `--extended` asks for, and says another thing of a version than `--as-1.6`.
+    ensures scope { IsScope None (Some (codes "true")) (Some (codes "true")) OpenCl }
+    ensures no_scope { (scope : Scope) → ¬ (IsScope (Some (codes "true")) None (Some (codes "true")) scope) }
+    ensures extended_scope { IsScope (Some (codes "true")) (Some (codes "true")) None (Extended true) }
+    ensures own_scope { ¬ (IsScope None (Some (codes "true")) None (Own false)) }
     // One of two words.
     ensures count { count_of (codes "-") (codes "-" ∷ codes "a" ∷ []) ≡ 1 }
     ensures no_count { ¬ (count_of (codes "-") (codes "--" ∷ []) ≡ 1) }
@@ -68,18 +76,23 @@ pub fn line_examples()
     // The graph of one function.
     ensures graph { (file : Bor Text) → file.now ≡ codes "a.spv"
         → AnswersTo (codes "graph" ∷ codes "--function" ∷ codes "4" ∷ codes "a.spv" ∷ [])
-        (Ok (Graph None file false (Some (Id 4)))) }
+        (Ok (Graph None file (Own false) (Some (Id 4)))) }
     // A word for a use of colour, and what is none.
     ensures annotate { (file : Bor Text) → file.now ≡ codes "a.spv"
         → AnswersTo (codes "annotate" ∷ codes "a.spv" ∷ codes "--color=never" ∷ [])
-        (Ok (Annotate None file false None forms.Text colors.Never)) }
+        (Ok (Annotate None file (Own false) None forms.Text colors.Never)) }
     ensures no_color { AnswersTo (codes "annotate" ∷ codes "a.spv" ∷ codes "--color=red" ∷ []) (Err NoCommand) }
     // The operands of extended instructions are looked at where that is asked for, and else not.
     ensures extended { (files : Vec (Bor Text) Global) → map (λ file. file.now) files.items ≡ codes "a.spv" ∷ []
         → AnswersTo (codes "check" ∷ codes "--extended" ∷ codes "a.spv" ∷ [])
-        (Ok (Judge Check None files false true OfSeveral false false)) }
+        (Ok (Judge Check None files (Extended false) OfSeveral false false)) }
     ensures not_extended { (files : Vec (Bor Text) Global) → ¬ (AnswersTo (codes "check" ∷ codes "a.spv" ∷ [])
-        (Ok (Judge Check None files false true OfSeveral false false))) }
+        (Ok (Judge Check None files (Extended false) OfSeveral false false))) }
+    // What OpenCL asks for does not go with `--as-1.6`.
+    ensures opencl { (file : Bor Text) → file.now ≡ codes "a.spv"
+        → AnswersTo (codes "show" ∷ codes "--opencl" ∷ codes "a.spv" ∷ []) (Ok (Show None file OpenCl)) }
+    ensures not_both { AnswersTo (codes "show" ∷ codes "--opencl" ∷ codes "--as-1.6" ∷ codes "a.spv" ∷ [])
+        (Err NoCommand) }
     // `show` writes no object.
     ensures no_object { AnswersTo (codes "show" ∷ codes "a.spv" ∷ codes "--json" ∷ []) (Err NoCommand) }
 {}

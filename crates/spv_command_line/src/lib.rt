@@ -15,3 +15,4 @@ pub use command_line::{
 };
 pub use misfit::{advice, shown_word};
 pub use spv_rules::{AnyCode, Code, ErrorCode};
+pub use spv_scope::Scope;

@@ -18,6 +18,19 @@ pub const EXTENDED: &str =
     "Looks at the operands of extended instructions too, for loaders: `valid` then says that their ids are defined, \
     and that OpenCL.std has the instructions that are called";
 
+/// Of `--opencl`.
+pub const OPENCL: &str =
+    "Takes what a kernel of OpenCL can be, of version 1.0 to 1.6, each as it is: instructions that the profile has not, \
+    and what --extended looks at; not with --as-1.6";
+
+/// Of `--opencl` of `show`.
+pub const SHOWN_OPENCL: &str =
+    "Takes a module of version 1.0 to 1.6, each as it is: the text tells its version; not with --as-1.6";
+
+/// Of `--opencl` of `asm`.
+pub const OPENCL_TEXT: &str =
+    "Takes a text that tells version 1.0 to 1.5 too: the module then has that version";
+
 /// Of the only function that `annotate` writes.
 pub const ONLY_FUNCTION: &str =
     "The only function that is written: its id, or else its name, by OpName or that of its entry point";
@@ -50,7 +63,7 @@ Exit status:
   2  an error: a line on the standard error tells it
 
 Example:
-  spv check kernel.spv";
+  spv check --opencl kernel.spv";
 
 /// After the options of `check`.
 pub const CHECK: &str =
@@ -65,7 +78,7 @@ Exit status:
   2  an error: a line on the standard error tells it
 
 Example:
-  spv check first.spv second.spv";
+  spv check --opencl first.spv second.spv";
 
 /// After the options of `explain`.
 pub const EXPLAIN: &str =

@@ -19,12 +19,16 @@ fn own_reason(matches: &ArgMatches<'_>) -> &'static str {
     };
     match name {
         "check" | "explain" => {
-            "`-` may be one FILE only, and --with-filename and --no-filename do not go together"
+            "`-` may be one FILE only, and neither --with-filename and --no-filename nor --as-1.6 and --opencl go together"
         }
         "trace" => {
-            "N and those in LIST are decimal numbers below 4294967296, with a comma between two in LIST"
+            "N and those in LIST are decimal numbers below 4294967296, with a comma between two in LIST, and --as-1.6 and \
+            --opencl do not go together"
         }
-        "annotate" => { "WHEN is `auto`, `always` or `never`" }
+        "annotate" => {
+            "WHEN is `auto`, `always` or `never`, and --as-1.6 and --opencl do not go together"
+        }
+        "show" | "graph" => "--as-1.6 and --opencl do not go together",
         "asm" => "OUT is FILE itself",
         "rules" => "no code has this name; `spv rules` writes all of them",
         _ => "the words fit no command",

@@ -4,15 +4,17 @@ ghost use Rattle.clap.specs.Words.{first_of, found_of, rows_of};
 ghost use Rattle.spv_command_line.specs.declared.command_line.Color.{Color};
 ghost use Rattle.spv_command_line.specs.declared.command_line.Naming.{Naming};
 ghost use Rattle.spv_command_line.specs.declared.command_line.UseError.TheVariants.{NoCommand};
-ghost use Rattle.spv_command_line.specs.CommandLine.{IsColor, IsFlag, IsForm, IsNaming, color_word};
-ghost use Rattle.spv_command_line.specs.inner.CommandLine.{form_of, naming_of};
+ghost use Rattle.spv_command_line.specs.CommandLine.{IsColor, IsFlag, IsForm, IsNaming, IsScopeOf, color_word};
+ghost use Rattle.spv_command_line.specs.inner.CommandLine.{form_of, naming_of, scope_of};
 ghost use Rattle.spv_command_line.specs.Number.{AreNumbersOf, IsChoice, IsChoiceIfAny, IsChoiceOf, IsNumberOf};
 ghost use Rattle.spv_names.specs.declared.chosen.Chosen.{Chosen};
+ghost use Rattle.spv_scope.specs.declared.scope.Scope.{Scope};
 
 use crate::command_line::{Color, Form, Naming, UseError};
 use crate::number::{number_in, numbers_in};
 use clap::ArgMatches;
 use spv_names::Chosen;
+use spv_scope::Scope;
 use std::alloc::{AllocError, Global};
 
 /// Whether a text is that of a flag that is set.
@@ -35,18 +37,27 @@ pub fn is_set(found: &ArgMatches<'_>, flag: &str) -> bool
     }
 }
 
-/// Whether a module of an earlier version is taken as one of 1.6.
-pub fn is_as_1_6(found: &ArgMatches<'_>) -> bool
-    ensures { IsFlag (first_of (codes "as-1.6") (rows_of (found_of found.now))) result }
+/// As which version a module is read, and how far it is looked at, by the options for it. None where those are given
+/// that say different things of a version.
+fn scope_by(as_1_6: bool, extended: bool, opencl: bool) -> Option<Scope>
+    ensures { result ≡ scope_of as_1_6 extended opencl }
 {
-    is_set(found, "as-1.6")
+    match (opencl, extended) {
+        (true, _) => { if as_1_6 { None } else { Some(Scope::OpenCl) } }
+        (false, true) => Some(Scope::Extended { as_1_6 }),
+        (false, false) => Some(Scope::Own { as_1_6 }),
+    }
 }
 
-/// Whether the operands of extended instructions are looked at too.
-pub fn is_extended(found: &ArgMatches<'_>) -> bool
-    ensures { IsFlag (first_of (codes "extended") (rows_of (found_of found.now))) result }
+/// As which version a module is read, and how far it is looked at, by what `clap` read.
+pub fn scope_in(found: &ArgMatches<'_>) -> Option<Scope>
+    ensures { MatchOption result ((scope : Scope) → ¬ (IsScopeOf (rows_of (found_of found.now)) scope))
+        (λ scope. IsScopeOf (rows_of (found_of found.now)) scope) }
 {
-    is_set(found, "extended")
+    let as_1_6 = is_set(found, "as-1.6");
+    let extended = is_set(found, "extended");
+    let opencl = is_set(found, "opencl");
+    scope_by(as_1_6, extended, opencl)
 }
 
 /// Which verdicts have names by the options that ask for it and against it. None where both do.

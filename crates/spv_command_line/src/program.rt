@@ -62,6 +62,30 @@ const EXTENDED: Argument = Argument {
     help: manual::EXTENDED,
 };
 
+const OPENCL: Argument = Argument {
+    name: "opencl",
+    form: Form::Flag,
+    value: "",
+    required: false,
+    help: manual::OPENCL,
+};
+
+const OPENCL_TEXT: Argument = Argument {
+    name: "opencl",
+    form: Form::Flag,
+    value: "",
+    required: false,
+    help: manual::OPENCL_TEXT,
+};
+
+const SHOWN_OPENCL: Argument = Argument {
+    name: "opencl",
+    form: Form::Flag,
+    value: "",
+    required: false,
+    help: manual::SHOWN_OPENCL,
+};
+
 const WITH_FILENAME: Argument = Argument {
     name: "with-filename",
     form: Form::Lettered('H'),
@@ -255,6 +279,7 @@ const CHECK: &[Argument] = &[
     MODULES,
     AS_1_6,
     EXTENDED,
+    OPENCL,
     WITH_FILENAME,
     NO_FILENAME,
     QUIET,
@@ -269,6 +294,7 @@ const EXPLAIN: &[Argument] = &[
     FULL,
     AS_1_6,
     EXTENDED,
+    OPENCL,
     WITH_FILENAME,
     NO_FILENAME,
     QUIET,
@@ -298,26 +324,35 @@ static SHOWING: [Entry; 4] = [
         name: "show",
         about: "Writes the text of a module",
         notes: manual::SHOW,
-        arguments: &[GRAMMAR, MODULE, AS_1_6, VERBOSE],
+        arguments: &[GRAMMAR, MODULE, AS_1_6, SHOWN_OPENCL, VERBOSE],
     },
     Entry {
         name: "annotate",
         about: "Writes the text of a module for people, with comments",
         notes: manual::ANNOTATE,
-        arguments: &[GRAMMAR, MODULE, ONLY_FUNCTION, HTML, COLOR, AS_1_6, VERBOSE],
+        arguments: &[
+            GRAMMAR,
+            MODULE,
+            ONLY_FUNCTION,
+            HTML,
+            COLOR,
+            AS_1_6,
+            OPENCL,
+            VERBOSE,
+        ],
     },
     Entry {
         name: "graph",
         about: "Draws the calls of a module, or the blocks of a function, in DOT",
         notes: manual::GRAPH,
-        arguments: &[GRAMMAR, MODULE, DRAWN_FUNCTION, AS_1_6, VERBOSE],
+        arguments: &[GRAMMAR, MODULE, DRAWN_FUNCTION, AS_1_6, OPENCL, VERBOSE],
     },
     Entry {
         name: "trace",
         about: "Writes the run of an entry point's function",
         notes: manual::TRACE,
         arguments: &[
-            GRAMMAR, MODULE, FUNCTION, CHOICES, LIMIT, AS_1_6, EXTENDED, VERBOSE,
+            GRAMMAR, MODULE, FUNCTION, CHOICES, LIMIT, AS_1_6, EXTENDED, OPENCL, VERBOSE,
         ],
     },
 ];
@@ -328,7 +363,7 @@ static OTHERS: [Entry; 3] = [
         name: "asm",
         about: "Makes the module of a text",
         notes: manual::ASM,
-        arguments: &[GRAMMAR, TEXT, OUT, BIG, EXPLAINED, VERBOSE],
+        arguments: &[GRAMMAR, TEXT, OUT, BIG, EXPLAINED, OPENCL_TEXT, VERBOSE],
     },
     Entry {
         name: "rules",

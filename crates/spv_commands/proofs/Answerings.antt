@@ -1,6 +1,7 @@
 -- What a command answers of what its file gave.
 use Rattle.std.proofs.Common.{◌≡◌, ◌≢◌, ◌⊎◌, ◌↔◌, ◌*◌, ◌++◌, length, ℕ, List, [], Bool, true, false, Option, Some, None}
-use Rattle.std.proofs.Common.{Result, Ok, Err, IfOk, IfErr, IsTrue, option_map, refl, arith, inl, inr}
+use Rattle.std.proofs.Common.{Result, Ok, Err, IfOk, IfErr, IsTrue, ap, sym, take, refl, arith, inl, inr, ◌∙◌}
+use Rattle.std.proofs.lemmas.List.{take_all}
 use Rattle.std.specs.Prelude.{string_bytes}
 use Rattle.spv_words.specs.Header.{IsFirstBroken, IsModule}
 use Rattle.spv_words.specs.declared.words.Order.{Order}
@@ -32,22 +33,25 @@ use Rattle.spv_command_line.specs.declared.command_line.Command.TheVariants.{Jud
 use Rattle.spv_command_line.specs.declared.command_line.Command.TheVariants.{Grammar as GrammarOf, Annotate, Graph}
 use Rattle.spv_command_line.specs.declared.command_line.Task.TheVariants as tasks
 use Rattle.spv_words.specs.Streams.{HoldsBytes}
-use Rattle.spv_commands.specs.Assemble.{Assembles, IsFaultOf, IsImageOf}
+use Rattle.spv_commands.specs.Assemble.{Assembles, HoldsModule, IsFaultOf, IsImageOf, in_version, minor_asked, text_read}
 use Rattle.spv_commands.specs.Output.{is_done, made_of, out_of, status_of, written_err, written_made, written_out}
 use Rattle.spv_commands.specs.Show.{IsShowing, Shows}
-use Rattle.spv_commands.specs.Task.{IsAmbiguous, IsNoText, LacksAsked, LacksEntry, WritesRules, detail_of, reach_of}
-use Rattle.spv_commands.specs.Task.{taken_by, view_of}
+use Rattle.spv_commands.specs.Task.{IsAmbiguous, IsNoText, LacksAsked, LacksEntry, WritesRules, detail_of}
+use Rattle.spv_commands.specs.Task.{view_of}
+use Rattle.spv_scope.specs.Scope.{reach_of, taken}
+use Rattle.spv_scope.proofs.Lengths.{length_with_minor, long_taken}
+use Rattle.spv_commands.proofs.Carried.{held_by}
 use Rattle.spv_commands.specs.Trace.{IsTracing, Traces}
-use Rattle.spv_commands.specs.Trouble.{grammar_text, trouble_text, unread_trouble}
+use Rattle.spv_commands.specs.Trouble.{file_trouble, grammar_text, trouble_text}
 use Rattle.spv_commands.specs.inner.Answered.{Gives, IsAnswerBy, IsUnreadAnswer, WhyNot}
 use Rattle.spv_commands.specs.inner.Asked.{is_explaining, reads_of}
 use Rattle.spv_commands.specs.declared.asked.Reads.TheVariants.{Module, Nothing, Text}
 use Rattle.spv_commands.specs.declared.replying.Reply.{Reply}
 use Rattle.spv_commands.specs.declared.replying.Reply.TheVariants.{Done, Fault, Made}
-use Rattle.spv_explain.specs.declared.answers.Unread.{Unread}
-use Rattle.spv_explain.specs.declared.answers.Unread.TheVariants as why
 use Rattle.spv_commands.specs.declared.trouble.Trouble.{Trouble}
-use Rattle.spv_commands.specs.declared.trouble.Trouble.TheVariants.{Memory, NoEntry, NoFunction, NotText, SeveralFunctions}
+use Rattle.spv_commands.specs.declared.trouble.Trouble.TheVariants.{File, Memory, NoEntry, NoFunction, NotText}
+use Rattle.spv_commands.specs.declared.trouble.Trouble.TheVariants.{SeveralFunctions, Use}
+use Rattle.spv_commands.specs.declared.trouble.Trouble.TheVariants.{Grammar as Refused}
 
 -- what a writer that held nothing gets
 pub gives : (Whole : List ℕ → List ℕ → Option (List ℕ) → Bool → Type 0) (bytes line : List ℕ) (answer : Bool)
@@ -101,9 +105,9 @@ explains d G reach bytes e a h o m t = (
 )
 
 -- what is shown, traced and viewed
-pub shows_it : (G : Table) (bytes output : List ℕ) (answer : Bool) → IsShowing G bytes output answer
-    → Shows G bytes [] (Some output) answer
-shows_it G bytes output answer h = record { output = output; showing = h; written = refl }
+pub shows_it : (G : Table) (reach : Reach) (bytes output : List ℕ) (answer : Bool) → IsShowing G reach bytes output answer
+    → Shows G reach bytes [] (Some output) answer
+shows_it G reach bytes output answer h = record { output = output; showing = h; written = refl }
 
 pub traces_it : (G : Table) (reach : Reach) (function : Chosen) (choices : List ℕ) (limit : ℕ) (bytes output : List ℕ)
     (answer : Bool) → IsTracing G reach function choices limit bytes output answer
@@ -117,53 +121,58 @@ traces_refused G reach function choices limit bytes code h =
     traces_it G reach function choices limit bytes (refused_line code) false
     (IsTracing.judged (refused_line code) (IsVerdict.refused code h) (λ e. refused_is_not_valid code e))
 
-pub views_it : (how : View) (G : Table) (function : Option Chosen) (bytes output : List ℕ) (answer : Bool)
-    → IsViewing how G function bytes output answer → Views how G function bytes [] (Some output) answer
-views_it how G function bytes output answer h = record { output = output; viewing = h; written = refl }
+pub views_it : (how : View) (G : Table) (reach : Reach) (function : Option Chosen) (bytes output : List ℕ) (answer : Bool)
+    → IsViewing how G reach function bytes output answer → Views how G reach function bytes [] (Some output) answer
+views_it how G reach function bytes output answer h = record { output = output; viewing = h; written = refl }
 
-pub views_refused : (how : View) (G : Table) (function : Option Chosen) (bytes : List ℕ) (code : WordError)
+pub views_refused : (how : View) (G : Table) (reach : Reach) (function : Option Chosen) (bytes : List ℕ) (code : WordError)
     → ((e : WordError) (o : Order) (bs ws : List ℕ) → IsModule o bs ws → ¬ IsFirstBroken e bs)
-    → IsFirstBroken code bytes → Views how G function bytes [] (Some (refused_line code)) false
-views_refused how G function bytes code never h =
-    views_it how G function bytes (refused_line code) false
-    (IsViewing.judged (refused_line code) (no_words how G bytes code function never h) (IsVerdict.refused code h))
+    → IsFirstBroken code bytes → Views how G reach function bytes [] (Some (refused_line code)) false
+views_refused how G reach function bytes code never h =
+    views_it how G reach function bytes (refused_line code) false
+    (IsViewing.judged (refused_line code) (no_words how G reach bytes code function never h) (IsVerdict.refused code h))
 
 -- what is told of a module that is too long: the line of its code, or that line and those that explain it
 pub too_long_line : ((e : WordError) (o : Order) (bs ws : List ℕ) → IsModule o bs ws → ¬ IsFirstBroken e bs)
     → (command : Command) (G : Table) (bytes : List ℕ) (a : Reply) → is_explaining command ≡ false
     → reads_of command ≡ Module → IsFirstBroken W8 bytes
     → out_of a ≡ refused_line W8 → made_of a ≡ [] → is_done a ≡ false → IsAnswerBy command G bytes a
-too_long_line never (Judge tasks.Check g fs v e p q j) G bytes a x r h o m d =
-    (rw (o, d) (tells_refused G (reach_of e) bytes W8 h), λ _. m)
-too_long_line never (Judge (tasks.Explain full) g fs v e p q j) G bytes a x r h o m d =
+too_long_line never (Judge tasks.Check g fs s n q j) G bytes a x r h o m d =
+    (rw (o, d) (tells_refused G (reach_of s bytes) (taken s bytes) W8 (long_taken s bytes h)), λ _. m)
+too_long_line never (Judge (tasks.Explain full) g fs s n q j) G bytes a x r h o m d =
     let never_explains : true ≡ false = x in cc
-too_long_line never (Show g f v) G bytes a x r h o m d =
-    (rw (o, d) (shows_it G bytes (refused_line W8) false (IsShowing.refused W8 h)), λ _. m)
-too_long_line never (Asm g f out b explain) G bytes a x r h o m d = let no_module : Text ≡ Module = r in cc
-too_long_line never (Trace g f id choices limit v e) G bytes a x r h o m d =
-    (rw (o, d) (traces_refused G (reach_of e) id choices.items limit bytes W8 h), λ _. m)
-too_long_line never (Annotate g f v id form color) G bytes a x r h o m d =
-    (rw (o, d) (views_refused (view_of form color f) G id bytes W8 never h), λ _. m)
-too_long_line never (Graph g f v id) G bytes a x r h o m d =
-    (rw (o, d) (views_refused views.Graph G id bytes W8 never h), λ _. m)
+too_long_line never (Show g f s) G bytes a x r h o m d = (
+  rw (o, d) (shows_it G (reach_of s bytes) (taken s bytes) (refused_line W8) false
+      (IsShowing.refused W8 (long_taken s bytes h))),
+  λ _. m,
+)
+too_long_line never (Asm g f out b explain l) G bytes a x r h o m d = let no_module : Text ≡ Module = r in cc
+too_long_line never (Trace g f id choices limit s) G bytes a x r h o m d =
+    (rw (o, d) (traces_refused G (reach_of s bytes) id choices.items limit (taken s bytes) W8 (long_taken s bytes h)), λ _. m)
+too_long_line never (Annotate g f s id form color) G bytes a x r h o m d = (
+  rw (o, d) (views_refused (view_of form color f) G (reach_of s bytes) id (taken s bytes) W8 never (long_taken s bytes h)),
+  λ _. m,
+)
+too_long_line never (Graph g f s id) G bytes a x r h o m d =
+    (rw (o, d) (views_refused views.Graph G (reach_of s bytes) id (taken s bytes) W8 never (long_taken s bytes h)), λ _. m)
 too_long_line never (Rules code j) G bytes a x r h o m d = let no_module : Nothing ≡ Module = r in cc
 too_long_line never (GrammarOf f) G bytes a x r h o m d = let no_module : Nothing ≡ Module = r in cc
 
 pub too_long_explained : (command : Command) (G : Table) (bytes : List ℕ) (r : Result Reply Trouble)
     → is_explaining command ≡ true
-    → ((detail : Detail) (reach : Reach) → IfOk r (Gives (Explains detail G reach) bytes))
-    → IfOk r (IsAnswerBy command G bytes)
-too_long_explained command G bytes (Err t) x w = tt
-too_long_explained (Judge tasks.Check g fs v e p q j) G bytes (Ok a) x w = let no : false ≡ true = x in cc
-too_long_explained (Judge (tasks.Explain full) g fs v e p q j) G bytes (Ok a) x w =
-    let given = w (detail_of full) (reach_of e) in (given.0, λ _. given.1)
-too_long_explained (Show g f v) G bytes (Ok a) x w = let no : false ≡ true = x in cc
-too_long_explained (Asm g f out b explain) G bytes (Ok a) x w = let no : false ≡ true = x in cc
-too_long_explained (Trace g f id choices limit v e) G bytes (Ok a) x w = let no : false ≡ true = x in cc
-too_long_explained (Annotate g f v id form color) G bytes (Ok a) x w = let no : false ≡ true = x in cc
-too_long_explained (Graph g f v id) G bytes (Ok a) x w = let no : false ≡ true = x in cc
-too_long_explained (Rules code j) G bytes (Ok a) x w = let no : false ≡ true = x in cc
-too_long_explained (GrammarOf f) G bytes (Ok a) x w = let no : false ≡ true = x in cc
+    → ((detail : Detail) (reach : Reach) (read : List ℕ) → IsFirstBroken W8 read → IfOk r (Gives (Explains detail G reach) read))
+    → IsFirstBroken W8 bytes → IfOk r (IsAnswerBy command G bytes)
+too_long_explained command G bytes (Err t) x w h = tt
+too_long_explained (Judge tasks.Check g fs s n q j) G bytes (Ok a) x w h = let no : false ≡ true = x in cc
+too_long_explained (Judge (tasks.Explain full) g fs s n q j) G bytes (Ok a) x w h =
+    let given = w (detail_of full) (reach_of s bytes) (taken s bytes) (long_taken s bytes h) in (given.0, λ _. given.1)
+too_long_explained (Show g f s) G bytes (Ok a) x w h = let no : false ≡ true = x in cc
+too_long_explained (Asm g f out b explain l) G bytes (Ok a) x w h = let no : false ≡ true = x in cc
+too_long_explained (Trace g f id choices limit s) G bytes (Ok a) x w h = let no : false ≡ true = x in cc
+too_long_explained (Annotate g f s id form color) G bytes (Ok a) x w h = let no : false ≡ true = x in cc
+too_long_explained (Graph g f s id) G bytes (Ok a) x w h = let no : false ≡ true = x in cc
+too_long_explained (Rules code j) G bytes (Ok a) x w h = let no : false ≡ true = x in cc
+too_long_explained (GrammarOf f) G bytes (Ok a) x w h = let no : false ≡ true = x in cc
 
 -- memory is a reason for every command
 pub for_memory : (command : Command) (G : Table) (bytes : List ℕ) (r : Result Reply Trouble) → IfErr r (λ t. t ≡ Memory)
@@ -196,25 +205,12 @@ for_text command G bytes P (Ok a) f h = tt
 for_text command G bytes P (Err t) f (inl e) = inl (e.0, f e.1)
 for_text command G bytes P (Err t) f (inr e) = inr (inr (inr (inr e)))
 
--- a text is no module, and is taken as it is
-pub same_text : (command : Command) (known : Option (List ℕ)) → IsNoText command (option_map (taken_by command) known)
-    → IsNoText command known
-same_text (Judge task g fs v e p q j) known h = absurd h
-same_text (Show g f v) known h = absurd h
-same_text (Asm g f o b x) None h = tt
-same_text (Asm g f o b x) (Some bytes) h = h
-same_text (Trace g f id choices limit v e) known h = absurd h
-same_text (Annotate g f v id form color) known h = absurd h
-same_text (Graph g f v id) known h = absurd h
-same_text (Rules code j) known h = absurd h
-same_text (GrammarOf f) known h = absurd h
-
 -- why there is no answer, as a line
 why_not : (command : Command) (text : Option (List ℕ)) (G : Table) (bytes : List ℕ) (t : Trouble) → IsTableOf text G
-    → WhyNot command G (taken_by command bytes) t
+    → WhyNot command G bytes t
     → IsRefusal command text (Some bytes) (trouble_text t)
 why_not command text G bytes t given (inl e) =
-    rw (e.0) (no_text G bytes given refl (same_text command (Some bytes) e.1))
+    rw (e.0) (no_text G bytes given refl e.1)
 why_not command text G bytes t given (inr (inl e)) =
     rw (e.0) (no_entry bytes refl (record { table = G; given = given; lacks = e.1 }))
 why_not command text G bytes t given (inr (inr (inl e))) =
@@ -226,7 +222,7 @@ why_not command text G bytes t given (inr (inr (inr (inr e)))) = rw e memory
 -- what is answered of the bytes of a file
 pub answers_bytes : (command : Command) (text : Option (List ℕ)) (G : Table) (bytes : List ℕ) (r : Result Reply Trouble)
     → IsTableOf text G
-    → IfOk r (IsAnswerBy command G (taken_by command bytes)) → IfErr r (WhyNot command G (taken_by command bytes))
+    → IfOk r (IsAnswerBy command G bytes) → IfErr r (WhyNot command G bytes)
     → Answers command text (Some bytes) (written_out r) (written_made r) (written_err r) (status_of r)
 answers_bytes command text G bytes (Ok (Done output)) given h w =
     done bytes refl (record { table = G; given = given; does = h.0 }) h.1 refl (omega arith)
@@ -237,10 +233,16 @@ answers_bytes command text G bytes (Ok (Made made)) given h w =
 answers_bytes command text G bytes (Err t) given h w = refused (why_not command text G bytes t given w) refl refl refl
 
 -- of one that was not read
-pub answers_unread : (command : Command) (text : Option (List ℕ)) (G : Table) (u : Unread) → IsTableOf text G
-    → Answers command text None [] [] (trouble_text (unread_trouble u)) 2
-answers_unread command text G why.File given = refused (unread G given refl) refl refl refl
-answers_unread command text G why.Memory given = refused memory refl refl refl
+pub answers_unread : (command : Command) (text : Option (List ℕ)) (G : Table) (t : Trouble) → IsTableOf text G
+    → Answers command text None [] [] (trouble_text (file_trouble t)) 2
+answers_unread command text G Memory given = refused memory refl refl refl
+answers_unread command text G Use given = refused (unread G given refl) refl refl refl
+answers_unread command text G File given = refused (unread G given refl) refl refl refl
+answers_unread command text G NotText given = refused (unread G given refl) refl refl refl
+answers_unread command text G NoEntry given = refused (unread G given refl) refl refl refl
+answers_unread command text G NoFunction given = refused (unread G given refl) refl refl refl
+answers_unread command text G SeveralFunctions given = refused (unread G given refl) refl refl refl
+answers_unread command text G (Refused e) given = refused (unread G given refl) refl refl refl
 
 -- what codes say
 pub answers_rules : (command : Command) (text file : Option (List ℕ)) (code : Option AnyCode) (json : Bool)
@@ -252,19 +254,43 @@ answers_rules command text file code json (Ok (Fault output)) e h w = let f = h.
 answers_rules command text file code json (Ok (Made made)) e h w = rw e (told h.0 h.2 refl refl)
 answers_rules command text file code json (Err t) e h w = rw w (refused memory refl refl refl)
 
--- the module of a text, and what is told of its fault
-pub made_assembles : (G : Table) (o : Order) (explain : Bool) (text words : List ℕ) (r : Result Reply Trouble)
-    → IsImageOf G text words
-    → IfOk r (λ a. HoldsBytes o words [] (Some (made_of a)) (4 * length words)) → IfOk r (λ a. out_of a ≡ [])
-    → IfOk r (λ a. is_done a ≡ true)
-    → IfOk r (λ a. Assembles G o explain text (Some []) (Some (out_of a)) (Some []) (Some (made_of a)) (is_done a))
-made_assembles G o explain text words (Ok a) h m e d = rw (e, d) (Assembles.made words h refl m)
-made_assembles G o explain text words (Err t) h m e d = tt
+-- another version has as many bytes
+length_in_version : (minor : Option ℕ) (bytes : List ℕ) → length (in_version minor bytes) ≡ length bytes
+length_in_version None bytes = refl
+length_in_version (Some minor) bytes = length_with_minor minor bytes
 
-pub failed_assembles : (G : Table) (o : Order) (explain : Bool) (text written out : List ℕ) → out ≡ written
-    → IsFaultOf G explain text written
-    → Assembles G o explain text (Some []) (Some out) (Some []) (Some []) false
-failed_assembles G o explain text written out e h = Assembles.failed written h e refl
+-- the bytes of an image, in another version
+pub held_in : (o : Order) (minor : Option ℕ) (words bytes written : List ℕ) → written ≡ in_version minor bytes
+    → HoldsBytes o words [] (Some bytes) (4 * length words) → HoldsModule o minor words [] (Some written) (4 * length words)
+held_in o minor words bytes written e h =
+    let size : length h.bytes ≡ 4 * length words = h.stands.whole in
+    let whole : take (4 * length words) h.bytes ≡ h.bytes = take_all (4 * length words) h.bytes (omega (arith, size)) in
+    let same : bytes ≡ h.bytes = ap held_by (h.front ∙ ap Some whole) in
+    let version : written ≡ in_version minor h.bytes = e ∙ ap (in_version minor) same in
+    let long : length written ≡ 4 * length words = ap length version ∙ length_in_version minor h.bytes ∙ size in
+    record {
+      plain = h.bytes;
+      stands = h.stands;
+      bytes = written;
+      version = version;
+      fits = omega (arith, long);
+      front = ap Some (sym (take_all (4 * length words) written (omega (arith, long))));
+    }
+
+-- the module of a text, and what is written of its fault
+pub made_assembles : (G : Table) (o : Order) (explain opencl : Bool) (text words : List ℕ) (minor : Option ℕ)
+    (r : Result Reply Trouble) → minor ≡ minor_asked opencl text
+    → IsImageOf G (text_read opencl text) words
+    → IfOk r (λ a. HoldsModule o minor words [] (Some (made_of a)) (4 * length words)) → IfOk r (λ a. out_of a ≡ [])
+    → IfOk r (λ a. is_done a ≡ true)
+    → IfOk r (λ a. Assembles G o explain opencl text (Some []) (Some (out_of a)) (Some []) (Some (made_of a)) (is_done a))
+made_assembles G o explain opencl text words minor (Ok a) v h m e d = rw (e, d) (Assembles.made words h refl (rw v at m))
+made_assembles G o explain opencl text words minor (Err t) v h m e d = tt
+
+pub failed_assembles : (G : Table) (o : Order) (explain opencl : Bool) (text written out : List ℕ) → out ≡ written
+    → IsFaultOf G explain (text_read opencl text) written
+    → Assembles G o explain opencl text (Some []) (Some out) (Some []) (Some []) false
+failed_assembles G o explain opencl text written out e h = Assembles.failed written h e refl
 
 -- a grammar file that is refused
 pub grammar_refused : (command : Command) (text file : Option (List ℕ)) (e : GrammarError) → (e ≢ J8 → breaks text e)

@@ -13,7 +13,7 @@ use Rattle.spv_lines.specs.declared.asm_error.AsmCode.{AsmCode}
 use Rattle.spv_lines.specs.declared.asm_error.AsmCode.TheVariants.{S1, S2, S3, S4, S5, S6}
 use Rattle.spv_lines.specs.Fault.{IsAsmFailure}
 use Rattle.spv_commands.specs.Assemble.{Assembles, BeginsAssembling, IsFaultOf, IsImageOf, TellsFault, alone}
-use Rattle.spv_commands.specs.Assemble.{text_fault_line}
+use Rattle.spv_commands.specs.Assemble.{text_fault_line, text_read}
 use Rattle.spv_check.specs.Verdict.{line_end}
 
 -- a fault that is no want of memory is one of the text
@@ -78,13 +78,13 @@ short_told : (G : Table) → IsFaultOf G false (1 ∷ 2 ∷ 3 ∷ []) (text_faul
 short_told G = fault_alone G (1 ∷ 2 ∷ 3 ∷ []) S1 1 short_utf8 (short_fails G)
 
 pub short_assembled : (G : Table) (o : Order)
-    → Assembles G o false (1 ∷ 2 ∷ 3 ∷ []) (Some (9 ∷ [])) (Some (9 ∷ codes "fault S1 line 1" ++ line_end)) (Some [])
+    → Assembles G o false false (1 ∷ 2 ∷ 3 ∷ []) (Some (9 ∷ [])) (Some (9 ∷ codes "fault S1 line 1" ++ line_end)) (Some [])
     (Some []) false
 short_assembled G o =
     Assembles.failed (text_fault_line S1 1) (short_told G) (ap (λ (l : List ℕ). 9 ∷ l) (sym short_line)) refl
 
 pub short_begun : (G : Table) (o : Order)
-    → BeginsAssembling G o false (1 ∷ 2 ∷ 3 ∷ []) (Some (9 ∷ [])) (Some (9 ∷ codes "fault")) (Some []) (Some [])
+    → BeginsAssembling G o false false (1 ∷ 2 ∷ 3 ∷ []) (Some (9 ∷ [])) (Some (9 ∷ codes "fault")) (Some []) (Some [])
 short_begun G o = BeginsAssembling.failed (text_fault_line S1 1) (short_told G)
     (rw short_line (record { count = 5; fits = lit≤ tt; written = refl })) refl
 
@@ -95,12 +95,16 @@ no_image G words h =
     let first : Some (1 ∷ 2 ∷ 3 ∷ []) ≡ Some (codes "; SPIR-V") = ap (λ (ls : List (List ℕ)). slice_get ls 0) e in
     cc
 
-pub short_unmade : (G : Table) (o : Order) (explain : Bool) (old new held kept : Option (List ℕ)) (answer : Bool)
-    → answer ≡ true → ¬ (Assembles G o explain (1 ∷ 2 ∷ 3 ∷ []) old new held kept answer)
-short_unmade G o explain old new held kept _ e (Assembles.made words h k w) = no_image G words h
-short_unmade G o explain old new held kept _ e (Assembles.failed told h w k) = cc
+no_image_read : (G : Table) (opencl : Bool) (words : List ℕ) → ¬ (IsImageOf G (text_read opencl (1 ∷ 2 ∷ 3 ∷ [])) words)
+no_image_read G false words h = no_image G words h
+no_image_read G true words h = no_image G words h
 
-pub nothing_begun : (G : Table) (o : Order) (explain : Bool) (old new : Option (List ℕ))
-    → ¬ (BeginsAssembling G o explain (1 ∷ 2 ∷ 3 ∷ []) old new (Some []) (Some (3 ∷ [])))
-nothing_begun G o explain old new (BeginsAssembling.made words h k w) = no_image G words h
-nothing_begun G o explain old new (BeginsAssembling.failed told h w k) = cc
+pub short_unmade : (G : Table) (o : Order) (explain opencl : Bool) (old new held kept : Option (List ℕ)) (answer : Bool)
+    → answer ≡ true → ¬ (Assembles G o explain opencl (1 ∷ 2 ∷ 3 ∷ []) old new held kept answer)
+short_unmade G o explain opencl old new held kept _ e (Assembles.made words h k w) = no_image_read G opencl words h
+short_unmade G o explain opencl old new held kept _ e (Assembles.failed told h w k) = cc
+
+pub nothing_begun : (G : Table) (o : Order) (explain opencl : Bool) (old new : Option (List ℕ))
+    → ¬ (BeginsAssembling G o explain opencl (1 ∷ 2 ∷ 3 ∷ []) old new (Some []) (Some (3 ∷ [])))
+nothing_begun G o explain opencl old new (BeginsAssembling.made words h k w) = no_image_read G opencl words h
+nothing_begun G o explain opencl old new (BeginsAssembling.failed told h w k) = cc

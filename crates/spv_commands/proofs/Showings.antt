@@ -10,7 +10,9 @@ use Rattle.spv_inst.specs.Outcome.{IsDecodeFault, IsHeaderOf}
 use Rattle.spv_module.specs.declared.fault.Stop.{Stop}
 use Rattle.spv_module.specs.declared.fault.Stop.TheVariants.{Fault as Dies, Memory}
 use Rattle.spv_lines.specs.Text.{IsShownText}
+use Rattle.spv_extended.specs.declared.reach.Reach.{Reach}
 use Rattle.spv_extended.specs.declared.reach.Reach.TheVariants.{Profile}
+use Rattle.spv_scope.specs.Scope.{told_text}
 use Rattle.spv_check.specs.Reading.{IsReading}
 use Rattle.spv_check.specs.Verdict.{fault_line, refused_line}
 use Rattle.spv_check.proofs.Verdicts.{Laws, dead_list, same_module}
@@ -18,14 +20,14 @@ use Rattle.spv_commands.specs.Show.{IsShowing, refused, dead, shown}
 use Rattle.spv_commands.specs.inner.Shown.{is_text, output_of, shown_stop}
 
 -- words that are no list of instructions
-pub dead_shown : (G : Table) (bytes words : List ℕ) (order : Order) (s : Stop) → IsModule order bytes words
+pub dead_shown : (G : Table) (reach : Reach) (bytes words : List ℕ) (order : Order) (s : Stop) → IsModule order bytes words
     → IsDecodeFault G words s
-    → IfOk (shown_stop s) (λ s. IsShowing G bytes (output_of s) (is_text s))
-dead_shown G bytes words order Memory h d = tt
-dead_shown G bytes words order (Dies f) h d =
+    → IfOk (shown_stop s) (λ s. IsShowing G reach bytes (output_of s) (is_text s))
+dead_shown G reach bytes words order Memory h d = tt
+dead_shown G reach bytes words order (Dies f) h d =
     let low = d.0 in
     let e : 5 + (f.word - 5) ≡ f.word = omega arith in
-    subst (λ (n : ℕ). IsShowing G bytes (fault_line f.rule f.inst n) false) e
+    subst (λ (n : ℕ). IsShowing G reach bytes (fault_line f.rule f.inst n) false) e
     (dead words order f.rule f.inst (f.word - 5) h d.1)
 
 -- words have one header
@@ -64,21 +66,21 @@ pub record SameShowing (o p : List ℕ) (a b : Bool) : Type 0 where
   pub output : o ≡ p
   pub answer : a ≡ b
 
-pub one_showing : Laws → OneText → (G : Table) (bytes o p : List ℕ) (a b : Bool) → IsShowing G bytes o a
-    → IsShowing G bytes p b → SameShowing o p a b
-one_showing laws one G bytes _ _ _ _ (refused c x) (refused d y) =
+pub one_showing : Laws → OneText → (G : Table) (reach : Reach) (bytes o p : List ℕ) (a b : Bool) → IsShowing G reach bytes o a
+    → IsShowing G reach bytes p b → SameShowing o p a b
+one_showing laws one G reach bytes _ _ _ _ (refused c x) (refused d y) =
     record { output = ap refused_line (laws.once c d bytes x y); answer = refl }
-one_showing laws one G bytes _ _ _ _ (refused c x) (dead vs p r i n g d) = absurd (laws.never c p bytes vs g x)
-one_showing laws one G bytes _ _ _ _ (refused c x) (shown vs p k js u g b d y) = absurd (laws.never c p bytes vs g x)
-one_showing laws one G bytes _ _ _ _ (dead ws o r i n h d) (refused c y) = absurd (laws.never c o bytes ws h y)
-one_showing laws one G bytes _ _ _ _ (dead ws o r i n h d) (dead vs p s j m g e) =
+one_showing laws one G reach bytes _ _ _ _ (refused c x) (dead vs p r i n g d) = absurd (laws.never c p bytes vs g x)
+one_showing laws one G reach bytes _ _ _ _ (refused c x) (shown vs p k js u g b d y) = absurd (laws.never c p bytes vs g x)
+one_showing laws one G reach bytes _ _ _ _ (dead ws o r i n h d) (refused c y) = absurd (laws.never c o bytes ws h y)
+one_showing laws one G reach bytes _ _ _ _ (dead ws o r i n h d) (dead vs p s j m g e) =
     let same : vs ≡ ws = (laws.words p o bytes vs ws g h).1 in
     let one = laws.death G (drop 5 ws) r s i j n m d (rw same at e) in
     record { output = rw (one.0, one.1, one.2) refl; answer = refl }
-one_showing laws one G bytes _ _ _ _ (dead ws o r i n h d) (shown vs p k js u g b l y) =
+one_showing laws one G reach bytes _ _ _ _ (dead ws o r i n h d) (shown vs p k js u g b l y) =
     absurd (dead_list laws G Profile bytes vs ws p o js r i n g h (spelled G js (drop 5 vs) l) d)
-one_showing laws one G bytes _ _ _ _ (shown ws o h is t m a l x) (refused c y) = absurd (laws.never c o bytes ws m y)
-one_showing laws one G bytes _ _ _ _ (shown ws o h is t m a l x) (dead vs p r i n g d) =
+one_showing laws one G reach bytes _ _ _ _ (shown ws o h is t m a l x) (refused c y) = absurd (laws.never c o bytes ws m y)
+one_showing laws one G reach bytes _ _ _ _ (shown ws o h is t m a l x) (dead vs p r i n g d) =
     absurd (dead_list laws G Profile bytes ws vs o p is r i n m g (spelled G is (drop 5 ws) l) d)
-one_showing laws one G bytes _ _ _ _ (shown ws o h is t m a l x) (shown vs p k js u n b d y) =
-    record { output = same_text laws one G bytes ws vs o p h k is js t u m n a b l d x y; answer = refl }
+one_showing laws one G reach bytes _ _ _ _ (shown ws o h is t m a l x) (shown vs p k js u n b d y) =
+    record { output = ap (told_text reach) (same_text laws one G bytes ws vs o p h k is js t u m n a b l d x y); answer = refl }

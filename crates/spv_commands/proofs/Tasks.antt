@@ -19,7 +19,10 @@ use Rattle.spv_explain.specs.Stream.{BeginsExplaining, Explains}
 use Rattle.spv_check.specs.Stream.{TellsVerdict}
 use Rattle.spv_check.specs.Verdict.{IsVerdict}
 use Rattle.spv_check.proofs.Verdicts.{refused_is_not_valid}
-use Rattle.spv_commands.specs.Task.{DoesByText, MakesNothing, ReadsNoFile, WritesGrammar, detail_of, reach_of, taken}
+use Rattle.spv_commands.specs.Task.{DoesByText, MakesNothing, ReadsNoFile, WritesGrammar, detail_of}
+use Rattle.spv_scope.specs.Scope.{reach_of, taken}
+use Rattle.spv_scope.specs.declared.scope.Scope.{Scope}
+use Rattle.spv_scope.specs.declared.scope.Scope.TheVariants.{Own, Extended, OpenCl}
 use Rattle.spv_commands.specs.Task.{view_of}
 use Rattle.spv_views.specs.View.{Views}
 use Rattle.spv_views.specs.declared.view.View.{View}
@@ -30,13 +33,13 @@ use Rattle.spv_builtin.specs.Source.{IsTableOf}
 use Rattle.spv_builtin.specs.Text.{IsGrammarText}
 use Rattle.spv_check.specs.Verdict.{line_end, refused_line}
 
-pub short_shown : (G : Table) → IsFirstBroken W2 (1 ∷ 2 ∷ 3 ∷ [])
-    → Shows G (1 ∷ 2 ∷ 3 ∷ []) (9 ∷ []) (Some (9 ∷ codes "fault W2" ++ line_end)) false
-short_shown G h = record { output = refused_line W2; showing = IsShowing.refused W2 h; written = refl }
+pub short_shown : (G : Table) (reach : Reach) → IsFirstBroken W2 (1 ∷ 2 ∷ 3 ∷ [])
+    → Shows G reach (1 ∷ 2 ∷ 3 ∷ []) (9 ∷ []) (Some (9 ∷ codes "fault W2" ++ line_end)) false
+short_shown G reach h = record { output = refused_line W2; showing = IsShowing.refused W2 h; written = refl }
 
-pub short_begun_showing : (G : Table) → IsFirstBroken W2 (1 ∷ 2 ∷ 3 ∷ [])
-    → BeginsShowing G (1 ∷ 2 ∷ 3 ∷ []) (9 ∷ []) (Some (9 ∷ codes "fault"))
-short_begun_showing G h =
+pub short_begun_showing : (G : Table) (reach : Reach) → IsFirstBroken W2 (1 ∷ 2 ∷ 3 ∷ [])
+    → BeginsShowing G reach (1 ∷ 2 ∷ 3 ∷ []) (9 ∷ []) (Some (9 ∷ codes "fault"))
+short_begun_showing G reach h =
     record {
       output = refused_line W2;
       answer = false;
@@ -89,82 +92,89 @@ short_begun_explaining G reach detail h never once = record {
 }
 
 -- bytes that are no module have no text
-pub no_text : (G : Table) (bytes output : List ℕ) (answer : Bool) → answer ≡ true
-    → ((o : Order) (ws : List ℕ) → ¬ (IsModule o bytes ws)) → ¬ (IsShowing G bytes output answer)
-no_text G bytes _ _ e never (IsShowing.refused code h) = cc
-no_text G bytes _ _ e never (IsShowing.dead words order broken inst at h d) = cc
-no_text G bytes _ _ e never (IsShowing.shown words order header is text h k l t) = never order words h
+pub no_text : (G : Table) (reach : Reach) (bytes output : List ℕ) (answer : Bool) → answer ≡ true
+    → ((o : Order) (ws : List ℕ) → ¬ (IsModule o bytes ws)) → ¬ (IsShowing G reach bytes output answer)
+no_text G reach bytes _ _ e never (IsShowing.refused code h) = cc
+no_text G reach bytes _ _ e never (IsShowing.dead words order broken inst at h d) = cc
+no_text G reach bytes _ _ e never (IsShowing.shown words order header is text h k l t) = never order words h
 
 -- three bytes are taken as they are
-short_taken : (as_1_6 : Bool) → taken as_1_6 (1 ∷ 2 ∷ 3 ∷ []) ≡ 1 ∷ 2 ∷ 3 ∷ []
-short_taken true = refl
-short_taken false = refl
+pub short_taken : (s : Scope) → taken s (1 ∷ 2 ∷ 3 ∷ []) ≡ 1 ∷ 2 ∷ 3 ∷ []
+short_taken (Own true) = refl
+short_taken (Own false) = refl
+short_taken (Extended true) = refl
+short_taken (Extended false) = refl
+short_taken OpenCl = refl
 
 -- what a command does with three bytes, whichever they are taken as
 module _ (P : List ℕ → Type 0) where
-  pub as_taken : (as_1_6 : Bool) → P (1 ∷ 2 ∷ 3 ∷ []) → P (taken as_1_6 (1 ∷ 2 ∷ 3 ∷ []))
-  as_taken as_1_6 h = subst P (sym (short_taken as_1_6)) h
+  pub as_taken : (s : Scope) → P (1 ∷ 2 ∷ 3 ∷ []) → P (taken s (1 ∷ 2 ∷ 3 ∷ []))
+  as_taken s h = subst P (sym (short_taken s)) h
+
+-- how far they are looked at
+abbrev pub far : Scope → Reach
+far s = reach_of s (1 ∷ 2 ∷ 3 ∷ [])
 
 pub does_short : (c : Command) (G : Table) → ¬ (ReadsNoFile c) → MakesNothing c → IsTableOf (Some empty_grammar) G
     → ((reach : Reach) → TellsVerdict G reach (1 ∷ 2 ∷ 3 ∷ []) (9 ∷ []) (Some (9 ∷ codes "fault W2" ++ line_end)) false)
     → ((reach : Reach) (detail : Detail)
     → Explains detail G reach (1 ∷ 2 ∷ 3 ∷ []) (9 ∷ [])
     (Some (9 ∷ codes "fault W2" ++ (line_end ++ refused_text W2 (1 ∷ 2 ∷ 3 ∷ [])))) false)
-    → Shows G (1 ∷ 2 ∷ 3 ∷ []) (9 ∷ []) (Some (9 ∷ codes "fault W2" ++ line_end)) false
+    → ((reach : Reach) → Shows G reach (1 ∷ 2 ∷ 3 ∷ []) (9 ∷ []) (Some (9 ∷ codes "fault W2" ++ line_end)) false)
     → ((reach : Reach) (function : Chosen) (choices : List ℕ) (limit : ℕ)
     → Traces G reach function choices limit (1 ∷ 2 ∷ 3 ∷ []) (9 ∷ [])
     (Some (9 ∷ codes "fault W2" ++ line_end)) false)
-    → ((how : View) (function : Option Chosen)
-    → Views how G function (1 ∷ 2 ∷ 3 ∷ []) (9 ∷ []) (Some (9 ∷ codes "fault W2" ++ line_end)) false)
+    → ((how : View) (reach : Reach) (function : Option Chosen)
+    → Views how G reach function (1 ∷ 2 ∷ 3 ∷ []) (9 ∷ []) (Some (9 ∷ codes "fault W2" ++ line_end)) false)
     → DoesByText c (Some empty_grammar) (1 ∷ 2 ∷ 3 ∷ []) (Some (9 ∷ [])) (Some (9 ∷ answer_of c)) None None false
-does_short (Judge tasks.Check g fs v e p q j) G r n given tells explains shows traces views =
+does_short (Judge tasks.Check g fs s n q j) G r m given tells explains shows traces views =
     record {
       table = G;
       given = given;
       does = as_taken
-          (λ bytes. TellsVerdict G (reach_of e) bytes (9 ∷ []) (Some (9 ∷ codes "fault W2" ++ line_end)) false) v
-          (tells (reach_of e));
+          (λ bytes. TellsVerdict G (far s) bytes (9 ∷ []) (Some (9 ∷ codes "fault W2" ++ line_end)) false) s
+          (tells (far s));
     }
-does_short (Judge (tasks.Explain full) g fs v e p q j) G r n given tells explains shows traces views =
+does_short (Judge (tasks.Explain full) g fs s n q j) G r m given tells explains shows traces views =
     record {
       table = G;
       given = given;
       does = as_taken
-          (λ bytes. Explains (detail_of full) G (reach_of e) bytes (9 ∷ [])
-          (Some (9 ∷ codes "fault W2" ++ (line_end ++ refused_text W2 (1 ∷ 2 ∷ 3 ∷ [])))) false) v
-          (explains (reach_of e) (detail_of full));
+          (λ bytes. Explains (detail_of full) G (far s) bytes (9 ∷ [])
+          (Some (9 ∷ codes "fault W2" ++ (line_end ++ refused_text W2 (1 ∷ 2 ∷ 3 ∷ [])))) false) s
+          (explains (far s) (detail_of full));
     }
-does_short (Show g f v) G r n given tells explains shows traces views =
+does_short (Show g f s) G r m given tells explains shows traces views =
     record {
       table = G;
       given = given;
       does = as_taken
-          (λ bytes. Shows G bytes (9 ∷ []) (Some (9 ∷ codes "fault W2" ++ line_end)) false) v shows;
+          (λ bytes. Shows G (far s) bytes (9 ∷ []) (Some (9 ∷ codes "fault W2" ++ line_end)) false) s (shows (far s));
     }
-does_short (Asm g f o b x) G r n given tells explains shows traces views = absurd n
-does_short (Trace g f function choices limit v e) G r n given tells explains shows traces views = record {
+does_short (Asm g f o b x l) G r m given tells explains shows traces views = absurd m
+does_short (Trace g f function choices limit s) G r m given tells explains shows traces views = record {
   table = G;
   given = given;
-  does = as_taken (λ bytes. Traces G (reach_of e) function choices.items limit bytes (9 ∷ [])
-      (Some (9 ∷ codes "fault W2" ++ line_end)) false) v
-      (traces (reach_of e) function choices.items limit);
+  does = as_taken (λ bytes. Traces G (far s) function choices.items limit bytes (9 ∷ [])
+      (Some (9 ∷ codes "fault W2" ++ line_end)) false) s
+      (traces (far s) function choices.items limit);
 }
-does_short (Annotate g f v function form color) G r n given tells explains shows traces views = record {
+does_short (Annotate g f s function form color) G r m given tells explains shows traces views = record {
   table = G;
   given = given;
-  does = as_taken (λ bytes. Views (view_of form color f) G function bytes (9 ∷ [])
-      (Some (9 ∷ codes "fault W2" ++ line_end)) false) v
-      (views (view_of form color f) function);
+  does = as_taken (λ bytes. Views (view_of form color f) G (far s) function bytes (9 ∷ [])
+      (Some (9 ∷ codes "fault W2" ++ line_end)) false) s
+      (views (view_of form color f) (far s) function);
 }
-does_short (Graph g f v function) G r n given tells explains shows traces views = record {
+does_short (Graph g f s function) G r m given tells explains shows traces views = record {
   table = G;
   given = given;
-  does = as_taken (λ bytes. Views view.Graph G function bytes (9 ∷ []) (Some (9 ∷ codes "fault W2" ++ line_end)) false)
-      v
-      (views view.Graph function);
+  does = as_taken
+      (λ bytes. Views view.Graph G (far s) function bytes (9 ∷ []) (Some (9 ∷ codes "fault W2" ++ line_end)) false) s
+      (views view.Graph (far s) function);
 }
-does_short (Rules code j) G r n given tells explains shows traces views = absurd (r tt)
-does_short (Grammar file) G r n given tells explains shows traces views = absurd (r tt)
+does_short (Rules code j) G r m given tells explains shows traces views = absurd (r tt)
+does_short (Grammar file) G r m given tells explains shows traces views = absurd (r tt)
 
 -- ---- a grammar file
 

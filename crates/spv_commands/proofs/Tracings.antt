@@ -8,13 +8,11 @@ use Rattle.spv_words.specs.declared.words.WordError.TheVariants as word
 use Rattle.spv_table.specs.Table.{Table}
 use Rattle.spv_module.specs.Operand.{PlainInst}
 use Rattle.spv_extended.specs.declared.reach.Reach.{Reach}
-use Rattle.spv_extended.specs.declared.reach.Reach.TheVariants.{Profile}
 use Rattle.spv_run.specs.Entry.{RefusesEntry}
 use Rattle.spv_run.specs.declared.parts.Trace.{Trace}
 use Rattle.spv_run.specs.declared.parts.TraceError.{TraceError}
 use Rattle.spv_run.specs.declared.parts.TraceError.TheVariants.{NoEntry, Memory}
 use Rattle.spv_check.specs.Answer.{IsAnswer}
-use Rattle.spv_check.specs.Broken.{Broken, IsSound}
 use Rattle.spv_check.specs.Checked.{IsChecked}
 use Rattle.spv_check.specs.Program.{Program}
 use Rattle.spv_run.specs.Tracing.{IsRunOf}
@@ -22,7 +20,6 @@ use Rattle.spv_check.specs.Verdict.{IsVerdict, fault_line, line_end, refused_lin
 use Rattle.spv_check.specs.declared.checked.Verdict.{Verdict}
 use Rattle.spv_check.specs.declared.checked.Verdict.TheVariants.{Valid, Fault}
 use Rattle.spv_check.proofs.Checks.{fault_judged}
-use Rattle.spv_check.proofs.Miscalls.{not_asked}
 use Rattle.spv_check.proofs.Verdicts.{fault_is_not_valid, refused_is_not_valid}
 use Rattle.spv_module.specs.declared.fault.Fault as fault
 use Rattle.spv_names.specs.Chosen.{IsChosen}
@@ -56,16 +53,6 @@ checked_by G reach words v p e a = rw e at a
 pub program_of : (G : Table) (reach : Reach) (bytes words : List ℕ) (order : Order) (p : Program)
     → IsModule order bytes words → IsChecked G reach words p → IsProgram G reach bytes p
 program_of G reach bytes words order p h c = record { words = words; order = order; is_module = h; checked = c }
-
--- what breaks no rule as far as it is looked at breaks none of the profile
-pub by_profile : (G : Table) (reach : Reach) (bound : ℕ) (is : List PlainInst) → IsSound G reach bound is
-    → IsSound G Profile bound is
-by_profile G reach bound is s _ _ (Broken.of_layout r n b) = s r n (Broken.of_layout r n b)
-by_profile G reach bound is s _ _ (Broken.of_ids r n b) = s r n (Broken.of_ids r n b)
-by_profile G reach bound is s _ _ (Broken.of_types r n b) = s r n (Broken.of_types r n b)
-by_profile G reach bound is s _ _ (Broken.of_flow r n b) = s r n (Broken.of_flow r n b)
-by_profile G reach bound is s _ _ (Broken.of_calls r n b) = s r n (Broken.of_calls r n b)
-by_profile G reach bound is s _ _ (Broken.of_extended r n b) = absurd (not_asked is r n b)
 
 -- its run, and that there is none
 pub run_traced : (G : Table) (reach : Reach) (function : Chosen) (choices : List ℕ) (limit : ℕ) (bytes words : List ℕ)

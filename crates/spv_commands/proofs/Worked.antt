@@ -6,6 +6,7 @@ use Rattle.spv_words.specs.Header.{IsFirstBroken}
 use Rattle.spv_words.specs.declared.words.WordError.TheVariants.{W2}
 use Rattle.spv_command_line.specs.declared.command_line.Command.{Command}
 use Rattle.spv_command_line.specs.declared.command_line.Command.TheVariants.{Show}
+use Rattle.spv_scope.specs.declared.scope.Scope.TheVariants.{Own}
 use Rattle.spv_commands.specs.Answer.{Answers, IsRefusal}
 use Rattle.spv_commands.specs.Show.{IsShowing}
 use Rattle.spv_commands.specs.Trouble.{file_line}
@@ -56,7 +57,7 @@ no_object code e =
 -- a text of three bytes is answered by the line of its fault
 pub show_answers : (g : Option (Bor (List ℕ))) (f : Bor (List ℕ)) (G : Table) → IsTableOf (Some empty_grammar) G
     → IsFirstBroken W2 (1 ∷ 2 ∷ 3 ∷ [])
-    → Answers (Show g f false) (Some empty_grammar) (Some (1 ∷ 2 ∷ 3 ∷ [])) (codes "fault W2" ++ line_end) [] [] 1
+    → Answers (Show g f (Own false)) (Some empty_grammar) (Some (1 ∷ 2 ∷ 3 ∷ [])) (codes "fault W2" ++ line_end) [] [] 1
 show_answers g f G given h = Answers.done (1 ∷ 2 ∷ 3 ∷ []) refl
     (record {
       table = G;

@@ -22,6 +22,6 @@ writer_of bytes = writing (λ (held : List ℕ). Some held) (λ held. 0) [] byte
 -- what a command writes of three bytes, which are no module by W2: the line of the fault, and where it explains, what
 -- the code says and what is found
 abbrev pub answer_of : Command → List ℕ
-answer_of (Judge (tasks.Explain full) grammar files as_1_6 extended naming quiet json) =
+answer_of (Judge (tasks.Explain full) grammar files scope naming quiet json) =
     codes "fault W2" ++ (line_end ++ refused_text W2 (1 ∷ 2 ∷ 3 ∷ []))
 answer_of _ = codes "fault W2" ++ line_end

@@ -9,7 +9,6 @@ use Rattle.spv_commands.specs.declared.replying.Reply.{Reply}
 use Rattle.spv_commands.specs.declared.replying.Reply.TheVariants.{Done, Fault, Made}
 use Rattle.spv_commands.specs.declared.outgoing.Output.{Output}
 use Rattle.spv_commands.specs.declared.outgoing.Output.TheVariants.{Line, Bytes, Run}
-use Rattle.spv_explain.specs.declared.answers.Unread.{Unread}
 use Rattle.spv_commands.specs.declared.trouble.Trouble.{Trouble}
 
 -- the octets of what is written
@@ -48,9 +47,9 @@ written_err (Ok a) = []
 written_err (Err t) = trouble_text t
 
 -- the bytes that a file gave, or none where it could not be read
-abbrev pub bytes_in : Result (Vec ℕ Global) Unread → Option (List ℕ)
+abbrev pub bytes_in : Result (Vec ℕ Global) Trouble → Option (List ℕ)
 bytes_in (Ok bytes) = Some bytes.items
-bytes_in (Err why) = None
+bytes_in (Err t) = None
 
 -- the exit status: 0 where it is done, 1 where a fault is told, 2 with an error
 abbrev pub status_of : Result Reply Trouble → ℕ

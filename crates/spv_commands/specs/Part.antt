@@ -3,15 +3,16 @@ use Rattle.std.specs.Prelude.{◌≡◌, ◌++◌, ℕ, List, [], Bool, Option, 
 use Rattle.std.specs.Prelude.{◌⊎◌, ◌↔◌, IsTrue, if◌then◌else◌}
 use Rattle.spv_table.specs.Table.{Table}
 use Rattle.spv_extended.specs.declared.reach.Reach.{Reach}
-use Rattle.spv_commands.specs.Task.{DoesTask, reach_of, taken}
-use Rattle.spv_commands.specs.Trouble.{file_line, memory_line, trouble_text, unread_trouble}
+use Rattle.spv_scope.specs.Scope.{reach_of, taken}
+use Rattle.spv_commands.specs.Task.{DoesTask}
+use Rattle.spv_commands.specs.Trouble.{file_line, memory_line, trouble_text, unread_of}
+use Rattle.spv_commands.specs.declared.trouble.Trouble.{Trouble}
+use Rattle.spv_commands.specs.declared.trouble.Trouble.TheVariants.{File, Memory}
 use Rattle.spv_command_line.specs.declared.command_line.Task.{Task}
 use Rattle.spv_command_line.specs.declared.command_line.Task.TheVariants as tasks
 use Rattle.spv_check.specs.declared.verdict_line.Judgment.TheVariants.{Valid}
 use Rattle.spv_explain.specs.Json.{IsCheckAnswer, IsExplainAnswer, error_object, json_line}
 use Rattle.spv_explain.specs.declared.answers.Answer.{Answer}
-use Rattle.spv_explain.specs.declared.answers.Unread.{Unread}
-use Rattle.spv_explain.specs.declared.answers.Unread.TheVariants.{File, Memory}
 use Rattle.spv_commands.specs.declared.judging.Judging.{Judging}
 use Rattle.spv_commands.specs.declared.judging.Part.{Part}
 use Rattle.spv_commands.specs.declared.judging.Telling.{Telling}
@@ -47,21 +48,21 @@ Judges Json task G reach name bytes out valid = TellsObject task G reach name by
 Judges telling task G reach name bytes out valid = DoesTask task G reach bytes (heading telling name) (Some out) valid
 
 -- what the standard output gets of a file that was not read: an object where objects are written, and else nothing
-abbrev pub unread_text : Telling → List ℕ → Unread → List ℕ
-unread_text Json name why = json_line (error_object (Some name) why)
-unread_text _ name why = []
+abbrev pub unread_text : Telling → List ℕ → Trouble → List ℕ
+unread_text Json name t = json_line (error_object (Some name) (unread_of t))
+unread_text _ name t = []
 
 -- the line of why a file was not judged, behind its name; none of one that was
-abbrev pub told_line : List ℕ → Option Unread → List ℕ
+abbrev pub told_line : List ℕ → Option Trouble → List ℕ
 told_line name None = []
-told_line name (Some why) = label name ++ trouble_text (unread_trouble why)
+told_line name (Some t) = label name ++ trouble_text t
 
 -- What is written of one file on the standard output and on the standard error, and the status for it.
 pub data IsPart (G : Table) (how : Judging) (name : List ℕ) (known : Known) (out err : List ℕ)
     (status : ℕ) : Type 0 where
   -- it was read: what is written of its bytes, as they are taken; a valid module is 0, and any other 1
   judged : (bytes : List ℕ) (valid : Bool) → IfSome known (λ file. file ≡ Some bytes)
-      → Judges how.telling how.task G (reach_of how.extended) name (taken how.as_1_6 bytes) out valid → err ≡ []
+      → Judges how.telling how.task G (reach_of how.scope bytes) name (taken how.scope bytes) out valid → err ≡ []
       → status ≡ (if valid then 0 else 1)
       → IsPart G how name known out err status
   -- it was not
@@ -72,7 +73,7 @@ pub data IsPart (G : Table) (how : Judging) (name : List ℕ) (known : Known) (o
       → IsPart G how name known out err status
 
 -- what is written of a file that was not read for this reason: maybe no object, where memory was refused for it
-abbrev pub IsUnread : Judging → List ℕ → Unread → Part → Type 0
-IsUnread how name why part = (part.status ≡ 2)
-    × (((part.unread ≡ Some why) × (part.text.items ≡ unread_text how.telling name why))
-    ⊎ ((part.unread ≡ Some Memory) × (part.text.items ≡ [])))
+abbrev pub IsUnread : Judging → List ℕ → Trouble → Part → Type 0
+IsUnread how name t part = (part.status ≡ 2)
+    × (((part.trouble ≡ Some t) × (part.text.items ≡ unread_text how.telling name t))
+    ⊎ ((part.trouble ≡ Some Memory) × (part.text.items ≡ [])))

@@ -1,10 +1,9 @@
 -- What a command does, by the text of its grammar file, or by the built-in grammar (own).
-use Rattle.std.specs.Prelude.{◌≡◌, ℕ, List, Option, Bool, true, false, IfSome, IsUtf8, option_map, if◌then◌else◌}
+use Rattle.std.specs.Prelude.{◌≡◌, ℕ, List, Option, Bool, true, false, IfSome, IsUtf8}
 use Rattle.std.specs.Borrow.{Bor}
 use Rattle.std.specs.Io.KnownBytes.{Appends}
 use Rattle.spv_table.specs.Table.{Table}
 use Rattle.spv_extended.specs.declared.reach.Reach.{Reach}
-use Rattle.spv_extended.specs.declared.reach.Reach.TheVariants.{Profile, Extended}
 use Rattle.spv_builtin.specs.Source.{IsTableOf}
 use Rattle.spv_builtin.specs.Text.{IsGrammarText}
 use Rattle.spv_command_line.specs.declared.command_line.Command.{Command}
@@ -16,10 +15,10 @@ use Rattle.spv_command_line.specs.declared.command_line.Form.{Form}
 use Rattle.spv_command_line.specs.declared.command_line.Form.TheVariants as forms
 use Rattle.spv_command_line.specs.declared.command_line.Task.{Task}
 use Rattle.spv_command_line.specs.declared.command_line.Task.TheVariants as tasks
-use Rattle.spv_commands.specs.Assemble.{Assembles, order_of}
+use Rattle.spv_commands.specs.Assemble.{Assembles, order_of, text_read}
 use Rattle.spv_commands.specs.Show.{Shows}
 use Rattle.spv_commands.specs.Trace.{HasNoEntry, HasSeveral, Traces}
-use Rattle.spv_words.specs.Version.{as_1_6 as version_1_6}
+use Rattle.spv_scope.specs.Scope.{reach_of, taken}
 use Rattle.spv_check.specs.Stream.{TellsVerdict}
 use Rattle.spv_rules.specs.Codes.{told_text}
 use Rattle.spv_rules.specs.declared.errors.AnyCode.{AnyCode}
@@ -41,23 +40,6 @@ abbrev pub ReadsNoFile : Command → Type 0
 ReadsNoFile (Rules code json) = Unit {0}
 ReadsNoFile (Grammar file) = Unit {0}
 ReadsNoFile _ = ⊥
-
--- a module of an earlier version is taken as one of 1.6
-abbrev pub takes_as_1_6 : Command → Bool
-takes_as_1_6 (Judge task grammar files as_1_6 extended naming quiet json) = as_1_6
-takes_as_1_6 (Show grammar file as_1_6) = as_1_6
-takes_as_1_6 (Trace grammar file function choices limit as_1_6 extended) = as_1_6
-takes_as_1_6 (Annotate grammar file as_1_6 function form color) = as_1_6
-takes_as_1_6 (Graph grammar file as_1_6 function) = as_1_6
-takes_as_1_6 _ = false
-
--- a file's bytes as they are taken
-abbrev pub taken : Bool → List ℕ → List ℕ
-taken as_1_6 bytes = if as_1_6 then version_1_6 bytes else bytes
-
--- the bytes of its file as the command takes them
-abbrev pub taken_by : Command → List ℕ → List ℕ
-taken_by command bytes = taken (takes_as_1_6 command) bytes
 
 -- The text is what codes say, of all or of one: as lines, or as an object of JSON for each.
 abbrev pub AreRules : Option AnyCode → Bool → List ℕ → Type 0
@@ -86,11 +68,6 @@ abbrev pub detail_of : Bool → Detail
 detail_of true = Full
 detail_of false = Short
 
--- what is looked at: with `--extended` the operands of extended instructions too
-abbrev pub reach_of : Bool → Reach
-reach_of true = Extended
-reach_of false = Profile
-
 -- A writer that held the bytes `old` now also holds what a task writes of a module's bytes, and nothing else: the
 -- verdict line, or that line and those that explain it. The answer tells whether the line is `valid`.
 abbrev pub DoesTask : Task → Table → Reach → List ℕ → List ℕ → Option (List ℕ) → Bool → Type 0
@@ -111,81 +88,84 @@ view_of forms.Page color file = views.Page file
 -- bytes of its file, and nothing else: a task what it writes of this one of its files, `show` the text or the line of a
 -- fault, `asm` the line of a fault or nothing, `trace` the run or the verdict line, `annotate` and `graph` what people
 -- look at or the verdict line, `rules` what codes say, of no table and no file, `grammar` the grammar file of the
--- table. The file that `asm` makes held the bytes `held`, where they are known, and now also holds the module. The
--- answer tells whether the line is `valid`, or the text, the module or the run was written.
+-- table. Of a module it reads the bytes as it takes them, and looks at them as far as is asked for. The file that `asm`
+-- makes held the bytes `held`, where they are known, and now also holds the module. The answer tells whether the line is
+-- `valid`, or the text, the module or the run was written.
 abbrev pub Does : Command → Table → List ℕ → Option (List ℕ) → Option (List ℕ) → Option (List ℕ)
     → Option (List ℕ) → Bool → Type 0
-Does (Judge task grammar files as_1_6 extended naming quiet json) G bytes old new held kept answer =
-    IfSome old (λ xs. DoesTask task G (reach_of extended) bytes xs new answer)
-Does (Show grammar file as_1_6) G bytes old new held kept answer = IfSome old (λ xs. Shows G bytes xs new answer)
-Does (Asm grammar file out big explain) G bytes old new held kept answer =
-    Assembles G (order_of big) explain bytes old new held kept answer
-Does (Trace grammar file function choices limit as_1_6 extended) G bytes old new held kept answer =
-    IfSome old (λ xs. Traces G (reach_of extended) function choices.items limit bytes xs new answer)
-Does (Annotate grammar file as_1_6 function form color) G bytes old new held kept answer =
-    IfSome old (λ xs. Views (view_of form color file) G function bytes xs new answer)
-Does (Graph grammar file as_1_6 function) G bytes old new held kept answer =
-    IfSome old (λ xs. Views views.Graph G function bytes xs new answer)
+Does (Judge task grammar files scope naming quiet json) G bytes old new held kept answer =
+    IfSome old (λ xs. DoesTask task G (reach_of scope bytes) (taken scope bytes) xs new answer)
+Does (Show grammar file scope) G bytes old new held kept answer =
+    IfSome old (λ xs. Shows G (reach_of scope bytes) (taken scope bytes) xs new answer)
+Does (Asm grammar file out big explain opencl) G bytes old new held kept answer =
+    Assembles G (order_of big) explain opencl bytes old new held kept answer
+Does (Trace grammar file function choices limit scope) G bytes old new held kept answer =
+    IfSome old (λ xs. Traces G (reach_of scope bytes) function choices.items limit (taken scope bytes) xs new answer)
+Does (Annotate grammar file scope function form color) G bytes old new held kept answer =
+    IfSome old (λ xs. Views (view_of form color file) G (reach_of scope bytes) function (taken scope bytes) xs new answer)
+Does (Graph grammar file scope function) G bytes old new held kept answer =
+    IfSome old (λ xs. Views views.Graph G (reach_of scope bytes) function (taken scope bytes) xs new answer)
 Does (Rules code json) G bytes old new held kept answer = WritesRules code json old new × (answer ≡ true)
 Does (Grammar file) G bytes old new held kept answer = WritesGrammar G old new × (answer ≡ true)
 
--- The same of the bytes as the command takes them, under the table of a run with a grammar file of this text, or
--- without one.
+-- The same under the table of a run with a grammar file of this text, or without one.
 pub record DoesByText (command : Command) (text : Option (List ℕ)) (bytes : List ℕ)
     (old new held kept : Option (List ℕ)) (answer : Bool) : Type 0 where
   pub table : Table
   pub given : IsTableOf text table
-  pub does : Does command table (taken_by command bytes) old new held kept answer
+  pub does : Does command table bytes old new held kept answer
 
 -- the command makes no file
 abbrev pub MakesNothing : Command → Type 0
-MakesNothing (Asm grammar file out big explain) = ⊥
+MakesNothing (Asm grammar file out big explain opencl) = ⊥
 MakesNothing _ = Unit {0}
 
--- the command reads a text, and the bytes of its file, if they are known, are none
+-- the command reads a text, and the bytes of its file, if they are known, are none as it reads them
 abbrev pub IsNoText : Command → Option (List ℕ) → Type 0
-IsNoText (Asm grammar file out big explain) known = IfSome known (λ bytes. ¬ (IsUtf8 bytes))
+IsNoText (Asm grammar file out big explain opencl) known = IfSome known (λ bytes. ¬ (IsUtf8 (text_read opencl bytes)))
 IsNoText _ known = ⊥
 
 -- the command asks for a run, and the bytes of its file, if they are known, are a valid module in which the function
 -- is no entry point's
 abbrev pub LacksEntry : Command → Table → Option (List ℕ) → Type 0
-LacksEntry (Trace grammar file function choices limit as_1_6 extended) G known =
-    IfSome known (λ bytes. HasNoEntry G (reach_of extended) bytes function)
+LacksEntry (Trace grammar file function choices limit scope) G known =
+    IfSome known (λ bytes. HasNoEntry G (reach_of scope bytes) (taken scope bytes) function)
 LacksEntry _ G known = ⊥
 
--- the same of the bytes as the command takes them, under the table of a run
+-- the same under the table of a run
 pub record LacksEntryByText (command : Command) (text : Option (List ℕ)) (known : Option (List ℕ)) : Type 0 where
   pub table : Table
   pub given : IsTableOf text table
-  pub lacks : LacksEntry command table (option_map (taken_by command) known)
+  pub lacks : LacksEntry command table known
 
 -- the command asks for a function, and the bytes of its file, if they are known, are a module in which functions can be
 -- told apart, and which has no such one
 abbrev pub LacksAsked : Command → Table → Option (List ℕ) → Type 0
-LacksAsked (Annotate grammar file as_1_6 function form color) G known =
-    IfSome known (λ bytes. LacksFunction G bytes function)
-LacksAsked (Graph grammar file as_1_6 function) G known = IfSome known (λ bytes. LacksFunction G bytes function)
+LacksAsked (Annotate grammar file scope function form color) G known =
+    IfSome known (λ bytes. LacksFunction G (reach_of scope bytes) (taken scope bytes) function)
+LacksAsked (Graph grammar file scope function) G known =
+    IfSome known (λ bytes. LacksFunction G (reach_of scope bytes) (taken scope bytes) function)
 LacksAsked _ G known = ⊥
 
--- the same of the bytes as the command takes them, under the table of a run
+-- the same under the table of a run
 pub record LacksAskedByText (command : Command) (text : Option (List ℕ)) (known : Option (List ℕ)) : Type 0 where
   pub table : Table
   pub given : IsTableOf text table
-  pub lacks : LacksAsked command table (option_map (taken_by command) known)
+  pub lacks : LacksAsked command table known
 
 -- the command asks for a function by a name that several have, and the bytes of its file, if they are known, are a
 -- module in which they do
 abbrev pub IsAmbiguous : Command → Table → Option (List ℕ) → Type 0
-IsAmbiguous (Trace grammar file function choices limit as_1_6 extended) G known =
-    IfSome known (λ bytes. HasSeveral G (reach_of extended) bytes function)
-IsAmbiguous (Annotate grammar file as_1_6 function form color) G known =
-    IfSome known (λ bytes. NamesSeveral G bytes function)
-IsAmbiguous (Graph grammar file as_1_6 function) G known = IfSome known (λ bytes. NamesSeveral G bytes function)
+IsAmbiguous (Trace grammar file function choices limit scope) G known =
+    IfSome known (λ bytes. HasSeveral G (reach_of scope bytes) (taken scope bytes) function)
+IsAmbiguous (Annotate grammar file scope function form color) G known =
+    IfSome known (λ bytes. NamesSeveral G (reach_of scope bytes) (taken scope bytes) function)
+IsAmbiguous (Graph grammar file scope function) G known =
+    IfSome known (λ bytes. NamesSeveral G (reach_of scope bytes) (taken scope bytes) function)
 IsAmbiguous _ G known = ⊥
 
--- the same of the bytes as the command takes them, under the table of a run
+-- the same under the table of a run
 pub record IsAmbiguousByText (command : Command) (text : Option (List ℕ)) (known : Option (List ℕ)) : Type 0 where
   pub table : Table
   pub given : IsTableOf text table
-  pub ambiguous : IsAmbiguous command table (option_map (taken_by command) known)
+  pub ambiguous : IsAmbiguous command table known

@@ -52,10 +52,15 @@ trouble_text trouble.NoFunction = function_line
 trouble_text trouble.SeveralFunctions = use_line
 trouble_text (trouble.Grammar e) = grammar_text e
 
--- what a file that could not be read is told as
-abbrev pub unread_trouble : Unread → Trouble
-unread_trouble unread.File = trouble.File
-unread_trouble unread.Memory = trouble.Memory
+-- what a file that was not read is told as in an object, and by a line: want of memory, or that it was not read,
+-- whatever the trouble was
+abbrev pub unread_of : Trouble → Unread
+unread_of trouble.Memory = unread.Memory
+unread_of t = unread.File
+
+abbrev pub file_trouble : Trouble → Trouble
+file_trouble trouble.Memory = trouble.Memory
+file_trouble t = trouble.File
 
 -- A writer that held the bytes `old` now also holds a beginning of the line, and nothing else.
 pub record BeginsWith (line old : List ℕ) (new : Option (List ℕ)) : Type 0 where

@@ -6,13 +6,10 @@ ghost use Rattle.spv_commands.specs.Answer.{Answers, IsRefusal};
 ghost use Rattle.spv_commands.specs.Output.{bytes_in, status_of, written_err, written_made, written_out};
 ghost use Rattle.spv_commands.specs.Trouble.{grammar_text, trouble_text};
 
-use crate::asked::is_as_1_6;
-use crate::judging::take_as;
 use crate::replying::{Reply, reply_to, ruled};
-use crate::trouble::Trouble;
+use crate::trouble::{Trouble, file_trouble};
 use spv_builtin::table_of;
 use spv_command_line::Command;
-use spv_explain::Unread;
 use spv_grammar::GrammarError;
 use spv_table::Table;
 use std::alloc::Global;
@@ -23,19 +20,15 @@ fn answer_by(
     alloc: Global,
     command: &Command,
     table: &Table,
-    file: Result<Vec<u8>, Unread>,
+    file: Result<Vec<u8>, Trouble>,
 ) -> Result<Reply, Trouble>
     ensures { (text : Option (List ℕ)) → IsTableOf text table.now
         → Answers command.now text (bytes_in file) (written_out result) (written_made result) (written_err result)
         (status_of result) }
 {
     match file {
-        Ok(bytes) => {
-            let mut bytes = bytes;
-            take_as(is_as_1_6(command), &mut bytes);
-            reply_to(alloc, command, table, bytes)
-        }
-        Err(why) => Err(Trouble::from(why)),
+        Ok(bytes) => reply_to(alloc, command, table, bytes),
+        Err(trouble) => Err(file_trouble(trouble)),
     }
 }
 
@@ -76,7 +69,7 @@ pub fn answer(
     alloc: Global,
     command: &Command,
     grammar: Option<&[u8]>,
-    file: Result<Vec<u8>, Unread>,
+    file: Result<Vec<u8>, Trouble>,
 ) -> Result<Reply, Trouble>
     ensures { Answers command.now (option_map (λ g. g.now) grammar.entry) (bytes_in file) (written_out result)
         (written_made result) (written_err result) (status_of result) }

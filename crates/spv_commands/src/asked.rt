@@ -1,12 +1,11 @@
 //! What the options of a command ask for.
 ghost use Rattle.std.specs.Prelude.{◌≡◌, IfOk};
 ghost use Rattle.spv_commands.specs.Assemble.{order_of};
-ghost use Rattle.spv_commands.specs.Task.{AreRules, detail_of, is_colored, reach_of, takes_as_1_6, view_of};
+ghost use Rattle.spv_commands.specs.Task.{AreRules, detail_of, is_colored, view_of};
 ghost use Rattle.spv_commands.specs.inner.Asked as asked;
 
-use spv_command_line::{AnyCode, Color, Command, Form, Task};
+use spv_command_line::{AnyCode, Color, Command, Form, Scope, Task};
 use spv_explain::{Detail, rules_json, rules_text};
-use spv_extended::Reach;
 use spv_views::View;
 use spv_words::Order;
 use std::alloc::{AllocError, Global};
@@ -27,17 +26,6 @@ pub fn detail_by(full: bool) -> Detail
     ensures { result ≡ detail_of full }
 {
     if full { Detail::Full } else { Detail::Short }
-}
-
-/// What is looked at, where the operands of extended instructions are to be looked at too, or are not.
-pub fn reach_by(extended: bool) -> Reach
-    ensures { result ≡ reach_of extended }
-{
-    if extended {
-        Reach::Extended
-    } else {
-        Reach::Profile
-    }
 }
 
 /// The order in which the bytes of words are written.
@@ -84,17 +72,17 @@ pub fn how_by<'a>(command: &Command<'a>) -> View<'a>
     }
 }
 
-/// Whether a command takes a module of an earlier version as one of 1.6.
-pub fn is_as_1_6(command: &Command) -> bool
-    ensures { result ≡ takes_as_1_6 command.now }
-{
+/// As which version a command reads a module, and how far it looks at it.
+pub fn scope_of(command: &Command) -> Scope {
     match command {
-        Command::Judge { as_1_6, .. }
-        | Command::Show { as_1_6, .. }
-        | Command::Trace { as_1_6, .. }
-        | Command::Annotate { as_1_6, .. }
-        | Command::Graph { as_1_6, .. } => *as_1_6,
-        Command::Asm { .. } | Command::Rules { .. } | Command::Grammar { .. } => false,
+        Command::Judge { scope, .. }
+        | Command::Show { scope, .. }
+        | Command::Trace { scope, .. }
+        | Command::Annotate { scope, .. }
+        | Command::Graph { scope, .. } => *scope,
+        Command::Asm { .. } | Command::Rules { .. } | Command::Grammar { .. } => {
+            Scope::Own { as_1_6: false }
+        }
     }
 }
 

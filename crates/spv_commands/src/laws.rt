@@ -1,34 +1,34 @@
 //! What follows from the definitions of what is shown and of a grammar file's table. Each function does nothing: its
 //! contract is what is proved.
-ghost use Rattle.std.specs.Prelude.{◌≡◌, ◌++◌, ◌∷◌, [], ℕ, List, Option, Some, None, Bool, true, false, Ok, Err, codes};
+ghost use Rattle.std.specs.Prelude.{◌≡◌, ◌≢◌, ◌++◌, ◌∷◌, [], ℕ, List, Option, Some, None, Bool, true, false, Ok, Err};
+ghost use Rattle.std.specs.Prelude.{codes};
 ghost use Rattle.spv_words.specs.declared.words.Order.{Order};
 ghost use Rattle.spv_table.specs.Table.{Table};
 ghost use Rattle.spv_extended.specs.declared.reach.Reach.{Reach};
-ghost use Rattle.spv_extended.specs.declared.reach.Reach.TheVariants.{Extended};
 ghost use Rattle.spv_builtin.specs.Text.{IsGrammarText};
 ghost use Rattle.spv_table.specs.Example.{empty_table};
 ghost use Rattle.spv_commands.specs.Example.{answer_of, empty_grammar, reader_of, writer_of};
 ghost use Rattle.spv_explain.specs.Lines.{refused_text};
 ghost use Rattle.spv_fault_lines.specs.declared.fact.Detail.{Detail};
 ghost use Rattle.spv_fault_lines.specs.declared.fact.Detail.TheVariants.{Full, Short};
-ghost use Rattle.spv_commands.specs.Task.{detail_of, reach_of};
+ghost use Rattle.spv_commands.specs.Task.{detail_of};
 ghost use Rattle.spv_explain.specs.Stream.{BeginsExplaining, Explains};
 ghost use Rattle.spv_words.specs.declared.words.WordError.TheVariants.{W2};
 ghost use Rattle.spv_commands.specs.Show.{BeginsShowing, IsShowing, Shows};
-ghost use Rattle.spv_commands.specs.Assemble.{Assembles, BeginsAssembling};
+ghost use Rattle.spv_commands.specs.Assemble.{Assembles, BeginsAssembling, HoldsModule, in_version, minor_asked, text_read};
+ghost use Rattle.spv_scope.specs.declared.scope.Scope.TheVariants.{Own};
 ghost use Rattle.spv_names.specs.declared.chosen.Chosen.{Chosen};
 ghost use Rattle.spv_commands.specs.Trace.{BeginsTracing, HasNoEntry, HasSeveral, Traces, step_line, trace_text};
 ghost use Rattle.spv_run.specs.declared.parts.Ending.TheVariants.{Finished, Limit};
 ghost use Rattle.spv_commands.specs.Task.{DoesByText, MakesNothing, ReadsNoFile};
-ghost use Rattle.spv_commands.specs.Task.{AreRules, WritesGrammar, taken};
+ghost use Rattle.spv_commands.specs.Task.{AreRules, WritesGrammar};
 ghost use Rattle.spv_rules.specs.declared.errors.AnyCode.{AnyCode};
 ghost use Rattle.spv_rules.specs.declared.errors.AnyCode.TheVariants.{Error};
 ghost use Rattle.spv_rules.specs.declared.errors.ErrorCode.TheVariants.{J5};
-ghost use Rattle.spv_commands.specs.Trouble.{BeginsWith, Gets, Writes, file_line, memory_line, unread_trouble};
+ghost use Rattle.spv_commands.specs.Trouble.{BeginsWith, Gets, Writes, file_line, file_trouble, memory_line, unread_of};
 ghost use Rattle.spv_commands.specs.Streams.{IsAnswered, IsDone};
 ghost use Rattle.spv_commands.specs.Answer.{Answers, IsRefusal};
 ghost use Rattle.spv_commands.specs.Part.{IsPart, Known, heading, told_line, unread_text};
-ghost use Rattle.spv_explain.specs.declared.answers.Unread.TheVariants.{File};
 ghost use Rattle.spv_explain.specs.declared.answers.Unread.TheVariants as unread;
 ghost use Rattle.spv_commands.specs.declared.trouble.Trouble.TheVariants as trouble;
 ghost use Rattle.spv_commands.specs.declared.judging.Telling.TheVariants.{Bare, Json, Named};
@@ -45,10 +45,10 @@ use spv_lines::one_shown;
 
 /// Bytes are shown in one way.
 pub fn one_showing()
-    ensures output { (G : Table) (bytes one other : List ℕ) (a b : Bool) → IsShowing G bytes one a
-        → IsShowing G bytes other b → one ≡ other }
-    ensures answer { (G : Table) (bytes one other : List ℕ) (a b : Bool) → IsShowing G bytes one a
-        → IsShowing G bytes other b → a ≡ b }
+    ensures output { (G : Table) (reach : Reach) (bytes one other : List ℕ) (a b : Bool) → IsShowing G reach bytes one a
+        → IsShowing G reach bytes other b → one ≡ other }
+    ensures answer { (G : Table) (reach : Reach) (bytes one other : List ℕ) (a b : Bool) → IsShowing G reach bytes one a
+        → IsShowing G reach bytes other b → a ≡ b }
 {
     spv_words::laws::one_word_list();
     spv_words::laws::one_refusal();
@@ -61,11 +61,12 @@ pub fn one_showing()
 /// Worked examples of what is shown.
 pub fn show_examples()
     // A writer that held the byte 9 got the line of three bytes, which are no module and have no text.
-    ensures shows { (G : Table) → Shows G (1 ∷ 2 ∷ 3 ∷ []) (9 ∷ [])
+    ensures shows { (G : Table) (reach : Reach) → Shows G reach (1 ∷ 2 ∷ 3 ∷ []) (9 ∷ [])
         (Some (9 ∷ codes "fault W2" ++ line_end)) false }
-    ensures shows_text { (G : Table) (new : Option (List ℕ)) → ¬ (Shows G (1 ∷ 2 ∷ 3 ∷ []) [] new true) }
+    ensures shows_text { (G : Table) (reach : Reach) (new : Option (List ℕ)) → ¬ (Shows G reach (1 ∷ 2 ∷ 3 ∷ []) [] new true) }
     // The first five bytes of that line.
-    ensures begins { (G : Table) → BeginsShowing G (1 ∷ 2 ∷ 3 ∷ []) (9 ∷ []) (Some (9 ∷ codes "fault")) }
+    ensures begins { (G : Table) (reach : Reach)
+        → BeginsShowing G reach (1 ∷ 2 ∷ 3 ∷ []) (9 ∷ []) (Some (9 ∷ codes "fault")) }
 {
     spv_words::laws::examples();
     spv_words::laws::one_refusal();
@@ -91,24 +92,21 @@ pub fn explain_examples()
 pub fn detail_examples()
     ensures full { detail_of true ≡ Full }
     ensures not_full { ¬ (detail_of false ≡ Full) }
-    // With `--extended` alone the operands of extended instructions are looked at.
-    ensures extended { reach_of true ≡ Extended }
-    ensures not_extended { ¬ (reach_of false ≡ Extended) }
 {}
 
 /// Worked examples of what a text is assembled to.
 pub fn assemble_examples()
     // Three characters are no header: the writer that held the byte 9 got the line, and nothing is made.
     ensures assembles { (G : Table) (o : Order)
-        → Assembles G o false (1 ∷ 2 ∷ 3 ∷ []) (Some (9 ∷ [])) (Some (9 ∷ codes "fault S1 line 1" ++ line_end))
+        → Assembles G o false false (1 ∷ 2 ∷ 3 ∷ []) (Some (9 ∷ [])) (Some (9 ∷ codes "fault S1 line 1" ++ line_end))
         (Some []) (Some []) false }
-    ensures assembles_none { (G : Table) (o : Order) (explain : Bool) (old new held kept : Option (List ℕ))
-        → ¬ (Assembles G o explain (1 ∷ 2 ∷ 3 ∷ []) old new held kept true) }
+    ensures assembles_none { (G : Table) (o : Order) (explain opencl : Bool) (old new held kept : Option (List ℕ))
+        → ¬ (Assembles G o explain opencl (1 ∷ 2 ∷ 3 ∷ []) old new held kept true) }
     // The first five bytes of that line, and other bytes.
-    ensures begins { (G : Table) (o : Order) → BeginsAssembling G o false (1 ∷ 2 ∷ 3 ∷ []) (Some (9 ∷ []))
+    ensures begins { (G : Table) (o : Order) → BeginsAssembling G o false false (1 ∷ 2 ∷ 3 ∷ []) (Some (9 ∷ []))
         (Some (9 ∷ codes "fault")) (Some []) (Some []) }
-    ensures begins_none { (G : Table) (o : Order) (explain : Bool) (old new : Option (List ℕ))
-        → ¬ (BeginsAssembling G o explain (1 ∷ 2 ∷ 3 ∷ []) old new (Some []) (Some (3 ∷ []))) }
+    ensures begins_none { (G : Table) (o : Order) (explain opencl : Bool) (old new : Option (List ℕ))
+        → ¬ (BeginsAssembling G o explain opencl (1 ∷ 2 ∷ 3 ∷ []) old new (Some []) (Some (3 ∷ []))) }
 {}
 
 /// Worked examples of what is traced.
@@ -168,13 +166,17 @@ pub fn grammar_examples()
     ensures writes_nothing { (G : Table) → ¬ (WritesGrammar G (Some (9 ∷ [])) (Some [])) }
 {}
 
-/// Worked examples of modules that are taken as of another version.
+/// Worked examples of texts and modules of another version.
 pub fn version_examples()
-    // Version 1.4, in the order in which the lowest byte stands first, is taken as 1.6 only where that is asked for.
-    ensures taken { taken true (3 ∷ 2 ∷ 35 ∷ 7 ∷ 0 ∷ 4 ∷ 1 ∷ 0 ∷ 9 ∷ []) ≡ 3 ∷ 2 ∷ 35 ∷ 7 ∷ 0 ∷ 6 ∷ 1 ∷ 0 ∷ 9 ∷ [] }
-    ensures left { taken false (3 ∷ 2 ∷ 35 ∷ 7 ∷ 0 ∷ 4 ∷ 1 ∷ 0 ∷ 9 ∷ []) ≡ 3 ∷ 2 ∷ 35 ∷ 7 ∷ 0 ∷ 4 ∷ 1 ∷ 0 ∷ 9 ∷ [] }
-    // There is no version 1.7.
-    ensures unknown { ¬ (taken true (3 ∷ 2 ∷ 35 ∷ 7 ∷ 0 ∷ 7 ∷ 1 ∷ 0 ∷ []) ≡ 3 ∷ 2 ∷ 35 ∷ 7 ∷ 0 ∷ 6 ∷ 1 ∷ 0 ∷ []) }
+    // A text that tells version 1.4 is read as one of 1.6 only with `--opencl`, and then the module has that version.
+    ensures read { text_read true (codes "; SPIR-V\n; Version: 1.4\n") ≡ codes "; SPIR-V\n; Version: 1.6\n" }
+    ensures not_read { text_read false (codes "; SPIR-V\n; Version: 1.4\n") ≢ codes "; SPIR-V\n; Version: 1.6\n" }
+    ensures asked { minor_asked true (codes "; SPIR-V\n; Version: 1.4\n") ≡ Some 4 }
+    ensures not_asked { minor_asked false (codes "; SPIR-V\n; Version: 1.4\n") ≡ None }
+    ensures made { in_version (Some 4) (3 ∷ 2 ∷ 35 ∷ 7 ∷ 0 ∷ 6 ∷ 1 ∷ 0 ∷ 9 ∷ []) ≡ 3 ∷ 2 ∷ 35 ∷ 7 ∷ 0 ∷ 4 ∷ 1 ∷ 0 ∷ 9 ∷ [] }
+    ensures left { in_version None (3 ∷ 2 ∷ 35 ∷ 7 ∷ 0 ∷ 6 ∷ 1 ∷ 0 ∷ 9 ∷ []) ≢ 3 ∷ 2 ∷ 35 ∷ 7 ∷ 0 ∷ 4 ∷ 1 ∷ 0 ∷ 9 ∷ [] }
+    // The file that is made holds no module where nothing was written.
+    ensures holds_none { (o : Order) (words : List ℕ) (n : ℕ) → ¬ (HoldsModule o None words [] None n) }
 {}
 
 /// Worked examples of names in lines.
@@ -212,11 +214,11 @@ pub fn part_examples()
     // A file that is known not to open is told on the standard error, and never judged; where objects are written it
     // has one too.
     ensures part { (G : Table) (how : Judging) → IsPart G how (codes "a") (Some None)
-        (unread_text how.telling (codes "a") File) (codes "a: error file" ++ line_end) 2 }
+        (unread_text how.telling (codes "a") trouble.File) (codes "a: error file" ++ line_end) 2 }
     ensures no_part { (G : Table) (how : Judging) (line : List ℕ)
         → ¬ (IsPart G how (codes "a") (Some None) line [] 0) }
-    ensures no_text { unread_text Named (codes "a") File ≡ [] }
-    ensures object { unread_text Json (codes "a.spv") File
+    ensures no_text { unread_text Named (codes "a") trouble.File ≡ [] }
+    ensures object { unread_text Json (codes "a.spv") trouble.File
         ≡ codes "{\"file\":\"a.spv\",\"verdict\":\"error\",\"error\":\"file\"}" ++ line_end }
     // Names stand before verdicts where that is asked for.
     ensures heading { heading Named (codes "a") ≡ codes "a: " }
@@ -243,7 +245,7 @@ pub fn rule_examples()
 pub fn answer_examples()
     // Three bytes are no module: `show` answers the line of the fault, and the status is 1; it is never 3.
     ensures answers { (grammar : Option (Bor (List ℕ))) (name : Bor (List ℕ))
-        → Answers (Show grammar name false) (Some empty_grammar) (Some (1 ∷ 2 ∷ 3 ∷ []))
+        → Answers (Show grammar name (Own false)) (Some empty_grammar) (Some (1 ∷ 2 ∷ 3 ∷ []))
         (codes "fault W2" ++ line_end) [] [] 1 }
     ensures not_answered { (command : Command) (text file : Option (List ℕ)) (out made err : List ℕ)
         → ¬ (Answers command text file out made err 3) }
@@ -251,11 +253,13 @@ pub fn answer_examples()
     ensures refusal { (command : Command) (file : Option (List ℕ))
         → IsRefusal command (Some []) file (codes "error J1" ++ line_end) }
     ensures no_refusal { (command : Command) (file : Option (List ℕ)) → ¬ (IsRefusal command (Some []) file file_line) }
-    // A file that could not be read is told, and what an unread one is told as.
-    ensures trouble { unread_trouble unread.File ≡ trouble.File }
-    ensures other_trouble { ¬ (unread_trouble unread.Memory ≡ trouble.File) }
+    // What a file that was not read is told as, in an object and by a line.
+    ensures unread { unread_of trouble.File ≡ unread.File }
+    ensures other_unread { ¬ (unread_of trouble.Memory ≡ unread.File) }
+    ensures trouble { file_trouble trouble.File ≡ trouble.File }
+    ensures other_trouble { ¬ (file_trouble trouble.Use ≡ trouble.Use) }
     // The line of why a file was not judged stands behind its name; nothing is told of one that was.
-    ensures told { told_line (codes "a") (Some unread.File) ≡ codes "a: error file" ++ line_end }
+    ensures told { told_line (codes "a") (Some trouble.File) ≡ codes "a: error file" ++ line_end }
     ensures not_told { ¬ (told_line (codes "a") None ≡ codes "a: error file" ++ line_end) }
 {
     spv_grammar::laws::table_examples();

@@ -27,12 +27,10 @@ pub use reasons::{entry_points, refusal_help};
 pub use replying::{Reply, assembled, fault, reply_to, shown, too_long, traced};
 pub use spv_builtin::grammar_reason;
 pub use spv_command_line::{
-    AnyCode, Code, Color, Command, ErrorCode, Form, Naming, Task, UseError, advice, arguments,
-    arguments_in, help, is_verbose, text_asked,
+    AnyCode, Code, Color, Command, ErrorCode, Form, Naming, Scope, Task, UseError, advice,
+    arguments, arguments_in, help, is_verbose, text_asked,
 };
-pub use spv_explain::Unread;
 pub use spv_extended::Reach;
 pub use spv_table::Table;
-pub use spv_words::{VersionSource, Versioned};
 pub use trouble::{Trouble, report};
 pub use writing::write_on;

@@ -1,13 +1,13 @@
 //! What is told to people behind the line of an error. Nothing is promised of its words.
-use crate::asked::is_as_1_6;
-use spv_builtin::table_of;
+ghost use Rattle.std.specs.Prelude.{◌≤◌, ◌+◌, length};
+
+use crate::asked::scope_of;
+use crate::replying::{image_in, take_as};
+use simdutf8::basic::from_utf8;
 use spv_command_line::{Command, Task, shown_word};
 use spv_fault_lines::{front_of, help_for};
-use spv_grammar::GrammarError;
-use spv_inst::decode;
-use spv_module::{Inst, Operand, Stop, opcode};
-use spv_table::Table;
-use spv_words::{Image, WordError, image_of, replace_version};
+use spv_module::opcode;
+use spv_words::{Image, WordError, image_of, replace_version, word};
 use std::alloc::{AllocError, Global};
 
 /// Adds the id of an entry point's function.
@@ -23,70 +23,66 @@ fn push_name(alloc: Global, out: &mut String, name: &str) -> Result<(), AllocErr
     out.push_str("\n")
 }
 
-/// Adds a line for an instruction that is an OpEntryPoint: its function and its name.
-fn push_entry(alloc: Global, out: &mut String, inst: &Inst<'_>) -> Result<(), AllocError> {
-    if inst.opcode != opcode::ENTRY_POINT {
-        return Ok(());
-    }
-    for operand in inst.operands.as_slice() {
-        match operand {
-            Operand::Id(id) => push_function(alloc, out, *id)?,
-            Operand::Text(name) => return push_name(alloc, out, name),
-            _ => {}
-        }
-    }
-    Ok(())
-}
-
-/// Adds a line for each OpEntryPoint of the module that these words are. Nothing where they are none.
-fn push_entries(
-    alloc: Global,
-    out: &mut String,
-    table: &Table,
-    image: &Image,
-) -> Result<(), AllocError> {
-    let module = match decode(alloc, table, image) {
-        Ok(module) => module,
-        Err(Stop::Memory) => return Err(AllocError),
-        Err(Stop::Fault(_)) => return Ok(()),
+/// The text at the front of octets, up to a zero octet. Empty where it is none.
+fn text_at(octets: &[u8]) -> &str {
+    let Some(size) = octets.iter().position(|octet| *octet == 0) else {
+        return "";
     };
-    for inst in &module.insts {
-        push_entry(alloc, out, inst)?;
+    match from_utf8(&octets[..size]) {
+        Ok(text) => text,
+        Err(_) => "",
+    }
+}
+
+/// Adds a line for the OpEntryPoint whose words these are: the first, the execution model, the id of the function, and
+/// the name.
+fn push_entry(
+    alloc: Global,
+    out: &mut String,
+    image: &Image,
+    at: u32,
+    end: u32,
+) -> Result<(), AllocError>
+    requires order { at + 3 ≤ end }
+    requires within { end ≤ length image.now }
+{
+    let _words = image.len();
+    push_function(alloc, out, word(image, at + 2))?;
+    let name = &image.octets()[(at as usize + 3) * 4..end as usize * 4];
+    push_name(alloc, out, text_at(name))
+}
+
+/// Adds a line for each OpEntryPoint of the valid module that these words are. They need not be decoded again: each
+/// instruction tells how many words it takes.
+fn push_entries(alloc: Global, out: &mut String, image: &Image) -> Result<(), AllocError> {
+    let end = image.len();
+    let mut at: u32 = 5;
+    while at < end {
+        let first = word(image, at);
+        let size = first / 65536;
+        if size == 0 || size > end - at {
+            return Ok(());
+        }
+        if first % 65536 == u32::from(opcode::ENTRY_POINT) && size > 3 {
+            push_entry(alloc, out, image, at, at + size)?;
+        }
+        at += size;
     }
     Ok(())
 }
 
-/// Adds a line for each OpEntryPoint of the module of these bytes. Nothing where they are none.
-fn push_module(
-    alloc: Global,
-    out: &mut String,
-    table: &Table,
-    bytes: &[u8],
-) -> Result<(), AllocError> {
-    let mut bytes = Vec::from_slice(alloc, bytes)?;
-    replace_version(&mut bytes);
-    match image_of(alloc, &bytes) {
-        Ok((image, _)) => push_entries(alloc, out, table, &image),
-        Err(WordError::W9) => Err(AllocError),
-        Err(_) => Ok(()),
-    }
-}
-
-/// The entry points of the module of these bytes, by the table of a grammar file's text or the built-in one, a line
-/// each: the id of its function, and its name. Nothing where they are no module, or the grammar file is refused.
+/// The entry points of the valid module of these bytes, a line each: the id of its function, and its name.
 ///
 /// # Errors
 ///
 /// Where a growth of memory was refused; there is no other.
-pub fn entry_points(
-    alloc: Global,
-    grammar: Option<&[u8]>,
-    bytes: &[u8],
-) -> Result<String, AllocError> {
+pub fn entry_points(alloc: Global, bytes: &[u8]) -> Result<String, AllocError> {
     let mut out = String::new(alloc);
-    match table_of(alloc, grammar) {
-        Ok(table) => push_module(alloc, &mut out, &table, bytes)?,
-        Err(GrammarError::J8) => return Err(AllocError),
+    let mut bytes = Vec::from_slice(alloc, bytes)?;
+    replace_version(&mut bytes);
+    match image_in(bytes) {
+        Ok((image, _)) => push_entries(alloc, &mut out, &image)?,
+        Err(WordError::W9) => return Err(AllocError),
         Err(_) => {}
     }
     Ok(out)
@@ -116,9 +112,7 @@ pub fn refusal_help(alloc: Global, command: &Command, bytes: &[u8]) -> Result<St
         return Ok(out);
     }
     let mut bytes = Vec::from_slice(alloc, bytes)?;
-    if is_as_1_6(command) {
-        replace_version(&mut bytes);
-    }
+    take_as(scope_of(command), &mut bytes);
     match image_of(alloc, &bytes) {
         Ok(_) => {}
         Err(WordError::W9) => return Err(AllocError),

@@ -12,7 +12,8 @@ ghost use Rattle.spv_check.specs.Verdict.{valid_line};
 ghost use Rattle.spv_fault_lines.specs.declared.fact.Detail.{Detail};
 ghost use Rattle.spv_explain.specs.Stream.{Explains, IsExplanation};
 ghost use Rattle.spv_views.specs.View.{LacksFunction, NamesSeveral, Views};
-ghost use Rattle.spv_commands.specs.Assemble.{Assembles};
+ghost use Rattle.spv_scope.specs.Scope.{reach_of, taken};
+ghost use Rattle.spv_commands.specs.Assemble.{Assembles, HoldsModule, in_version, minor_asked, text_read};
 ghost use Rattle.spv_commands.specs.Output.{is_done, made_of, out_of};
 ghost use Rattle.spv_commands.specs.Show.{Shows};
 ghost use Rattle.spv_commands.specs.Task.{DoesTask, WritesGrammar, WritesRules};
@@ -24,7 +25,7 @@ ghost use Rattle.spv_commands.specs.declared.asked.Reads.TheVariants.{Module};
 ghost use Rattle.spv_commands.specs.declared.trouble.Trouble.TheVariants.{Memory, NoEntry, NoFunction, NotText};
 ghost use Rattle.spv_commands.specs.declared.trouble.Trouble.TheVariants.{SeveralFunctions};
 
-use crate::asked::{detail_by, how_by, is_explaining, order_by, reach_by, rules_bytes};
+use crate::asked::{detail_by, how_by, is_explaining, order_by, rules_bytes};
 use crate::assembling::{Assembly, assembly_of};
 use crate::outgoing::Output;
 use crate::showing::{Shown, shown_of};
@@ -32,10 +33,11 @@ use crate::text_fault::text_fault;
 use crate::tracing::{Traced, traced_of};
 use crate::trouble::Trouble;
 use spv_builtin::grammar_text as text_of_grammar;
-use spv_command_line::{AnyCode, Command, Task};
+use spv_command_line::{AnyCode, Command, Scope, Task};
 use spv_explain::{Detail, Explanation, octets_told, too_long_told};
 use spv_extended::Reach;
 use spv_names::Chosen;
+use spv_scope::{put_minor, put_text_minor, text_minor};
 use spv_table::Table;
 use spv_verdict::{Judgment, Verdict, check, line_for};
 use spv_views::{View, ViewError, Viewed, view_image};
@@ -55,7 +57,7 @@ pub enum Reply {
 }
 
 /// The image of a module's bytes, which become it, and their order.
-fn image_in(bytes: Vec<u8>) -> Result<(Image, Order), WordError>
+pub fn image_in(bytes: Vec<u8>) -> Result<(Image, Order), WordError>
     ensures gives { IfOk result (λ p. IsModule p.1 bytes.items p.0) }
     ensures refused { IfErr result (λ e. IsFirstBroken e bytes.items) }
 {
@@ -183,16 +185,16 @@ pub fn judged(
 /// What `show` answers of a module's bytes.
 ///
 /// `Memory`: a growth of memory was refused. There is no other error.
-pub fn shown(alloc: Global, table: &Table, bytes: Vec<u8>) -> Result<Reply, Trouble>
-    ensures gives { IfOk result (Gives (Shows table.now) bytes.items) }
+pub fn shown(alloc: Global, table: &Table, reach: Reach, bytes: Vec<u8>) -> Result<Reply, Trouble>
+    ensures gives { IfOk result (Gives (Shows table.now reach) bytes.items) }
     ensures only { IfErr result (λ t. t ≡ Memory) }
 {
     let image = match image_in(bytes) {
         Ok((image, _)) => image,
         Err(code) => return Ok(fault(Judgment::Refused(code))),
     };
-    match shown_of(alloc, table, &image) {
-        Ok(Shown::Text(text)) => Ok(Reply::Done(Output::Bytes(text.into_bytes()))),
+    match shown_of(alloc, table, reach, &image) {
+        Ok(Shown::Text(text)) => Ok(Reply::Done(Output::Bytes(text))),
         Ok(Shown::Line(judgment)) => Ok(fault(judgment)),
         Err(_) => Err(Trouble::Memory),
     }
@@ -234,20 +236,21 @@ fn viewed(
     alloc: Global,
     table: &Table,
     how: View<'_>,
+    reach: Reach,
     function: Option<Chosen<'_>>,
     bytes: Vec<u8>,
 ) -> Result<Reply, Trouble>
-    ensures gives { IfOk result (Gives (Views how.entry table.now function.entry) bytes.items) }
+    ensures gives { IfOk result (Gives (Views how.entry table.now reach function.entry) bytes.items) }
     ensures only { IfErr result (λ t.
-        ((t ≡ NoFunction) × LacksFunction table.now bytes.items function.entry)
-        ⊎ ((t ≡ SeveralFunctions) × NamesSeveral table.now bytes.items function.entry) ⊎ (t ≡ Memory)) }
+        ((t ≡ NoFunction) × LacksFunction table.now reach bytes.items function.entry)
+        ⊎ ((t ≡ SeveralFunctions) × NamesSeveral table.now reach bytes.items function.entry) ⊎ (t ≡ Memory)) }
 {
     spv_words::laws::one_refusal();
     let image = match image_in(bytes) {
         Ok((image, _)) => image,
         Err(code) => return Ok(fault(Judgment::Refused(code))),
     };
-    match view_image(alloc, table, how, function, &image) {
+    match view_image(alloc, table, how, reach, function, &image) {
         Ok(Viewed::Text(text)) => Ok(Reply::Done(Output::Bytes(text.into_bytes()))),
         Ok(Viewed::Beginning(text)) => Ok(Reply::Fault(Output::Bytes(text.into_bytes()))),
         Ok(Viewed::Line(judgment)) => Ok(fault(judgment)),
@@ -257,18 +260,53 @@ fn viewed(
     }
 }
 
-/// The answer of the bytes of an image in an order.
-fn made(alloc: Global, order: Order, image: &Image) -> Result<Reply, Trouble>
-    ensures made { IfOk result (λ a. HoldsBytes order image.now [] (Some (made_of a)) (4 * length image.now)) }
-    ensures out { IfOk result (λ a. out_of a ≡ []) }
-    ensures done { IfOk result (λ a. is_done a ≡ true) }
+/// The bytes of an image in an order.
+fn octets_of(alloc: Global, order: Order, image: &Image) -> Result<Vec<u8>, Trouble>
+    ensures made { IfOk result (λ v. HoldsBytes order image.now [] (Some v.items) (4 * length image.now)) }
     ensures only { IfErr result (λ t. t ≡ Memory) }
 {
     let mut bytes = FromWrite::new(Vec::new(alloc));
     // They stand in memory, so it can only be its growth that fails.
     match write_image(image, order, &mut bytes) {
-        Ok(()) => Ok(Reply::Made(bytes.inner)),
+        Ok(()) => Ok(bytes.inner),
         Err(_) => Err(Trouble::Memory),
+    }
+}
+
+/// Makes bytes those of a module of another version, if one is given.
+fn put_version(minor: Option<u8>, bytes: &mut Vec<u8>)
+    ensures { bytes.new.items ≡ in_version minor bytes.old.items }
+{
+    if let Some(minor) = minor {
+        put_minor(bytes.as_mut_slice(), minor);
+    }
+}
+
+/// The answer of the bytes of an image in an order, and in another version, if one is given.
+fn made(alloc: Global, order: Order, minor: Option<u8>, image: &Image) -> Result<Reply, Trouble>
+    ensures made { IfOk result (λ a. HoldsModule order minor image.now [] (Some (made_of a)) (4 * length image.now)) }
+    ensures out { IfOk result (λ a. out_of a ≡ []) }
+    ensures done { IfOk result (λ a. is_done a ≡ true) }
+    ensures only { IfErr result (λ t. t ≡ Memory) }
+{
+    let mut bytes = octets_of(alloc, order, image)?;
+    put_version(minor, &mut bytes);
+    Ok(Reply::Made(bytes))
+}
+
+/// The minor number of the version that a module of a text is to have, if that is not left to the text as it is.
+fn minor_in(opencl: bool, text: &[u8]) -> Option<u8>
+    ensures { result ≡ minor_asked opencl text.now }
+{
+    if opencl { text_minor(text) } else { None }
+}
+
+/// Makes a text of a module of another version one of a module of 1.6, if that is asked for.
+fn put_read(opencl: bool, text: &mut Vec<u8>)
+    ensures { text.new.items ≡ text_read opencl text.old.items }
+{
+    if opencl {
+        put_text_minor(text.as_mut_slice(), 6);
     }
 }
 
@@ -285,7 +323,7 @@ fn assembly_in(
     assembly_of(alloc, table, explain, &bytes)
 }
 
-/// What `asm` answers of the bytes of a text.
+/// What `asm` answers of the bytes of a text, which may tell another version where `opencl` is asked for.
 ///
 /// # Errors
 ///
@@ -295,14 +333,18 @@ pub fn assembled(
     table: &Table,
     order: Order,
     explain: bool,
+    opencl: bool,
     bytes: Vec<u8>,
 ) -> Result<Reply, Trouble>
-    ensures gives { IfOk result (λ a. Assembles table.now order explain bytes.items
+    ensures gives { IfOk result (λ a. Assembles table.now order explain opencl bytes.items
         (Some []) (Some (out_of a)) (Some []) (Some (made_of a)) (is_done a)) }
-    ensures only { IfErr result (λ t. ((t ≡ NotText) × (¬ IsUtf8 bytes.items)) ⊎ (t ≡ Memory)) }
+    ensures only { IfErr result (λ t. ((t ≡ NotText) × (¬ IsUtf8 (text_read opencl bytes.items))) ⊎ (t ≡ Memory)) }
 {
+    let mut bytes = bytes;
+    let minor = minor_in(opencl, &bytes);
+    put_read(opencl, &mut bytes);
     match assembly_in(alloc, table, explain, bytes) {
-        Ok(Assembly::Made(image)) => made(alloc, order, &image),
+        Ok(Assembly::Made(image)) => made(alloc, order, minor, &image),
         Ok(Assembly::Fault(error)) => Ok(Reply::Fault(Output::Line(text_fault(error)))),
         Ok(Assembly::Told(lines)) => Ok(Reply::Fault(Output::Bytes(lines))),
         Err(trouble) => Err(trouble),
@@ -348,8 +390,91 @@ pub fn too_long(alloc: Global, command: &Command) -> Result<Reply, Trouble>
     explaining(alloc, &explanation)
 }
 
-/// What a command answers by a table of the bytes of its file, as it takes them. Of a command on several files it is
-/// that of this one.
+/// Makes the bytes of a file those that are read.
+pub fn take_as(scope: Scope, bytes: &mut Vec<u8>)
+    ensures { bytes.new.items ≡ taken scope bytes.old.items }
+{
+    scope.take(bytes.as_mut_slice());
+}
+
+/// What a task answers of the bytes of a file.
+fn judged_as(
+    alloc: Global,
+    task: Task,
+    table: &Table,
+    scope: Scope,
+    bytes: Vec<u8>,
+) -> Result<Reply, Trouble>
+    ensures gives { IfOk result (Gives (DoesTask task table.now (reach_of scope bytes.items))
+        (taken scope bytes.items)) }
+    ensures only { IfErr result (λ t. t ≡ Memory) }
+{
+    let mut bytes = bytes;
+    let reach = scope.reach(&bytes);
+    take_as(scope, &mut bytes);
+    judged(alloc, task, table, reach, bytes)
+}
+
+/// What `show` answers of the bytes of a file.
+fn shown_as(alloc: Global, table: &Table, scope: Scope, bytes: Vec<u8>) -> Result<Reply, Trouble>
+    ensures gives { IfOk result (Gives (Shows table.now (reach_of scope bytes.items)) (taken scope bytes.items)) }
+    ensures only { IfErr result (λ t. t ≡ Memory) }
+{
+    let mut bytes = bytes;
+    let reach = scope.reach(&bytes);
+    take_as(scope, &mut bytes);
+    shown(alloc, table, reach, bytes)
+}
+
+/// What `trace` answers of the bytes of a file.
+fn traced_as(
+    alloc: Global,
+    table: &Table,
+    scope: Scope,
+    function: Chosen<'_>,
+    choices: &[u32],
+    limit: u32,
+    bytes: Vec<u8>,
+) -> Result<Reply, Trouble>
+    ensures gives { IfOk result (Gives (Traces table.now (reach_of scope bytes.items) function.entry choices.now limit)
+        (taken scope bytes.items)) }
+    ensures only { IfErr result (λ t.
+        ((t ≡ NoEntry) × HasNoEntry table.now (reach_of scope bytes.items) (taken scope bytes.items) function.entry)
+        ⊎ ((t ≡ SeveralFunctions)
+        × HasSeveral table.now (reach_of scope bytes.items) (taken scope bytes.items) function.entry)
+        ⊎ (t ≡ Memory)) }
+{
+    let mut bytes = bytes;
+    let reach = scope.reach(&bytes);
+    take_as(scope, &mut bytes);
+    traced(alloc, table, reach, function, choices, limit, bytes)
+}
+
+/// What `annotate` and `graph` answer of the bytes of a file.
+fn viewed_as(
+    alloc: Global,
+    table: &Table,
+    how: View<'_>,
+    scope: Scope,
+    function: Option<Chosen<'_>>,
+    bytes: Vec<u8>,
+) -> Result<Reply, Trouble>
+    ensures gives { IfOk result (Gives (Views how.entry table.now (reach_of scope bytes.items) function.entry)
+        (taken scope bytes.items)) }
+    ensures only { IfErr result (λ t.
+        ((t ≡ NoFunction)
+        × LacksFunction table.now (reach_of scope bytes.items) (taken scope bytes.items) function.entry)
+        ⊎ ((t ≡ SeveralFunctions)
+        × NamesSeveral table.now (reach_of scope bytes.items) (taken scope bytes.items) function.entry)
+        ⊎ (t ≡ Memory)) }
+{
+    let mut bytes = bytes;
+    let reach = scope.reach(&bytes);
+    take_as(scope, &mut bytes);
+    viewed(alloc, table, how, reach, function, bytes)
+}
+
+/// What a command answers by a table of the bytes of its file. Of a command on several files it is that of this one.
 pub fn reply_to(
     alloc: Global,
     command: &Command,
@@ -360,27 +485,31 @@ pub fn reply_to(
     ensures why { IfErr result (WhyNot command.now table.now bytes.items) }
 {
     match command {
-        Command::Judge { task, extended, .. } => {
-            judged(alloc, *task, table, reach_by(*extended), bytes)
-        }
-        Command::Show { .. } => shown(alloc, table, bytes),
-        Command::Asm { big, explain, .. } => {
-            assembled(alloc, table, order_by(*big), *explain, bytes)
-        }
+        Command::Judge { task, scope, .. } => judged_as(alloc, *task, table, *scope, bytes),
+        Command::Show { scope, .. } => shown_as(alloc, table, *scope, bytes),
+        Command::Asm {
+            big,
+            explain,
+            opencl,
+            ..
+        } => assembled(alloc, table, order_by(*big), *explain, *opencl, bytes),
         Command::Trace {
             function,
             choices,
             limit,
-            extended,
+            scope,
             ..
-        } => {
-            let reach = reach_by(*extended);
-            traced(alloc, table, reach, *function, choices, *limit, bytes)
-        }
-        Command::Annotate { function, .. } => {
-            viewed(alloc, table, how_by(command), *function, bytes)
-        }
-        Command::Graph { function, .. } => viewed(alloc, table, View::Graph, *function, bytes),
+        } => traced_as(alloc, table, *scope, *function, choices, *limit, bytes),
+        Command::Annotate {
+            function,
+            scope,
+            ..
+        } => viewed_as(alloc, table, how_by(command), *scope, *function, bytes),
+        Command::Graph {
+            function,
+            scope,
+            ..
+        } => viewed_as(alloc, table, View::Graph, *scope, *function, bytes),
         Command::Rules { code, json } => ruled(alloc, *code, *json),
         Command::Grammar { .. } => written(alloc, table),
     }

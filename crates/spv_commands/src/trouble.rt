@@ -1,5 +1,6 @@
 //! Why a run ends with an error, and the line that tells it.
 ghost use Rattle.std.specs.Prelude.{◌≡◌};
+ghost use Rattle.spv_commands.specs.Trouble as specs;
 ghost use Rattle.spv_commands.specs.Trouble.{Gets, grammar_text, trouble_text};
 
 use spv_explain::Unread;
@@ -60,17 +61,24 @@ impl From<AllocError> for Trouble {
     }
 }
 
-impl From<Unread> for Trouble {
-    ghost use Rattle.std.specs.Prelude.{◌≡◌};
-    ghost use Rattle.spv_commands.specs.Trouble.{unread_trouble};
+/// What is told in an object of JSON of a file that was not read: want of memory for it, or that it was not read,
+/// whatever the trouble was.
+pub fn unread_of(trouble: Trouble) -> Unread
+    ensures { result ≡ specs.unread_of trouble }
+{
+    match trouble {
+        Trouble::Memory => Unread::Memory,
+        _ => Unread::File,
+    }
+}
 
-    ghost from_gives = { λ why e. e ≡ unread_trouble why };
-
-    fn from(why: Unread) -> Trouble {
-        match why {
-            Unread::File => Trouble::File,
-            Unread::Memory => Trouble::Memory,
-        }
+/// What a command answers where its file was not read: the same by its line.
+pub fn file_trouble(trouble: Trouble) -> Trouble
+    ensures { result ≡ specs.file_trouble trouble }
+{
+    match trouble {
+        Trouble::Memory => Trouble::Memory,
+        _ => Trouble::File,
     }
 }
 

@@ -1,6 +1,6 @@
 //! A run on several files, one of which cannot be read.
 
-use spv_commands::{Judging, Task, Telling};
+use spv_commands::{Judging, Scope, Task, Telling};
 use spv_samples::{PROFILE, SMALLEST_KERNEL, image_of};
 use spv_streams::{InMemory, run_each};
 use spv_words::FromWrite;
@@ -19,8 +19,7 @@ struct Outcome {
 fn judging(task: Task, telling: Telling) -> Judging {
     Judging {
         task,
-        as_1_6: false,
-        extended: false,
+        scope: Scope::Own { as_1_6: false },
         telling,
     }
 }
@@ -55,7 +54,7 @@ fn files_in_order(rt: HostRuntime) -> Result<(), Fail> {
 }
 
 /// The objects of a valid module and of a file that does not open.
-const OBJECTS: &str = r#"{"file":"a","verdict":"valid"}
+const OBJECTS: &str = r#"{"file":"a","verdict":"valid","profile":"own"}
 {"file":"b","verdict":"error","error":"file"}
 "#;
 
@@ -85,7 +84,7 @@ fn extended_instructions(rt: HostRuntime) -> Result<(), Fail> {
     let mut how = judging(Task::Check, Telling::Bare);
     let run = outcome_of(rt.alloc(), how, &["a"], &files);
     assert!(rt; run.out.as_slice() == b"valid\n".as_slice());
-    how.extended = true;
+    how.scope = Scope::Extended { as_1_6: false };
     let run = outcome_of(rt.alloc(), how, &["a"], &files);
     assert!(rt; run.status == 1);
     assert!(rt; run.out.as_slice() == b"fault D1 inst 9 word 31\n".as_slice());

@@ -1,7 +1,8 @@
 //! What the errors of the commands are shown as: each variant of each type.
 
 use spv_builtin::GrammarError;
-use spv_commands::{Trouble, Unread, UseError};
+use spv_commands::{Trouble, UseError};
+use spv_explain::Unread;
 use spv_views::ViewError;
 use std::alloc::{AllocError, Global};
 use std::fmt::Display;

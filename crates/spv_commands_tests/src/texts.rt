@@ -17,7 +17,9 @@ fn written(alloc: Global, table: &Table, explain: bool) -> Result<Vec<u8>, Troub
     let mut made = FromWrite::new(Vec::new(alloc));
     let mut text = FromRead::new(NO_VERSION.as_bytes());
     let order = Order::Little;
-    assemble_stream(alloc, table, order, explain, &mut text, &mut out, &mut made)?;
+    assemble_stream(
+        alloc, table, order, explain, false, &mut text, &mut out, &mut made,
+    )?;
     Ok(out.inner)
 }
 

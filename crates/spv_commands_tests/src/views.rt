@@ -1,6 +1,7 @@
 //! What is written of a module for people to look at.
 
 use spv_builtin::{FromGrammar, Table};
+use spv_extended::Reach;
 use spv_names::Chosen;
 use spv_samples::{LOOP_WITH_PHI, PROFILE, Told, each_refused, image_of};
 use spv_views::{View, ViewError, view_stream};
@@ -54,7 +55,15 @@ fn written(
 ) -> Result<(Vec<u8>, bool), ViewError> {
     let mut out = FromWrite::new(Vec::new(alloc));
     let mut bytes = FromRead::new(bytes);
-    let answer = view_stream(alloc, table, call.how, call.function, &mut bytes, &mut out)?;
+    let answer = view_stream(
+        alloc,
+        table,
+        call.how,
+        Reach::Profile,
+        call.function,
+        &mut bytes,
+        &mut out,
+    )?;
     Ok((out.inner, answer))
 }
 

@@ -1,6 +1,6 @@
--- Y5, condition by condition. [3.49.8, 3.49.11 to 3.49.18, 3.49.20; own: the table of types]
+-- Y5, condition by condition. [3.49.8, 3.49.10 to 3.49.18, 3.49.20 to 3.49.24; own: the table of types]
 use Rattle.std.specs.Prelude.{◌≡◌, ◌≢◌, ◌⊎◌, ℕ, List, Option, Some, None, Bool, true, false}
-use Rattle.std.specs.Prelude.{◌++◌, ◌*◌, ◌∷◌, IsSomeAnd, length, option_and_then}
+use Rattle.std.specs.Prelude.{◌++◌, ◌*◌, ◌≤◌, ◌∷◌, [], IsSome, IsSomeAnd, length, option_and_then}
 use Rattle.std.specs.List.{AllByRecursion}
 use Rattle.spv_module.specs.Operand.{PlainInst}
 use Rattle.spv_type_forms.specs.declared.form.Form.{Form}
@@ -9,8 +9,12 @@ use Rattle.spv_type_forms.specs.declared.form.Scalar.{Scalar}
 use Rattle.spv_type_forms.specs.declared.form.Scalar.TheVariants as scalar
 use Rattle.spv_type_forms.specs.declared.form.Sort.TheVariants as sort
 use Rattle.spv_type_forms.specs.Form.{form_of}
+use Rattle.spv_type_forms.specs.Parts.{AreParts}
 use Rattle.spv_type_forms.specs.Types.{components_of, IsInt, IsSomeInt, IsNumber, IsBool, IsMade, HasSort, IsVector}
-use Rattle.spv_type_forms.specs.Types.{IsPointer, PointsTo, IsData}
+use Rattle.spv_type_forms.specs.Types.{IsPointer, PointsTo, IsData, IsPlain, IsObject, pointee_in, sort_of}
+use Rattle.spv_type_forms.specs.Objects.{pipe_access_of, IsSizeInt, IsSizeArray, IsRangeStruct, IsRange}
+use Rattle.spv_conditions.specs.Image.{IsImage, IsSampled, IsTexelPointer, IsPlace, IsIntCoordinate, IsCoordinate}
+use Rattle.spv_conditions.specs.Image.{IsExtent, IsTexel, IsNumeric}
 use Rattle.spv_conditions.specs.declared.condition.Kind.{Kind}
 use Rattle.spv_conditions.specs.declared.condition.Kind.TheVariants as kind
 use Rattle.spv_conditions.specs.declared.condition.Relation.{Relation}
@@ -47,6 +51,7 @@ IsOf is kind.Int32 t = IsInt is t 32
 IsOf is kind.Number t = IsNumber is t
 IsOf is kind.Bool t = IsBool is t
 IsOf is kind.Data t = IsData is t
+IsOf is kind.Plain t = IsPlain is t
 IsOf is kind.Ints t = HasSort sort.Int is t
 IsOf is kind.Floats t = HasSort sort.Float is t
 IsOf is kind.Bools t = HasSort sort.Bool is t
@@ -56,6 +61,25 @@ IsOf is kind.GenericPointer t = (p : ℕ) × IsPointer is t 8 p
 IsOf is kind.NamedPointer t = (s p : ℕ) × IsPointer is t s p × IsNamedClass s
 IsOf is kind.Vector t = (c n : ℕ) × IsVector is t c n
 IsOf is kind.Composite t = IsSomeAnd (form_of is t) IsComposite
+IsOf is kind.Scalars t = IsSome (components_of is t)
+IsOf is kind.Floats32 t = IsSomeAnd (components_of is t) (λ c. c.scalar ≡ scalar.Float 32)
+IsOf is kind.FewInts t = IsSomeAnd (components_of is t) (λ c. (sort_of c.scalar ≡ sort.Int) × (c.count ≤ 3))
+IsOf is kind.Ballot t = IsMade is t 4 (scalar.Int 32)
+IsOf is kind.Int8Pointer t = IsSomeAnd (pointee_in (form_of is t)) (λ p. IsInt is p 8)
+IsOf is kind.Int32Pointer t = IsSomeAnd (pointee_in (form_of is t)) (λ p. IsInt is p 32)
+IsOf is kind.PlainPointer t = IsSomeAnd (pointee_in (form_of is t)) (IsPlain is)
+IsOf is kind.GlobalPointer t = (p : ℕ) × IsPointer is t 5 p
+IsOf is (kind.Object o) t = IsObject is o t
+IsOf is (kind.ObjectPointer o) t = IsSomeAnd (pointee_in (form_of is t)) (IsObject is o)
+IsOf is (kind.Pipe access) t = pipe_access_of is t ≡ Some access
+IsOf is kind.Size t = IsSizeInt is t
+IsOf is kind.Sizes t = IsSizeInt is t ⊎ (IsSizeArray is 2 t ⊎ IsSizeArray is 3 t)
+IsOf is kind.RangeStruct t = IsRangeStruct is t
+IsOf is kind.Range t = IsRange is t
+IsOf is kind.NumbersPointer t = IsSomeAnd (pointee_in (form_of is t)) (IsNumeric is)
+IsOf is (kind.Image k) t = IsImage is k t
+IsOf is kind.SampledImage t = IsSampled is t
+IsOf is kind.Four t = (c : ℕ) × IsVector is t c 4
 
 -- two types have components, and these are as many [2.2.2]
 abbrev pub HasSameCount : List PlainInst → ℕ → ℕ → Type 0
@@ -76,6 +100,15 @@ HasSameBits is t u = ((b : ℕ) × (bits_of is t ≡ Some b) × (bits_of is u �
 abbrev pub IsChoice : List PlainInst → ℕ → ℕ → Type 0
 IsChoice is t u = IsBool is t ⊎ ((c n : ℕ) × IsVector is u c n × IsMade is t n scalar.Bool)
 
+-- the type t is a struct of two members of the type u [3.49.13 OpIAddCarry]
+abbrev pub IsPairOf : List PlainInst → ℕ → ℕ → Type 0
+IsPairOf is t u = (form_of is t ≡ Some form.Struct) × AreParts is t (u ∷ u ∷ [])
+
+-- two pointers, one of the storage class Workgroup (4) and one of CrossWorkgroup (5) [3.49.21 OpGroupAsyncCopy]
+abbrev pub IsAcross : List PlainInst → ℕ → ℕ → Type 0
+IsAcross is t u = ((p q : ℕ) × IsPointer is t 4 p × IsPointer is u 5 q)
+    ⊎ ((p q : ℕ) × IsPointer is t 5 p × IsPointer is u 4 q)
+
 -- the type t stands to the type u in a relation [2.2.2, 3.49.6]
 abbrev pub Agrees : List PlainInst → Relation → ℕ → ℕ → Type 0
 Agrees is relation.Same t u = t ≡ u
@@ -89,6 +122,15 @@ Agrees is relation.SameClass t u = (class p q : ℕ) × IsPointer is t class p �
 Agrees is relation.VectorOf t u = (n : ℕ) × IsVector is t u n
 Agrees is relation.ComponentOf t u = (n : ℕ) × IsVector is u t n
 Agrees is relation.SameComponent t u = (c m n : ℕ) × IsVector is t c m × IsVector is u c n
+Agrees is relation.PairOf t u = IsPairOf is t u
+Agrees is relation.Across t u = IsAcross is t u
+Agrees is relation.SampledImageOf t u = form_of is t ≡ Some (form.SampledImage u)
+Agrees is relation.TexelPointer t u = IsTexelPointer is t u
+Agrees is relation.Place t u = IsPlace is t u
+Agrees is relation.IntCoordinate t u = IsIntCoordinate is t u
+Agrees is relation.Coordinate t u = IsCoordinate is t u
+Agrees is relation.Extent t u = IsExtent is t u
+Agrees is relation.Texel t u = IsTexel is t u
 
 -- there is a result type, or none [own]
 abbrev pub HasResult : Bool → Option ℕ → Type 0

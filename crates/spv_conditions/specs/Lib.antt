@@ -1,9 +1,14 @@
 pub mod Values
+pub mod Group
+pub mod Image
+pub mod Texels
 pub mod Condition
 pub mod Chain
 pub mod Stops
 pub mod Path
 pub mod Variable
+pub mod Further
+pub mod Block
 pub mod Rest
 pub mod Asks
 pub mod Example

@@ -1,7 +1,7 @@
 -- What the table of types asks beside kinds of types and relations between them: of literals, of ids, of the place.
--- [3.49.8, 3.49.12, 3.49.17; own: the table of types]
+-- [3.49.3 to 3.49.5, 3.49.8, 3.49.10 to 3.49.13, 3.49.17, 3.49.21, 3.49.24; own: the table of types]
 use Rattle.std.specs.Prelude.{◌≡◌, ◌≢◌, ◌⊎◌, ◌+◌, ◌<◌, ℕ, List, [], ◌∷◌, Option, Some, None, IsSome, IsSomeAnd}
-use Rattle.std.specs.Prelude.{length, slice_get, nat_eq, if◌then◌else◌, option_and_then, option_map}
+use Rattle.std.specs.Prelude.{length, slice_get, drop, nat_eq, if◌then◌else◌, option_and_then, option_map}
 use Rattle.std.specs.List.{AllByRecursion}
 use Rattle.spv_module.specs.Operand.{PlainInst}
 use Rattle.spv_type_forms.specs.Operands.{words_in, ids_in, after_head}
@@ -17,6 +17,11 @@ use Rattle.spv_conditions.specs.Chain.{led_by, led_to}
 use Rattle.spv_conditions.specs.Variable.{initializers_in, class_of, HasClass, MayHave, MayInitialize}
 use Rattle.spv_conditions.specs.Values.{type_at}
 use Rattle.spv_conditions.specs.Path.{reached_by}
+use Rattle.spv_conditions.specs.Further.{after_enumerant, AreSome, IsIntConstant, IsLasting, IsText, BeginsWithGroup}
+use Rattle.spv_conditions.specs.Further.{HasNoMoreGroups, AreMembers, MayStand}
+use Rattle.spv_conditions.specs.Texels.{mask_in, IsMasked, IsSampleFit, IsSignFit, AreImageOperands}
+use Rattle.spv_conditions.specs.Block.{IsBlock, IsLocalSize, after_block, AreLocals}
+use Rattle.spv_conditions.specs.Group.{enumerant_in, IsScan, HasClusters, IsClusterSize, IsConstantAt, IsPacked}
 
 -- how many components a vector type has; how many the first two types, vectors, have together [3.49.6; 3.49.12
 -- OpVectorShuffle]
@@ -100,3 +105,25 @@ RestHolds is n i r types (rest.Share k) = IsSomeAnd r (λ t. IsShareAt is types 
 RestHolds is n i r types rest.Filled = IsSomeAnd r (λ t. AreFilling is types (form_of is t))
 RestHolds is n i r types rest.Count = IsSomeAnd r (λ t. AreCounted is t types (form_of is t))
 RestHolds is n i r types (rest.Part k) = IsSomeAnd r (λ t. IsPartAt is t types k (form_of is t))
+RestHolds is n i r types rest.CastClass = HasClass is r (drop 1 (after_head i.operands))
+RestHolds is n i r types rest.Scan = IsScan i
+RestHolds is n i r types rest.Cluster = HasClusters i (length types)
+RestHolds is n i r types rest.ClusterSize = IsClusterSize is i types
+RestHolds is n i r types (rest.Constant k) = IsConstantAt is i k
+RestHolds is n i r types rest.Packed = IsSomeAnd (slice_get types 0) (λ o.
+    IsSomeAnd r (λ t. IsPacked is (enumerant_in i.operands) t o))
+RestHolds is n i r types (rest.ImageMask k) = IsMasked k types (mask_in i.operands)
+RestHolds is n i r types rest.ImageSample = IsSomeAnd (slice_get types 0) (IsSampleFit is (mask_in i.operands))
+RestHolds is n i r types (rest.ImageSign s) = IsSomeAnd (type_at r types s) (IsSignFit is (mask_in i.operands))
+RestHolds is n i r types (rest.ImageOperands k) =
+    IsSomeAnd (slice_get types 0) (AreImageOperands is i k types (mask_in i.operands))
+RestHolds is n i r types rest.Extended = MayStand is n i r
+RestHolds is n i r types rest.ModeIds = AreSome (IsIntConstant is) (after_enumerant i.operands)
+RestHolds is n i r types rest.DecorationIds = AreSome (IsLasting is) (after_enumerant i.operands)
+RestHolds is n i r types rest.Texts = AreSome IsText (after_enumerant i.operands)
+RestHolds is n i r types rest.Group = BeginsWithGroup is i
+RestHolds is n i r types rest.NoMoreGroups = HasNoMoreGroups is i
+RestHolds is n i r types rest.Members = AreMembers is None (drop 1 i.operands)
+RestHolds is n i r types (rest.Block k) = IsBlock is (ids_in (after_head i.operands)) k types
+RestHolds is n i r types (rest.LocalSizes k) = AllByRecursion (IsLocalSize is) (after_block k types)
+RestHolds is n i r types (rest.Locals k) = AreLocals is (ids_in (after_head i.operands)) k types

@@ -3,6 +3,17 @@
 use crate::condition::{Kind, Relation};
 use crate::seat::Seat;
 
+/// What an instruction does with the texels of an image.
+#[derive(Clone, Copy)]
+pub enum Texels {
+    /// It samples them.
+    Sampled,
+    /// It fetches or reads them.
+    Read,
+    /// It writes them.
+    Written,
+}
+
 /// What is asked beside kinds of types and relations between them: of literals, of ids, of the place.
 #[derive(Clone, Copy)]
 pub enum Rest {
@@ -41,6 +52,49 @@ pub enum Rest {
     Count,
     /// Of a struct or an array the constituent of that number is of the type of the part at its place.
     Part(u32),
+    /// The storage class that stands after the value is that of the pointer that is the result type.
+    CastClass,
+    /// The group operation is a reduction or a scan of the whole group, not of clusters.
+    Scan,
+    /// There are two values, or three where the group operation is one of clusters.
+    Cluster,
+    /// The size of the clusters, if it is there, is a constant of int type.
+    ClusterSize,
+    /// The value of that number is a constant.
+    Constant(u32),
+    /// The type of the first value is an int of width 32, where a packed vector format stands, and else a vector of ints
+    /// that are no wider than the result.
+    Packed,
+    /// The mask of image operands has bits that the instruction takes, and there are as many values as it asks for.
+    ImageMask(Texels),
+    /// Sample is among the image operands if and only if the images have several samples.
+    ImageSample,
+    /// SignExtend and ZeroExtend are among the image operands of texels of ints alone, which are of that type.
+    ImageSign(Seat),
+    /// The values that the mask of image operands asks for are of their types.
+    ImageOperands(Texels),
+    /// An extended instruction stands in a block, or gives void and is one of debug information or of no meaning.
+    Extended,
+    /// There are operands after the execution mode, each the id of a constant of int type.
+    ModeIds,
+    /// There are operands after the decoration, each the id of a constant or of a variable outside functions.
+    DecorationIds,
+    /// There are operands after the decoration, each a text.
+    Texts,
+    /// The first id is that of an OpDecorationGroup.
+    Group,
+    /// No id after the first is that of an OpDecorationGroup.
+    NoMoreGroups,
+    /// Each id after the first is that of a struct type, and the literal below it the number of a member.
+    Members,
+    /// The id before the value of that number is a function that returns void, and whose first parameter is of the type
+    /// of the value: a block.
+    Block(u32),
+    /// Each value after the block whose first value has that number is an int, or a pointer to one.
+    LocalSizes(u32),
+    /// The function of that block has a parameter more for each of these values and no other, each a pointer of the
+    /// storage class Workgroup.
+    Locals(u32),
 }
 
 /// A condition of a row.

@@ -3,6 +3,7 @@
 ghost use Rattle.std.specs.Prelude.{◌≡◌, ◌↔◌, ℕ, IsTrue, IsSomeAnd, length, option_and_then, slice_get};
 ghost use Rattle.spv_type_forms.specs.Form.{form_of};
 ghost use Rattle.spv_type_forms.specs.Parts as parts;
+ghost use Rattle.spv_conditions.specs.Condition.{IsPairOf};
 ghost use Rattle.spv_conditions.specs.Rest as spec;
 ghost use Rattle.spv_conditions.specs.Rest.{shares_of};
 ghost use Rattle.spv_conditions.specs.inner.Shares as spec_shares;
@@ -160,6 +161,23 @@ pub fn part_of(definitions: &Definitions, r: Option<u32>, k: u32) -> Option<u32>
     ensures { result ≡ option_and_then (λ t. parts.part_of definitions.now t k) r }
 {
     part(definitions, r?, k)
+}
+
+/// Whether a type is a struct of two members of a type.
+pub fn is_pair_of(definitions: &Definitions, t: u32, u: u32) -> bool
+    ensures { IsTrue result ↔ IsPairOf definitions.now t u }
+{
+    match definitions.form(t) {
+        Some(Form::Struct) => match (
+            count(definitions, t),
+            part(definitions, t, 0),
+            part(definitions, t, 1),
+        ) {
+            (Some(2), Some(first), Some(second)) => first == u && second == u,
+            _ => false,
+        },
+        _ => false,
+    }
 }
 
 /// Whether the value of a number is of the type of the part of that number.

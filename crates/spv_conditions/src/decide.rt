@@ -2,7 +2,7 @@
 
 ghost use Rattle.std.specs.Prelude.{◌≡◌, ◌<◌, ◌↔◌, ℕ, IsTrue, length};
 ghost use Rattle.spv_module.specs.Module.{plain_inst};
-ghost use Rattle.spv_type_forms.specs.Types.{IsInt, IsPointer, IsVector, PointsTo};
+ghost use Rattle.spv_type_forms.specs.Types.{IsPointer, IsVector, PointsTo};
 ghost use Rattle.spv_conditions.specs.declared.condition.Kind.TheVariants as kind;
 ghost use Rattle.spv_conditions.specs.declared.condition.Relation.TheVariants as relation;
 ghost use Rattle.spv_conditions.specs.Asks.{HoldsOf};
@@ -11,23 +11,23 @@ ghost use Rattle.spv_conditions.specs.Condition.{IsChoice, IsNamedClass, IsOf, b
 
 use crate::asked::Asked;
 use crate::condition::{Kind, Relation};
+use crate::constituents::is_pair_of;
+use crate::image::{
+    is_coordinate, is_extent, is_image, is_int_coordinate, is_place, is_sampled, is_sampled_of,
+    is_texel, is_texel_pointer,
+};
+use crate::kind::{
+    is_across, is_ballot, is_few_ints, is_floats_of_32, is_int_of_32, is_int8_pointer,
+    is_int32_pointer, is_numbers_pointer, is_object_pointer, is_pipe, is_plain_pointer, is_scalars,
+    is_sizes,
+};
 use crate::rest::rest_holds;
 use crate::seat::type_at;
 use spv_module::Inst;
 use spv_type_forms::{
-    Components, Definitions, Form, Scalar, Sort, has_sort, is_data, is_int, is_number, points_to,
+    Components, Definitions, Form, Scalar, Sort, has_sort, is_data, is_int, is_number, is_object,
+    is_plain, is_range, is_range_struct, is_size_int, points_to,
 };
-
-/// Whether a type is an int of width 32.
-#[inline(always)]
-fn is_int_of_32(definitions: &Definitions, t: u32) -> bool
-    ensures { IsTrue result ↔ IsInt definitions.now t 32 }
-{
-    match definitions.form(t) {
-        Some(Form::Scalar(Scalar::Int(32))) => true,
-        _ => false,
-    }
-}
 
 /// Whether a type is a bool.
 #[inline(always)]
@@ -91,6 +91,16 @@ fn is_vector(definitions: &Definitions, t: u32) -> bool
     }
 }
 
+/// Whether a type is a vector of four components.
+fn is_four(definitions: &Definitions, t: u32) -> bool
+    ensures { IsTrue result ↔ IsOf definitions.now kind.Four t }
+{
+    match definitions.form(t) {
+        Some(Form::Vector { count: 4, .. }) => true,
+        _ => false,
+    }
+}
+
 /// Whether a type is a vector, a struct or an array.
 fn is_composite(definitions: &Definitions, t: u32) -> bool
     ensures { IsTrue result ↔ IsOf definitions.now kind.Composite t }
@@ -103,7 +113,7 @@ fn is_composite(definitions: &Definitions, t: u32) -> bool
 
 /// Whether a type is of a kind.
 #[inline(always)]
-fn is_of(definitions: &Definitions, kind: Kind, t: u32) -> bool
+pub fn is_of(definitions: &Definitions, kind: Kind, t: u32) -> bool
     ensures { IsTrue result ↔ IsOf definitions.now kind t }
 {
     match kind {
@@ -112,6 +122,7 @@ fn is_of(definitions: &Definitions, kind: Kind, t: u32) -> bool
         Kind::Number => is_number(definitions, t),
         Kind::Bool => is_bool(definitions, t),
         Kind::Data => is_data(definitions, t),
+        Kind::Plain => is_plain(definitions, t),
         Kind::Ints => has_sort(definitions, Sort::Int, t),
         Kind::Floats => has_sort(definitions, Sort::Float, t),
         Kind::Bools => has_sort(definitions, Sort::Bool, t),
@@ -121,6 +132,25 @@ fn is_of(definitions: &Definitions, kind: Kind, t: u32) -> bool
         Kind::NamedPointer => is_named_pointer(definitions, t),
         Kind::Vector => is_vector(definitions, t),
         Kind::Composite => is_composite(definitions, t),
+        Kind::Scalars => is_scalars(definitions, t),
+        Kind::Floats32 => is_floats_of_32(definitions, t),
+        Kind::FewInts => is_few_ints(definitions, t),
+        Kind::Ballot => is_ballot(definitions, t),
+        Kind::Int8Pointer => is_int8_pointer(definitions, t),
+        Kind::Int32Pointer => is_int32_pointer(definitions, t),
+        Kind::PlainPointer => is_plain_pointer(definitions, t),
+        Kind::GlobalPointer => is_pointer_of(definitions, t, 5),
+        Kind::Object(object) => is_object(definitions, object, t),
+        Kind::ObjectPointer(object) => is_object_pointer(definitions, object, t),
+        Kind::Pipe(access) => is_pipe(definitions, access, t),
+        Kind::Size => is_size_int(definitions, t),
+        Kind::Sizes => is_sizes(definitions, t),
+        Kind::RangeStruct => is_range_struct(definitions, t),
+        Kind::Range => is_range(definitions, t),
+        Kind::NumbersPointer => is_numbers_pointer(definitions, t),
+        Kind::Image(images) => is_image(definitions, images, t),
+        Kind::SampledImage => is_sampled(definitions, t),
+        Kind::Four => is_four(definitions, t),
     }
 }
 
@@ -257,6 +287,15 @@ fn agrees(definitions: &Definitions, relation: Relation, t: u32, u: u32) -> bool
         Relation::VectorOf => is_vector_of(definitions, t, u),
         Relation::ComponentOf => is_vector_of(definitions, u, t),
         Relation::SameComponent => has_same_component(definitions, t, u),
+        Relation::PairOf => is_pair_of(definitions, t, u),
+        Relation::Across => is_across(definitions, t, u),
+        Relation::SampledImageOf => is_sampled_of(definitions, t, u),
+        Relation::TexelPointer => is_texel_pointer(definitions, t, u),
+        Relation::Place => is_place(definitions, t, u),
+        Relation::IntCoordinate => is_int_coordinate(definitions, t, u),
+        Relation::Coordinate => is_coordinate(definitions, t, u),
+        Relation::Extent => is_extent(definitions, t, u),
+        Relation::Texel => is_texel(definitions, t, u),
     }
 }
 

@@ -1,8 +1,16 @@
 //! Worked examples. Each function does nothing: its contract is what is proved.
 
 ghost use Rattle.std.specs.Prelude.{◌≡◌, [], ◌∷◌, Some, None, IsSome, true, false};
-ghost use Rattle.spv_module.specs.Operand.{Value, Word};
-ghost use Rattle.spv_type_forms.specs.Example.{small, lone_variable};
+ghost use Rattle.spv_module.specs.Operand.{Id, Text, Value, Word};
+ghost use Rattle.spv_type_forms.specs.Example.{small, lone_variable, objects};
+ghost use Rattle.spv_conditions.specs.Block.{AreLocals, IsBlock, IsLocalSize};
+ghost use Rattle.spv_conditions.specs.Further.{after_enumerant, AreMembers, AreSome, IsGroup, IsSilent, IsText, IsVoid};
+ghost use Rattle.spv_conditions.specs.Image.{plane_in};
+ghost use Rattle.spv_conditions.specs.Texels.{is_mask, values_end};
+ghost use Rattle.spv_conditions.specs.declared.asked.Texels.TheVariants as texels;
+ghost use Rattle.spv_conditions.specs.declared.condition.Images.TheVariants as images;
+ghost use Rattle.spv_conditions.specs.declared.condition.Kind.TheVariants as kind;
+ghost use Rattle.spv_conditions.specs.declared.condition.Relation.TheVariants as relation;
 ghost use Rattle.spv_conditions.specs.declared.asked.Asked.TheVariants as asked;
 ghost use Rattle.spv_conditions.specs.declared.asked.Asks.TheVariants as asks;
 ghost use Rattle.spv_conditions.specs.declared.asked.Each.TheVariants as each;
@@ -14,7 +22,7 @@ ghost use Rattle.spv_conditions.specs.declared.seat.Seat.TheVariants as seat;
 ghost use Rattle.spv_conditions.specs.Asks.{conditions_in};
 ghost use Rattle.spv_conditions.specs.Chain.{led_by, led_to};
 ghost use Rattle.spv_conditions.specs.Condition.{Agrees, FailsFirst, Holds, IsNamedClass, IsOf};
-ghost use Rattle.spv_conditions.specs.Example.{no_weight, one_weight};
+ghost use Rattle.spv_conditions.specs.Example.{call, kernels, no_weight, one_weight, sets};
 ghost use Rattle.spv_conditions.specs.Path.{reached_by, stop_at};
 ghost use Rattle.spv_conditions.specs.Rest.{RestHolds, IsComponent, IsShare};
 ghost use Rattle.spv_conditions.specs.Variable.{HasClass, MayHave, MayInitialize};
@@ -91,4 +99,63 @@ pub fn path_examples()
     ensures not_reached { ¬ (reached_by small (2 ∷ []) 6 ≡ 2) }
     ensures stop { stop_at small 0 (Word 1 ∷ Word 0 ∷ []) 6 ≡ Some 1 }
     ensures no_stop { ¬ (stop_at small 0 (Word 1 ∷ []) 6 ≡ Some 0) }
+{}
+
+/// What images of the module `objects` of spv_type_forms ask: `%4` is a type of images of two dimensions, whose sampled
+/// type is the float type `%3`, `%5` its sampled image type; `%1` and `%2` are ints, `%6` pipes.
+pub fn image_examples()
+    ensures sampled { IsOf objects (kind.Image images.Sampled) 4 }
+    ensures no_image { ¬ (IsOf objects (kind.Image images.Sampled) 6) }
+    ensures fetched { ¬ (IsOf objects (kind.Image images.Fetched) 4) }
+    ensures with_sampler { IsOf objects kind.SampledImage 5 }
+    ensures without { ¬ (IsOf objects kind.SampledImage 4) }
+    ensures of { Agrees objects relation.SampledImageOf 5 4 }
+    ensures not_of { ¬ (Agrees objects relation.SampledImageOf 4 5) }
+    ensures texel { Agrees objects relation.Texel 3 4 }
+    ensures int_texel { ¬ (Agrees objects relation.Texel 1 4) }
+    ensures one_place { ¬ (Agrees objects relation.Place 1 4) }
+    // A cube has three coordinates, and a size of two; a layer is one more.
+    ensures plane { plane_in 3 ≡ Some 3 }
+    ensures no_plane { ¬ (plane_in 6 ≡ Some 3) }
+{}
+
+/// The masks of image operands: Lod where an image is sampled, and nowhere else together with Grad.
+pub fn mask_examples()
+    ensures lod { is_mask texels.Sampled 2 ≡ true }
+    ensures nothing { ¬ (is_mask texels.Sampled 0 ≡ true) }
+    ensures none { is_mask texels.Read 0 ≡ true }
+    ensures grad { ¬ (is_mask texels.Read 4 ≡ true) }
+    ensures unknown { ¬ (is_mask texels.Read 16 ≡ true) }
+    // An image and a coordinate, the two values of Grad, and that of ConstOffset.
+    ensures values { values_end texels.Sampled 12 ≡ 5 }
+    ensures no_values { ¬ (values_end texels.Sampled 12 ≡ 4) }
+{}
+
+/// What instructions outside blocks ask: an extended one of a set without meaning, or not; members of a struct of two;
+/// a decoration group.
+pub fn further_examples()
+    ensures silent { IsSilent sets (call 1) }
+    ensures loud { ¬ (IsSilent sets (call 3)) }
+    ensures void { IsVoid sets (Some 2) }
+    ensures no_void { ¬ (IsVoid sets (Some 5)) }
+    ensures group { IsGroup sets 4 }
+    ensures no_group { ¬ (IsGroup sets 6) }
+    ensures past { ¬ (AreMembers sets None (Id 6 ∷ Word 2 ∷ [])) }
+    ensures waiting { ¬ (AreMembers sets None (Id 6 ∷ [])) }
+    ensures texts { AreSome IsText (after_enumerant (Id 4 ∷ Value 0 5635 ∷ Text [] ∷ [])) }
+    ensures no_text { ¬ (AreSome IsText (after_enumerant (Id 4 ∷ Value 0 5635 ∷ []))) }
+{}
+
+/// What blocks ask, of a module whose `%6` is a function that takes a pointer `%3` to bytes, and a pointer `%4` of the
+/// storage class Workgroup: the function is the id before the first value of the block.
+pub fn block_examples()
+    ensures data { IsOf kernels kind.Int8Pointer 3 }
+    ensures no_data { ¬ (IsOf kernels kind.Int8Pointer 2) }
+    ensures block { IsBlock kernels (6 ∷ []) 0 (3 ∷ 2 ∷ 2 ∷ []) }
+    ensures other_data { ¬ (IsBlock kernels (6 ∷ []) 0 (4 ∷ 2 ∷ 2 ∷ [])) }
+    ensures no_function { ¬ (IsBlock kernels (5 ∷ []) 0 (3 ∷ 2 ∷ 2 ∷ [])) }
+    ensures size { IsLocalSize kernels 3 }
+    ensures no_size { ¬ (IsLocalSize kernels 1) }
+    ensures locals { AreLocals kernels (6 ∷ []) 0 (3 ∷ 2 ∷ 2 ∷ 2 ∷ []) }
+    ensures no_locals { ¬ (AreLocals kernels (6 ∷ []) 0 (3 ∷ 2 ∷ 2 ∷ [])) }
 {}

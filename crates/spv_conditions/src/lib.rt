@@ -2,25 +2,35 @@
 #![tactic(auto)]
 
 mod asked;
+mod block;
 mod chain;
 mod components;
 mod condition;
 mod constituents;
 mod decide;
 mod first;
+mod further;
+mod group;
+mod image;
+mod kind;
 mod laws;
 mod path;
 mod rest;
 mod seat;
+mod texels;
 mod variable;
 
-pub use asked::{Asked, Asks, Each, Rest};
+pub use asked::{Asked, Asks, Each, Rest, Texels};
+pub use block::{
+    after_block, are_taken, front_id, function_type, invoked_of, is_local_size, takes,
+};
 pub use chain::{base_in, chosen, first_index, front, indexes_of, led_by, led_to};
 pub use components::both_sizes;
-pub use condition::{Kind, Relation};
+pub use condition::{Images, Kind, Relation};
 pub use constituents::part_of;
-pub use decide::holds;
+pub use decide::{holds, is_of};
 pub use first::first_failing;
+pub use group::{enumerant, id_at};
 pub use path::{part_within, stop_at};
 pub use rest::reached_in;
 pub use seat::{Seat, type_at};

@@ -13,12 +13,19 @@ ghost use Rattle.spv_conditions.specs.Rest.{RestHolds};
 ghost use Rattle.spv_conditions.specs.Values.{type_at as type_spec};
 
 use crate::asked::Rest;
+use crate::block::{after_block, are_local_sizes, are_locals, is_block};
 use crate::chain::{led_by, led_to};
 use crate::components::{are_components, both_sizes, has_component_count};
 use crate::constituents::{are_counted, are_filling, are_several, is_part_at, is_share_at};
+use crate::further::{
+    begins_with_group, has_decoration_ids, has_members, has_mode_ids, has_no_more_groups,
+    has_texts, may_stand,
+};
+use crate::group::{has_clusters, is_cluster_size, is_constant_at, is_packed, is_scan};
 use crate::path::{are_within, reached_by};
 use crate::seat::{Seat, type_at};
-use crate::variable::{has_class, is_class_here, is_initialized};
+use crate::texels::{are_image_operands, is_masked, is_sample_fit, is_sign_fit};
+use crate::variable::{has_cast_class, has_class, is_class_here, is_initialized};
 use spv_module::{Inst, Operand};
 use spv_type_forms::{Definitions, has_words, points_to, word_count};
 
@@ -161,5 +168,25 @@ pub fn rest_holds(
         Rest::Reached { of, from } => holds_reached(definitions, inst, r, types, of, from),
         Rest::ComponentCount => has_component_count(definitions, r, inst.operands.as_slice()),
         Rest::Component => are_components(both_sizes(definitions, types), inst.operands.as_slice()),
+        Rest::CastClass => has_cast_class(definitions, inst, r),
+        Rest::Scan => is_scan(inst),
+        Rest::Cluster => has_clusters(inst, types),
+        Rest::ClusterSize => is_cluster_size(definitions, inst, types),
+        Rest::Constant(k) => is_constant_at(definitions, inst, k),
+        Rest::Packed => is_packed(definitions, inst, r, types),
+        Rest::ImageMask(texels) => is_masked(inst, texels, types),
+        Rest::ImageSample => is_sample_fit(definitions, inst, types),
+        Rest::ImageSign(seat) => is_sign_fit(definitions, inst, type_at(r, types, seat)),
+        Rest::ImageOperands(texels) => are_image_operands(definitions, inst, texels, types),
+        Rest::Extended => may_stand(definitions, number, inst, r),
+        Rest::ModeIds => has_mode_ids(definitions, inst),
+        Rest::DecorationIds => has_decoration_ids(definitions, inst),
+        Rest::Texts => has_texts(inst),
+        Rest::Group => begins_with_group(definitions, inst),
+        Rest::NoMoreGroups => has_no_more_groups(definitions, inst),
+        Rest::Members => has_members(definitions, inst),
+        Rest::Block(k) => is_block(definitions, inst, types, k),
+        Rest::LocalSizes(k) => are_local_sizes(definitions, after_block(types, k)),
+        Rest::Locals(k) => are_locals(definitions, inst, types, k),
     }
 }

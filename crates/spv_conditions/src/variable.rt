@@ -1,6 +1,6 @@
 //! What OpVariable asks of its storage class and its initializer.
 
-ghost use Rattle.std.specs.Prelude.{◌≡◌, ◌≢◌, ◌<◌, ◌↔◌, IsSomeAnd, IsTrue, Some, length};
+ghost use Rattle.std.specs.Prelude.{◌≡◌, ◌≢◌, ◌<◌, ◌↔◌, IsSomeAnd, IsTrue, Some, drop, length};
 ghost use Rattle.std.specs.List.{AllByRecursion};
 ghost use Rattle.spv_module.specs.Module.{plain_inst, plain_operands};
 ghost use Rattle.spv_type_forms.specs.Form.{form_of};
@@ -21,7 +21,7 @@ const FUNCTION: u32 = 7;
 const GENERIC: u32 = 8;
 
 /// Whether an id may initialize a variable: it is a constant, or a variable of section 9.
-fn is_initializer(definitions: &Definitions, x: u32) -> bool
+pub fn is_initializer(definitions: &Definitions, x: u32) -> bool
     ensures { IsTrue result ↔ MayInitialize definitions.now x }
 {
     is_constant(definitions, x) || definitions.is_global(x)
@@ -81,6 +81,24 @@ pub fn has_class(definitions: &Definitions, inst: &Inst, r: Option<u32>) -> bool
     ensures { IsTrue result ↔ HasClass definitions.now r (of_operands.after_head (plain_inst inst.now).operands) }
 {
     class_fits(definitions, r, after_head(inst.operands.as_slice()))
+}
+
+/// Whether the result type is a pointer of the storage class that stands after the first of the operands.
+fn next_class_fits(definitions: &Definitions, r: Option<u32>, operands: &[Operand]) -> bool
+    ensures { IsTrue result ↔ HasClass definitions.now r (drop 1 (plain_operands operands.now)) }
+{
+    match operands {
+        [_, rest @ ..] => class_fits(definitions, r, rest),
+        [] => class_fits(definitions, r, &[]),
+    }
+}
+
+/// Whether the result type is a pointer of the storage class that stands after the value.
+pub fn has_cast_class(definitions: &Definitions, inst: &Inst, r: Option<u32>) -> bool
+    ensures { IsTrue result
+        ↔ HasClass definitions.now r (drop 1 (of_operands.after_head (plain_inst inst.now).operands)) }
+{
+    next_class_fits(definitions, r, after_head(inst.operands.as_slice()))
 }
 
 /// Whether a variable there may have the storage class, by what follows the result.

@@ -5,11 +5,13 @@ use Rattle.spv_type_forms.specs.declared.form.Form.{Form}
 use Rattle.spv_type_forms.specs.declared.form.Form.TheVariants as form
 use Rattle.spv_type_forms.specs.Form.{form_of}
 
--- the type within a type: what a pointer points to, the component of a vector, the element of an array [3.49.6]
+-- the type within a type: what a pointer points to, the component of a vector, the element of an array, the image type
+-- of a sampled image type [3.49.6]
 abbrev pub inner_in : Form → Option ℕ
 inner_in (form.Pointer class p) = Some p
 inner_in (form.Vector c n) = Some c
 inner_in (form.Array e l) = Some e
+inner_in (form.SampledImage i) = Some i
 inner_in _ = None
 
 abbrev pub inner_of : List PlainInst → Option ℕ → Option ℕ

@@ -40,10 +40,26 @@ pub enum Condition {
     Returned,
     /// An OpTypeForwardPointer names a pointer of its storage class that is declared after it (Y2).
     Forward,
+    /// The sampled type of an OpTypeImage is void, an int or a float (Y2).
+    SampledType,
+    /// The depth of an OpTypeImage is 0, 1 or 2 (Y2).
+    Depth,
+    /// Arrayed of an OpTypeImage is 0 or 1 (Y2).
+    Arrayed,
+    /// MS of an OpTypeImage is 0 or 1 (Y2).
+    SampleCount,
+    /// Sampled of an OpTypeImage is 0, 1 or 2 (Y2).
+    SampledUse,
+    /// The type of an OpTypeSampledImage is an image type of another dimension than Buffer and SubpassData (Y2).
+    Dimension,
     /// The operands are those that the declaration has (Y2), or the constant (Y4).
     Operands,
     /// The number of an OpConstant fits the width of its type (Y4).
     FitsWidth,
+    /// The type of an OpConstantNull is a data type that has a null value (Y4).
+    Nullable,
+    /// Whether an OpConstantSampler has normalized coordinates is told by 0 or 1 (Y4).
+    Normalized,
     /// There are as many constituents as the type has parts (Y4, Y5).
     Count,
     /// A constituent is a constant or an OpUndef, of the type of the part at its place (Y4).
@@ -66,4 +82,52 @@ pub enum Condition {
     Filled,
     /// Of the type of a constituent of a struct or an array: it is that of the part at its place (Y5).
     Part,
+    /// The storage class that an OpGenericCastToPtrExplicit names is that of the pointer that is its result
+    /// type (Y5).
+    CastClass,
+    /// A group operation is not one of clusters (Y5).
+    Scan,
+    /// There is a size of clusters where the group operation is one of clusters, and else none (Y5).
+    Cluster,
+    /// The size of clusters is a constant of int type (Y5).
+    ClusterSize,
+    /// An operand is a constant (Y5).
+    Constant,
+    /// Of the type of the first operand of a dot product: it is an int of width 32 where there is a packed
+    /// vector format, and else a vector of ints that are no wider than the result (Y5).
+    Packed,
+    /// The mask of image operands is one that the opcode takes, and there are as many values as it asks for
+    /// (Y5).
+    ImageMask,
+    /// Sample is among the image operands if and only if the images have several samples (Y5).
+    ImageSample,
+    /// SignExtend and ZeroExtend are among the image operands of texels of ints alone (Y5).
+    ImageSign,
+    /// The values of the image operands are of their types (Y5).
+    ImageOperands,
+    /// An OpExtInst outside blocks gives void, and is of a set of debug information or one that is non-semantic
+    /// (Y5).
+    Extended,
+    /// The operands of an OpExecutionModeId after the mode are constants of int type, one or more (Y5).
+    ModeIds,
+    /// The operands of an OpDecorateId after the decoration are constants or variables outside functions, one
+    /// or more (Y5).
+    DecorationIds,
+    /// The operands of an OpDecorateString or OpMemberDecorateString after the decoration are texts, one or
+    /// more (Y5).
+    Texts,
+    /// The first operand of an OpGroupDecorate or OpGroupMemberDecorate is an OpDecorationGroup (Y5).
+    Group,
+    /// The other operands of an OpGroupDecorate are no OpDecorationGroup (Y5).
+    NoMoreGroups,
+    /// Each pair of an OpGroupMemberDecorate is a struct type and the number of a member (Y5).
+    Members,
+    /// The id before the first value of a block is a function that returns void, and whose first parameter is of
+    /// the type of that value (Y5).
+    Block,
+    /// Each value of an OpEnqueueKernel after the block is an int or a pointer to one (Y5).
+    LocalSizes,
+    /// The function of an OpEnqueueKernel has a parameter more for each of these values and no other, each a
+    /// pointer of the storage class Workgroup (Y5).
+    Locals,
 }

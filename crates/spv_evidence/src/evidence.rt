@@ -13,6 +13,10 @@ pub enum Lister {
     Bit { operand: u32, bit: u32 },
     /// The width of a number, or the count of a vector's components.
     Width,
+    /// The type that is declared: an image or sampler type.
+    Type,
+    /// The access qualifier of an image type.
+    Access,
 }
 
 /// Which part of E2 is broken.
@@ -26,7 +30,7 @@ pub enum EntryPart {
     Returns,
     /// The function of an OpEntryPoint is called, by the OpFunctionCall of that number.
     Called { inst: u32 },
-    /// The function of an OpExecutionMode is that of no OpEntryPoint.
+    /// The function of an OpExecutionMode or OpExecutionModeId is that of no OpEntryPoint.
     Unnamed,
     /// A definition is imported, by the OpDecorate of that number.
     Imported { inst: u32 },

@@ -6,7 +6,8 @@ ghost use Rattle.spv_evidence.specs.Reads as spec;
 use spv_type_forms::{Definitions, Form};
 use std::alloc::{AllocError, Global};
 
-/// The type within a type: what a pointer points to, the component of a vector, the element of an array.
+/// The type within a type: what a pointer points to, the component of a vector, the element of an array, the image type
+/// of a sampled image type.
 pub fn inner_of(definitions: &Definitions, t: Option<u32>) -> Option<u32>
     ensures { result ≡ spec.inner_of definitions.now t }
 {
@@ -14,6 +15,7 @@ pub fn inner_of(definitions: &Definitions, t: Option<u32>) -> Option<u32>
         Form::Pointer { pointee, .. } => Some(pointee),
         Form::Vector { component, .. } => Some(component),
         Form::Array { element, .. } => Some(element),
+        Form::SampledImage(image) => Some(image),
         _ => None,
     }
 }

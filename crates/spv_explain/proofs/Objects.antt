@@ -37,27 +37,27 @@ use Rattle.spv_explain.proofs.Readings.{broken_fault}
 -- a verdict of the bytes, with members that tell why
 explained_at : (G : Table) (reach : Reach) (name : Option (List ℕ)) (bytes : List ℕ) (j : Judgment)
     (members : List Token) (a : Answer) → IsVerdict G reach bytes (line_of j)
-    → AreMembers G reach bytes j members → a.judgment ≡ j → a.text.items ≡ json_line (object_of name j members)
+    → AreMembers G reach bytes j members → a.judgment ≡ j → a.text.items ≡ json_line (object_of reach name j members)
     → IsExplainAnswer G reach name bytes a
 explained_at G reach name bytes j members a v m e t = record {
   verdict = subst (λ x. IsVerdict G reach bytes (line_of x)) (sym e) v;
   members = members;
   explain = subst (λ x. AreMembers G reach bytes x members) (sym e) m;
-  told = subst (λ x. a.text.items ≡ json_line (object_of name x members)) (sym e) t;
+  told = subst (λ x. a.text.items ≡ json_line (object_of reach name x members)) (sym e) t;
 }
 
 checked_at : (G : Table) (reach : Reach) (name : Option (List ℕ)) (bytes : List ℕ) (j : Judgment) (a : Answer)
     → IsVerdict G reach bytes (line_of j)
-    → a.judgment ≡ j → a.text.items ≡ json_line (object_of name j []) → IsCheckAnswer G reach name bytes a
+    → a.judgment ≡ j → a.text.items ≡ json_line (object_of reach name j []) → IsCheckAnswer G reach name bytes a
 checked_at G reach name bytes j a v e t = record {
   verdict = subst (λ x. IsVerdict G reach bytes (line_of x)) (sym e) v;
-  told = subst (λ x. a.text.items ≡ json_line (object_of name x [])) (sym e) t;
+  told = subst (λ x. a.text.items ≡ json_line (object_of reach name x [])) (sym e) t;
 }
 
 pub explained_by : {E : Type 0} (G : Table) (reach : Reach) (name : Option (List ℕ)) (bytes : List ℕ) (j : Judgment)
     (members : List Token) (r : Outcome Answer E)
     → IsVerdict G reach bytes (line_of j) → AreMembers G reach bytes j members → IfOk r (λ a. a.judgment ≡ j)
-    → IfOk r (λ a. a.text.items ≡ json_line (object_of name j members))
+    → IfOk r (λ a. a.text.items ≡ json_line (object_of reach name j members))
     → IfOk r (λ a. IsExplainAnswer G reach name bytes a)
 explained_by G reach name bytes j members (Err _) v m e t = tt
 explained_by G reach name bytes j members (Ok a) v m e t = explained_at G reach name bytes j members a v m e t
@@ -65,7 +65,7 @@ explained_by G reach name bytes j members (Ok a) v m e t = explained_at G reach 
 pub checked_by : {E : Type 0} (G : Table) (reach : Reach) (name : Option (List ℕ)) (bytes : List ℕ) (j : Judgment)
     (r : Outcome Answer E)
     → IsVerdict G reach bytes (line_of j) → IfOk r (λ a. a.judgment ≡ j)
-    → IfOk r (λ a. a.text.items ≡ json_line (object_of name j [])) → IfOk r (λ a. IsCheckAnswer G reach name bytes a)
+    → IfOk r (λ a. a.text.items ≡ json_line (object_of reach name j [])) → IfOk r (λ a. IsCheckAnswer G reach name bytes a)
 checked_by G reach name bytes j (Err _) v e t = tt
 checked_by G reach name bytes j (Ok a) v e t = checked_at G reach name bytes j a v e t
 
@@ -73,7 +73,7 @@ checked_by G reach name bytes j (Ok a) v e t = checked_at G reach name bytes j a
 pub valid_explained : {E : Type 0} (G : Table) (reach : Reach) (name : Option (List ℕ)) (bytes words : List ℕ)
     (order : Order) (p : Program) (r : Outcome Answer E)
     → IsModule order bytes words → IsChecked G reach words p → IfOk r (λ a. a.judgment ≡ judgments.Valid)
-    → IfOk r (λ a. a.text.items ≡ json_line (object_of name judgments.Valid []))
+    → IfOk r (λ a. a.text.items ≡ json_line (object_of reach name judgments.Valid []))
     → IfOk r (λ a. IsExplainAnswer G reach name bytes a)
 valid_explained G reach name bytes words order p r h c e t =
     explained_by G reach name bytes judgments.Valid [] r
@@ -85,7 +85,7 @@ pub dead_explained : {E : Type 0} (G : Table) (reach : Reach) (name : Option (Li
     → instructions.IsEvidence G (drop 5 words) f.rule f.inst (f.word - 5) e
     → IfOk r (λ a. a.judgment ≡ judgments.Broken f)
     → IfOk r (λ a. a.text.items ≡ json_line
-    (object_of name (judgments.Broken f)
+    (object_of reach name (judgments.Broken f)
     (members_of G [] [] (malformed_facts (drop 5 words) f.inst (f.word - 5) e))))
     → IfOk r (λ a. IsExplainAnswer G reach name bytes a)
 dead_explained G reach name bytes words order f e r h d shown j t =
@@ -99,7 +99,7 @@ pub broken_explained : {E : Type 0} (G : Table) (reach : Reach) (name : Option (
     → ShownLines G [] (plain_insts m) shown
     → IfOk r (λ a. a.judgment ≡ judgments.Broken f)
     → IfOk r (λ a. a.text.items ≡ json_line
-    (object_of name (judgments.Broken f)
+    (object_of reach name (judgments.Broken f)
     (members_of G (plain_insts m) shown (facts_of m.header.bound (plain_insts m) f.rule f.inst e))))
     → IfOk r (λ a. IsExplainAnswer G reach name bytes a)
 broken_explained G reach name bytes words order f e m shown r h b s j t =
@@ -109,14 +109,14 @@ broken_explained G reach name bytes words order f e m shown r h b s j t =
     (fault_verdict G reach bytes words order f h (broken_fault G reach words f e m b))
     (AreMembers.broken words order is f e shown h b.listing b.shown s) j
     (subst (λ x. IfOk r (λ a. a.text.items ≡ json_line
-    (object_of name (judgments.Broken f) (members_of G is shown (facts_of x is f.rule f.inst e))))) b.header.bound
+    (object_of reach name (judgments.Broken f) (members_of G is shown (facts_of x is f.rule f.inst e))))) b.header.bound
     t)
 
 -- bytes that gave no image
 explained_one : (G : Table) (reach : Reach) (name : Option (List ℕ)) (bytes : List ℕ) (code : WordError) (a : Answer)
     → IsFirstBroken code bytes
     → judgments.Refused code ≡ a.judgment
-    → a.text.items ≡ json_line (object_of name (judgments.Refused code) (refused_members code (front_of bytes)))
+    → a.text.items ≡ json_line (object_of reach name (judgments.Refused code) (refused_members code (front_of bytes)))
     → IsExplainAnswer G reach name bytes a
 explained_one G reach name bytes code a b e t =
     explained_at G reach name bytes (judgments.Refused code) (refused_members code (front_of bytes)) a
@@ -124,7 +124,7 @@ explained_one G reach name bytes code a b e t =
 
 checked_one : (G : Table) (reach : Reach) (name : Option (List ℕ)) (bytes : List ℕ) (code : WordError) (a : Answer)
     → IsFirstBroken code bytes
-    → judgments.Refused code ≡ a.judgment → a.text.items ≡ json_line (object_of name (judgments.Refused code) [])
+    → judgments.Refused code ≡ a.judgment → a.text.items ≡ json_line (object_of reach name (judgments.Refused code) [])
     → IsCheckAnswer G reach name bytes a
 checked_one G reach name bytes code a b e t =
     checked_at G reach name bytes (judgments.Refused code) a (refused_verdict code b) (sym e) t
@@ -133,7 +133,7 @@ pub refused_explained : {E : Type 0} (G : Table) (reach : Reach) (name : Option 
     (code : WordError) (r : Outcome Answer E) → RefusesBytes code bytes
     → IfOk r (λ a. refusal_of code ≡ Ok a.judgment)
     → IfOk r (λ a. a.text.items ≡ json_line
-    (object_of name (judgments.Refused code) (refused_members code (front_of bytes))))
+    (object_of reach name (judgments.Refused code) (refused_members code (front_of bytes))))
     → IfOk r (λ a. IsExplainAnswer G reach name bytes a)
 refused_explained G reach name bytes code (Err _) h e t = tt
 refused_explained G reach name bytes word.W1 (Ok a) h e t = absurd cc
@@ -156,7 +156,7 @@ refused_explained G reach name bytes word.W8 (Ok a) h e t =
 pub refused_checked : {E : Type 0} (G : Table) (reach : Reach) (name : Option (List ℕ)) (bytes : List ℕ)
     (code : WordError) (r : Outcome Answer E) → RefusesBytes code bytes
     → IfOk r (λ a. refusal_of code ≡ Ok a.judgment)
-    → IfOk r (λ a. a.text.items ≡ json_line (object_of name (judgments.Refused code) []))
+    → IfOk r (λ a. a.text.items ≡ json_line (object_of reach name (judgments.Refused code) []))
     → IfOk r (λ a. IsCheckAnswer G reach name bytes a)
 refused_checked G reach name bytes code (Err _) h e t = tt
 refused_checked G reach name bytes word.W1 (Ok a) h e t = absurd cc
@@ -180,7 +180,7 @@ refused_checked G reach name bytes word.W8 (Ok a) h e t =
 pub valid_checked : {E : Type 0} (G : Table) (reach : Reach) (name : Option (List ℕ)) (bytes words : List ℕ)
     (order : Order) (p : Program) (r : Outcome Answer E)
     → IsModule order bytes words → IsChecked G reach words p → IfOk r (λ a. a.judgment ≡ judgments.Valid)
-    → IfOk r (λ a. a.text.items ≡ json_line (object_of name judgments.Valid []))
+    → IfOk r (λ a. a.text.items ≡ json_line (object_of reach name judgments.Valid []))
     → IfOk r (λ a. IsCheckAnswer G reach name bytes a)
 valid_checked G reach name bytes words order p r h c e t =
     checked_by G reach name bytes judgments.Valid r (valid_verdict G reach bytes words order p h c) e t
@@ -188,7 +188,7 @@ valid_checked G reach name bytes words order p r h c e t =
 pub fault_checked : {E : Type 0} (G : Table) (reach : Reach) (name : Option (List ℕ)) (bytes words : List ℕ)
     (order : Order) (f : Fault) (r : Outcome Answer E)
     → IsModule order bytes words → IsFault G reach words f → IfOk r (λ a. a.judgment ≡ judgments.Broken f)
-    → IfOk r (λ a. a.text.items ≡ json_line (object_of name (judgments.Broken f) []))
+    → IfOk r (λ a. a.text.items ≡ json_line (object_of reach name (judgments.Broken f) []))
     → IfOk r (λ a. IsCheckAnswer G reach name bytes a)
 fault_checked G reach name bytes words order f r h d e t =
     checked_by G reach name bytes (judgments.Broken f) r (fault_verdict G reach bytes words order f h d) e t

@@ -1,6 +1,6 @@
 -- What a finder hands out shows a fault.
 use Rattle.std.proofs.Common.{◌≡◌, ℕ, List, refl, sym, subst, inl, inr}
-use Rattle.std.specs.Prelude.{IfOk, Ok, Err}
+use Rattle.std.specs.Prelude.{IfOk, IsTrue, Ok, Err}
 use Rattle.std.specs.Prelude.{Result as Answer}
 use Rattle.spv_table.specs.Table.{Table}
 use Rattle.spv_module.specs.Operand.{PlainInst}
@@ -12,7 +12,8 @@ use Rattle.spv_module.specs.declared.fault.Stop.TheVariants as stop
 use Rattle.spv_extended.specs.Broken as extended_rule
 use Rattle.spv_extended.specs.Miscalled.{IsMiscalled}
 use Rattle.spv_extended.specs.declared.reach.Reach.{Reach}
-use Rattle.spv_extended.specs.declared.reach.Reach.TheVariants.{Extended}
+use Rattle.spv_extended.specs.Reach.{opens, profile_of}
+use Rattle.spv_check.specs.Fork.{fork_of}
 use Rattle.spv_layout.specs.Broken as broken
 use Rattle.spv_layout.specs.Plan as plan
 use Rattle.spv_evidence.specs.declared.evidence.Evidence.{Evidence}
@@ -54,7 +55,7 @@ pub walk_shown : (G : Table) (reach : Reach) (bound : ℕ) (is : List PlainInst)
 walk_shown G reach bound is f e h = λ s. IsEvidence.of_walks f.rule f.inst e h
 
 pub branch_shown : (G : Table) (reach : Reach) (bound : ℕ) (is : List PlainInst) (f : Fault) (e : Evidence)
-    → branches.IsEvidence G is f.rule f.inst e → IsShownAt G reach bound is f e
+    → branches.IsEvidence (fork_of reach) G is f.rule f.inst e → IsShownAt G reach bound is f e
 branch_shown G reach bound is f e h = λ s. IsEvidence.of_branches f.rule f.inst e h
 
 pub call_shown : (G : Table) (reach : Reach) (bound : ℕ) (is : List PlainInst) (f : Fault) (e : Evidence)
@@ -67,19 +68,19 @@ pub id_shown : (G : Table) (reach : Reach) (bound : ℕ) (is : List PlainInst) (
 id_shown G reach bound is f e h = λ s. IsEvidence.of_ids f.rule f.inst e h
 
 -- a refusal of the shapes or of the layout
-pub refused_broken : (G : Table) (is : List PlainInst) (s : Stop) (f : Fault) → s ≡ stop.Fault f → plan.IsRefusal G is s
-    → broken.Broken G is f.rule f.inst
-refused_broken G is s f e h =
-    let r : plan.IsRefusal G is (stop.Fault f) = rw e at h in
+pub refused_broken : (reach : Reach) (G : Table) (is : List PlainInst) (s : Stop) (f : Fault) → s ≡ stop.Fault f
+    → plan.IsRefusal (profile_of reach) G is s → broken.Broken (profile_of reach) G is f.rule f.inst
+refused_broken reach G is s f e h =
+    let r : plan.IsRefusal (profile_of reach) G is (stop.Fault f) = rw e at h in
     elim r.0 [ inl a ↦ a.broken | inr b ↦ b.1.broken ]
 
 pub layout_shown : (G : Table) (reach : Reach) (bound : ℕ) (is : List PlainInst) (f : Fault) (e : Evidence)
-    → layout.IsEvidence G is f.rule f.inst e → IsShownAt G reach bound is f e
+    → layout.IsEvidence (profile_of reach) G is f.rule f.inst e → IsShownAt G reach bound is f e
 layout_shown G reach bound is f e h = λ s. IsEvidence.of_layout f.rule f.inst e h
 
 -- a call of what a set does not have
 pub the_miscall : (reach : Reach) (is : List PlainInst) (r : Rule) (n : ℕ) → extended_rule.Broken reach is r n
-    → (r ≡ rule.Y9) × (reach ≡ Extended) × IsMiscalled is n
+    → (r ≡ rule.Y9) × IsTrue (opens reach) × IsMiscalled is n
 the_miscall reach is _ _ (extended_rule.miscalled n on m) = (refl, on, m)
 
 pub extended_shown : (G : Table) (reach : Reach) (bound : ℕ) (is : List PlainInst) (f : Fault) (e : Evidence)

@@ -14,6 +14,7 @@ use Rattle.spv_type_rules.specs.Keeps as rules
 use Rattle.spv_type_rules.specs.roles.Outcome.{AreInRole}
 use Rattle.spv_check.specs.types.Broken as types
 use Rattle.spv_flow.specs.branches.Broken as branches
+use Rattle.spv_flow.specs.declared.branches.fork.Fork.{Fork}
 use Rattle.spv_flow.specs.calls.Broken as calls
 use Rattle.spv_check.specs.flow.Outcome.{IsFirstOfFlow}
 use Rattle.spv_check.proofs.Decided.{held}
@@ -147,24 +148,27 @@ later G is r n d (inl f) = let e = fourth r f.of_stage in absurd cc
 later G is r n d (inr f) = in_roles G is f.0
 
 -- the rules on values, on calls and on branches
-pub values_of : (G : Table) (is : List PlainInst) (r : Rule) (n : ℕ) → is_of_values r ≡ true → IsFirstOfFlow G is r n
-    → IsUnbroken (branches.Broken G is) stages.of_branches × branches.Broken G is r n
-values_of G is r n e (IsFirstOfFlow.of_branches f) = let s = of_values r e in let t = f.of_stage in
+pub values_of : (fork : Fork) (G : Table) (is : List PlainInst) (r : Rule) (n : ℕ) → is_of_values r ≡ true
+    → IsFirstOfFlow fork G is r n
+    → IsUnbroken (branches.Broken fork G is) stages.of_branches × branches.Broken fork G is r n
+values_of fork G is r n e (IsFirstOfFlow.of_branches f) = let s = of_values r e in let t = f.of_stage in
     absurd (omega (arith, s, t))
-values_of G is r n e (IsFirstOfFlow.of_values u f) = (u, f.broken)
-values_of G is r n e (IsFirstOfFlow.of_calls u v f) = let s = of_values r e in let t = f.of_stage in
+values_of fork G is r n e (IsFirstOfFlow.of_values u f) = (u, f.broken)
+values_of fork G is r n e (IsFirstOfFlow.of_calls u v f) = let s = of_values r e in let t = f.of_stage in
     absurd (omega (arith, s, t))
 
-pub calls_of : (G : Table) (is : List PlainInst) (r : Rule) (n : ℕ) → is_of_calls r ≡ true → IsFirstOfFlow G is r n
+pub calls_of : (fork : Fork) (G : Table) (is : List PlainInst) (r : Rule) (n : ℕ) → is_of_calls r ≡ true
+    → IsFirstOfFlow fork G is r n
     → calls.Broken is rule.G1 n
-calls_of G is r n e (IsFirstOfFlow.of_branches f) = let s = of_calls r e in let t = f.of_stage in
+calls_of fork G is r n e (IsFirstOfFlow.of_branches f) = let s = of_calls r e in let t = f.of_stage in
     absurd (omega (arith, s, t))
-calls_of G is r n e (IsFirstOfFlow.of_values u f) = let s = of_calls r e in let t = f.of_stage in
+calls_of fork G is r n e (IsFirstOfFlow.of_values u f) = let s = of_calls r e in let t = f.of_stage in
     absurd (omega (arith, s, t))
-calls_of G is r n e (IsFirstOfFlow.of_calls u v f) = subst (λ q. calls.Broken is q n) (the_call r e) f.broken
+calls_of fork G is r n e (IsFirstOfFlow.of_calls u v f) = subst (λ q. calls.Broken is q n) (the_call r e) f.broken
 
-pub branches_of : (G : Table) (is : List PlainInst) (r : Rule) (n : ℕ) → is_of_values r ≡ false → is_of_calls r ≡ false
-    → IsFirstOfFlow G is r n → IsFirst (branches.Broken G is) stages.of_branches r n
-branches_of G is r n d e (IsFirstOfFlow.of_branches f) = f
-branches_of G is r n d e (IsFirstOfFlow.of_values u f) = let s = seventh r f.of_stage in absurd cc
-branches_of G is r n d e (IsFirstOfFlow.of_calls u v f) = let s = eighth r f.of_stage in absurd cc
+pub branches_of : (fork : Fork) (G : Table) (is : List PlainInst) (r : Rule) (n : ℕ) → is_of_values r ≡ false
+    → is_of_calls r ≡ false
+    → IsFirstOfFlow fork G is r n → IsFirst (branches.Broken fork G is) stages.of_branches r n
+branches_of fork G is r n d e (IsFirstOfFlow.of_branches f) = f
+branches_of fork G is r n d e (IsFirstOfFlow.of_values u f) = let s = seventh r f.of_stage in absurd cc
+branches_of fork G is r n d e (IsFirstOfFlow.of_calls u v f) = let s = eighth r f.of_stage in absurd cc

@@ -1,5 +1,5 @@
 -- Evidence of whatever rule shows that the rule is broken.
-use Rattle.std.proofs.Common.{◌≡◌, ◌<◌, ◌≤◌, ◌⊎◌, inl, inr, ℕ, List, Some, arith, sym, subst}
+use Rattle.std.proofs.Common.{◌≡◌, ◌<◌, ◌≤◌, ◌⊎◌, inl, inr, ℕ, List, IsTrue, Some, arith}
 use Rattle.std.specs.Prelude.{slice_get}
 use Rattle.spv_table.specs.Table.{Table}
 use Rattle.spv_module.specs.Operand.{PlainInst}
@@ -11,7 +11,8 @@ use Rattle.spv_check.specs.types.Broken as types
 use Rattle.spv_check.specs.Broken.{Broken}
 use Rattle.spv_evidence.specs.declared.evidence.Evidence.{Evidence}
 use Rattle.spv_extended.specs.declared.reach.Reach.{Reach}
-use Rattle.spv_extended.specs.declared.reach.Reach.TheVariants.{Extended}
+use Rattle.spv_extended.specs.Reach.{opens, profile_of}
+use Rattle.spv_check.specs.Fork.{fork_of}
 use Rattle.spv_extended.specs.Broken as extended
 use Rattle.spv_form_evidence.specs.extended.Evidence as by_extended
 use Rattle.spv_layout.specs.First.{stage_of}
@@ -59,9 +60,9 @@ capabilities_broken G is r n e h =
     let t = capability_there G is r n e h in
     types.Broken.of_capabilities r n t.inst t.there (breaks G is r n e t.inst h t.there)
 
-extended_broken : (reach : Reach) (is : List PlainInst) (r : Rule) (n : ℕ) (e : Evidence) → reach ≡ Extended
+extended_broken : (reach : Reach) (is : List PlainInst) (r : Rule) (n : ℕ) (e : Evidence) → IsTrue (opens reach)
     → by_extended.IsEvidence is r n e → extended.Broken reach is r n
-extended_broken reach is r n e on h = subst (λ q. extended.Broken q is r n) (sym on) (extended_law.suffices is r n e h)
+extended_broken reach is r n e on h = extended_law.suffices reach is r n e on h
 
 -- what is kept, but for what Y5 demands of operations
 unasked : (G : Table) (is : List PlainInst) (r : Rule) (n : ℕ) (i : PlainInst) → Keeps (IsTyped G is) is r n i
@@ -88,7 +89,8 @@ operations_broken G is r n e h =
 
 pub suffices : (G : Table) (reach : Reach) (bound : ℕ) (is : List PlainInst) (r : Rule) (n : ℕ) (e : Evidence)
     → IsEvidence G reach bound is r n e → Broken G reach bound is r n
-suffices G reach bound is _ _ _ (IsEvidence.of_layout r n e h) = Broken.of_layout r n (layout_law.suffices G is r n e h)
+suffices G reach bound is _ _ _ (IsEvidence.of_layout r n e h) =
+    Broken.of_layout r n (layout_law.suffices (profile_of reach) G is r n e h)
 suffices G reach bound is _ _ _ (IsEvidence.of_ids r n e h) = Broken.of_ids r n (ids_suffice G bound is r n e h)
 suffices G reach bound is _ _ _ (IsEvidence.of_roles r n e h) = Broken.of_types r n (roles_broken G is r n e h)
 suffices G reach bound is _ _ _ (IsEvidence.of_capabilities r n e h) =
@@ -97,8 +99,9 @@ suffices G reach bound is _ _ _ (IsEvidence.of_types r n e h) = Broken.of_types 
 suffices G reach bound is _ _ _ (IsEvidence.of_operations r n e h) =
     Broken.of_types r n (operations_broken G is r n e h)
 suffices G reach bound is _ _ _ (IsEvidence.of_branches r n e h) =
-    Broken.of_flow r n (branches_law.suffices G is r n e h)
-suffices G reach bound is _ _ _ (IsEvidence.of_walks r n e h) = Broken.of_flow r n (walks_law.suffices G is r n e h)
+    Broken.of_flow r n (branches_law.suffices (fork_of reach) G is r n e h)
+suffices G reach bound is _ _ _ (IsEvidence.of_walks r n e h) = Broken.of_flow r n
+    (walks_law.suffices (fork_of reach) G is r n e h)
 suffices G reach bound is _ _ _ (IsEvidence.of_calls r n e h) = Broken.of_calls r n (sufficient is r n e h)
 suffices G reach bound is _ _ _ (IsEvidence.of_extended r n e on h) =
     Broken.of_extended r n (extended_broken reach is r n e on h)
@@ -109,7 +112,8 @@ apart r a b s (inl e) l m = omega (arith, s, e, l)
 apart r a b s (inr e) l m = omega (arith, s, e, m)
 
 pub of_layout_alone : (G : Table) (reach : Reach) (bound : ℕ) (is : List PlainInst) (r : Rule) (n : ℕ) (e : Evidence)
-    → IsEvidence G reach bound is r n e → stage_of r < stages.of_ids → by_layout.IsEvidence G is r n e
+    → IsEvidence G reach bound is r n e → stage_of r < stages.of_ids
+    → by_layout.IsEvidence (profile_of reach) G is r n e
 of_layout_alone G reach bound is _ _ _ (IsEvidence.of_layout r n e h) s = h
 of_layout_alone G reach bound is _ _ _ (IsEvidence.of_ids r n e h) s =
     absurd (apart r 3 3 s (inl (ids_stage G bound is r n (ids_suffice G bound is r n e h))) (omega arith) (omega arith))
@@ -122,9 +126,11 @@ of_layout_alone G reach bound is _ _ _ (IsEvidence.of_types r n e h) s =
 of_layout_alone G reach bound is _ _ _ (IsEvidence.of_operations r n e h) s =
     absurd (apart r 4 5 s (types_stage G is r n (operations_broken G is r n e h)) (omega arith) (omega arith))
 of_layout_alone G reach bound is _ _ _ (IsEvidence.of_branches r n e h) s =
-    absurd (apart r 6 7 s (flow_stage G is r n (branches_law.suffices G is r n e h)) (omega arith) (omega arith))
+    absurd (apart r 6 7 s (flow_stage reach G is r n (branches_law.suffices (fork_of reach) G is r n e h)) (omega arith)
+    (omega arith))
 of_layout_alone G reach bound is _ _ _ (IsEvidence.of_walks r n e h) s =
-    absurd (apart r 6 7 s (flow_stage G is r n (walks_law.suffices G is r n e h)) (omega arith) (omega arith))
+    absurd (apart r 6 7 s (flow_stage reach G is r n (walks_law.suffices (fork_of reach) G is r n e h)) (omega arith)
+    (omega arith))
 of_layout_alone G reach bound is _ _ _ (IsEvidence.of_calls r n e h) s =
     absurd (apart r 8 8 s (inl (calls_stage is r n (sufficient is r n e h))) (omega arith) (omega arith))
 of_layout_alone G reach bound is _ _ _ (IsEvidence.of_extended r n e on h) s =
@@ -137,13 +143,14 @@ below r a b s (inl e) l m = omega (arith, s, e, l)
 below r a b s (inr e) l m = omega (arith, s, e, m)
 
 pub record IsOfExtended (reach : Reach) (is : List PlainInst) (r : Rule) (n : ℕ) (e : Evidence) : Type 0 where
-  pub on : reach ≡ Extended
+  pub on : IsTrue (opens reach)
   pub shows : by_extended.IsEvidence is r n e
 
 pub of_extended_alone : (G : Table) (reach : Reach) (bound : ℕ) (is : List PlainInst) (r : Rule) (n : ℕ) (e : Evidence)
     → IsEvidence G reach bound is r n e → stage_of r ≡ stages.of_extended → IsOfExtended reach is r n e
 of_extended_alone G reach bound is _ _ _ (IsEvidence.of_layout r n e h) s =
-    absurd (below r 1 2 s (layout_stage G is r n (layout_law.suffices G is r n e h)) (omega arith) (omega arith))
+    absurd (below r 1 2 s (layout_stage reach G is r n (layout_law.suffices (profile_of reach) G is r n e h))
+    (omega arith) (omega arith))
 of_extended_alone G reach bound is _ _ _ (IsEvidence.of_ids r n e h) s =
     absurd (below r 3 3 s (inl (ids_stage G bound is r n (ids_suffice G bound is r n e h))) (omega arith) (omega arith))
 of_extended_alone G reach bound is _ _ _ (IsEvidence.of_roles r n e h) s =
@@ -155,9 +162,11 @@ of_extended_alone G reach bound is _ _ _ (IsEvidence.of_types r n e h) s =
 of_extended_alone G reach bound is _ _ _ (IsEvidence.of_operations r n e h) s =
     absurd (below r 4 5 s (types_stage G is r n (operations_broken G is r n e h)) (omega arith) (omega arith))
 of_extended_alone G reach bound is _ _ _ (IsEvidence.of_branches r n e h) s =
-    absurd (below r 6 7 s (flow_stage G is r n (branches_law.suffices G is r n e h)) (omega arith) (omega arith))
+    absurd (below r 6 7 s (flow_stage reach G is r n (branches_law.suffices (fork_of reach) G is r n e h)) (omega arith)
+    (omega arith))
 of_extended_alone G reach bound is _ _ _ (IsEvidence.of_walks r n e h) s =
-    absurd (below r 6 7 s (flow_stage G is r n (walks_law.suffices G is r n e h)) (omega arith) (omega arith))
+    absurd (below r 6 7 s (flow_stage reach G is r n (walks_law.suffices (fork_of reach) G is r n e h)) (omega arith)
+    (omega arith))
 of_extended_alone G reach bound is _ _ _ (IsEvidence.of_calls r n e h) s =
     absurd (below r 8 8 s (inl (calls_stage is r n (sufficient is r n e h))) (omega arith) (omega arith))
 of_extended_alone G reach bound is _ _ _ (IsEvidence.of_extended r n e on h) s = record { on = on; shows = h }

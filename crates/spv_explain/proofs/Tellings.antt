@@ -1,5 +1,5 @@
 -- Lines that tell what bytes come to.
-use Rattle.std.proofs.Common.{◌≡◌, ◌≤◌, ◌↔◌, ◌++◌, ◌-◌, ◌∙◌, ℕ, List, [], Bool, Option, Some, None, IfSome, IsTrue}
+use Rattle.std.proofs.Common.{◌≡◌, ◌≤◌, ◌↔◌, ◌++◌, ◌-◌, ◌∙◌, ℕ, List, [], Bool, false, Option, Some, None, IfSome, IsTrue}
 use Rattle.std.proofs.Common.{◌∷◌, ◌+◌, ◌<◌, append-nil, arith, drop, length, sum_by, take, ap, refl, sym, subst}
 use Rattle.std.proofs.Common.{string_bytes}
 use Rattle.std.proofs.lemmas.List.Sums.{sum_by-cons}
@@ -13,8 +13,7 @@ use Rattle.spv_words.specs.declared.words.WordError.TheVariants as word
 use Rattle.spv_words.specs.declared.words.Order.{Order}
 use Rattle.spv_table.specs.Table.{Table}
 use Rattle.spv_extended.specs.declared.reach.Reach.{Reach}
-use Rattle.spv_extended.specs.declared.reach.Reach.TheVariants.{Profile}
-use Rattle.spv_extended.specs.Reach.{looked_at}
+use Rattle.spv_extended.specs.Reach.{looked_at, opens}
 use Rattle.spv_layout.specs.Place.{AreFew, word_count}
 use Rattle.spv_module.specs.Operand.{PlainInst}
 use Rattle.spv_module.specs.Instruction.{IsListing}
@@ -38,8 +37,9 @@ use Rattle.spv_lines.specs.Text.{ShownLines}
 use Rattle.spv_fault_lines.specs.declared.fact.Detail.{Detail}
 use Rattle.spv_fault_lines.specs.declared.refused.Front.{Front}
 use Rattle.spv_explain.specs.Lines.{fault_text, malformed_text, refused_by, refused_text}
-use Rattle.spv_explain.specs.Stream.{AreOthers, BeginsExplaining, Explains, IsExplanation, IsModuleIn}
+use Rattle.spv_explain.specs.Stream.{AreOthers, BeginsExplaining, Explains, IsExplanation, IsModuleIn, IsWalk, walk_in}
 use Rattle.spv_explain.specs.declared.stream.Explanation.{Explanation}
+use Rattle.spv_explain.specs.declared.stream.Told.{Told}
 use Rattle.spv_explain.specs.inner.Reading.{IsBrokenModule}
 use Rattle.spv_explain.proofs.Readings.{broken_fault, dead_explains, dead_shows, explains}
 use Rattle.spv_explain.proofs.Readings.{listed_explains, valid_explains}
@@ -108,6 +108,22 @@ broken_told laws z G reach bytes words order f e m shown (Ok t) h b s j l = reco
   others = fault_others laws bytes words order f t.judgment (string_bytes t.lines) h j;
 }
 broken_told laws z G reach bytes words order f e m shown (Err _) h b s j l = tt
+
+-- the walk of the evidence whose lines are told
+pub walk_told : (z : Detail) (G : Table) (reach : Reach) (bytes words : List ℕ) (order : Order) (f : Fault) (e : Evidence)
+    (m : Module) (shown : List (List ℕ)) (t : Explanation) (walk : List ℕ) → IsModule order bytes words
+    → IsBrokenModule G reach words f e m → ShownLines G [] (plain_insts m) shown → t.judgment ≡ judgments.Broken f
+    → string_bytes t.lines ≡ fault_text z G m.header.bound (plain_insts m) shown f.rule f.inst e
+    → walk ≡ walk_in (plain_insts m) e → IsWalk z G reach bytes t walk
+walk_told z G reach bytes words order f e m shown t walk h b s j l w =
+    subst (λ ids. IsWalk z G reach bytes t ids) (sym w)
+    (IsWalk.broken words order (plain_insts m) f e shown j h b.listing b.shown s
+    (l ∙ ap (λ n. fault_text z G n (plain_insts m) shown f.rule f.inst e) b.header.bound))
+
+-- no evidence has one
+pub no_walk_told : (z : Detail) (G : Table) (reach : Reach) (bytes : List ℕ) (t : Explanation) (walk : List ℕ)
+    → walk ≡ [] → IsWalk z G reach bytes t [] → IsWalk z G reach bytes t walk
+no_walk_told z G reach bytes t walk e w = subst (λ ids. IsWalk z G reach bytes t ids) (sym e) w
 
 -- bytes that gave no image
 refused_line_only : (bytes : List ℕ) (code : WordError) (j : Judgment) → judgments.Refused code ≡ j
@@ -261,12 +277,16 @@ told_begun z G reach (Some bs) (Some old) new t bytes h e w =
       written = rw (← e) w.2;
     }
 
--- under the profile a list is looked at as it is spelled
-pub as_spelled : (G : Table) (reach : Reach) (is : List PlainInst) (ws : List ℕ) → reach ≡ Profile
+-- where extended instructions are not looked at whole, a list is looked at as it is spelled
+pub as_spelled : (G : Table) (reach : Reach) (is : List PlainInst) (ws : List ℕ) → opens reach ≡ false
     → IsReading G reach is ws → IsListing G is ws
 as_spelled G reach is ws e d =
-    let same : is ≡ d.spelled = subst (λ r. is ≡ looked_at r d.spelled) e d.seen in
+    let same : is ≡ d.spelled = rw e at d.seen in
     subst (λ js. IsListing G js ws) (sym same) d.listing
+
+-- what a call answered that was told in either of two ways
+pub ok_told : {E : Type 0} (r s : Answer Told E) (t : Told) (P : Told → Type 0) → s ≡ r → s ≡ Ok t → IfOk r P → P t
+ok_told {E} r s t P e f h = subst (λ (x : Answer Told E). IfOk x P) (sym e ∙ f) h
 
 -- a module that is handed out
 pub some_module : (G : Table) (words : List ℕ) (is : List PlainInst) (o : Option Module)

@@ -7,6 +7,7 @@ use Rattle.std.specs.List.{Contains}
 use Rattle.std.proofs.lemmas.Fmt.{decimal_digit}
 use Rattle.spv_table.specs.Table.{pattern_of}
 use Rattle.spv_module.specs.Example.{small, string, string_entry}
+use Rattle.spv_module.specs.declared.profile.Profile.TheVariants.{Own}
 use Rattle.spv_module.specs.Operand.{PlainInst, Result, Text, start}
 use Rattle.spv_module.specs.Shape.{shape_of}
 use Rattle.spv_module.specs.Spelling.{HoldsText, Takes}
@@ -36,7 +37,7 @@ use Rattle.spv_check.proofs.Stages.{types_stage}
 use Rattle.spv_evidence.specs.declared.evidence.Evidence.{Evidence}
 use Rattle.spv_evidence.specs.declared.evidence.Evidence.TheVariants.{MayCome, NoEntry}
 use Rattle.spv_form_evidence.specs.layout.Evidence as layout
-use Rattle.spv_form_evidence.specs.layout.inner.Automaton.{followers}
+use Rattle.spv_form_evidence.specs.layout.inner.Automaton.{followers, opcodes_of}
 use Rattle.spv_form_evidence.proofs.lemmas.layout.Opcodes.{to_come}
 use Rattle.spv_explain.specs.Evidence.{IsEvidence}
 use Rattle.spv_explain.specs.Example.{labels, many_opcodes, string_fault, string_words, twice_void}
@@ -56,7 +57,11 @@ use Rattle.spv_fault_lines.specs.declared.fact.Fact.TheVariants as fact
 use Rattle.spv_fault_lines.specs.declared.fact.Place.{Place as Standing}
 use Rattle.spv_rules.specs.declared.rules.Code.TheVariants as Code
 use Rattle.spv_explain.specs.Lines.{refused_text, rule_line}
-use Rattle.spv_explain.specs.Stream.{AreLinesOf, IsModuleOf}
+use Rattle.spv_explain.specs.Stream.{AreLinesOf, IsModuleOf, IsWalk}
+use Rattle.spv_explain.specs.declared.stream.Explanation.{Explanation}
+use Rattle.spv_check.specs.declared.verdict_line.Judgment.TheVariants as verdicts
+use Rattle.spv_table.specs.Table.{Table}
+use Rattle.spv_extended.specs.declared.reach.Reach.{Reach}
 use Rattle.spv_explain.proofs.Sufficing.{of_layout_alone, suffices}
 
 -- lines
@@ -162,7 +167,7 @@ no_second _ _ (ids.Broken.not_in_scope n k x r u o l i) e z = cc
 no_broken : (r : Rule) (n : ℕ) → Broken small Profile 5 twice_void r n → r ≡ D2 → n ≡ 0 → ⊥
 no_broken _ _ (Broken.of_layout r n b) e z =
     let s : stage_of r ≡ stages.of_ids = subst (λ q. stage_of q ≡ stages.of_ids) (sym e) refl in
-    elim (layout_stage small twice_void r n b) [
+    elim (layout_stage Profile small twice_void r n b) [
       | inl t ↦ absurd (omega (arith, s, t))
       | inr t ↦
           absurd (omega (arith, s, t))
@@ -177,7 +182,7 @@ no_broken _ _ (Broken.of_types r n b) e z =
     ]
 no_broken _ _ (Broken.of_flow r n b) e z =
     let s : stage_of r ≡ stages.of_ids = subst (λ q. stage_of q ≡ stages.of_ids) (sym e) refl in
-    elim (flow_stage small twice_void r n b) [
+    elim (flow_stage Profile small twice_void r n b) [
       | inl t ↦ absurd (omega (arith, s, t))
       | inr t ↦
           absurd (omega (arith, s, t))
@@ -194,13 +199,20 @@ no_broken _ _ (Broken.of_extended r n b) e z =
 pub no_first_lines : (lines : List ℕ) → ¬ (AreLinesOf Short small Profile 5 twice_void D2 0 lines)
 no_first_lines lines l = no_broken D2 0 (suffices small Profile 5 twice_void D2 0 l.evidence l.shows) refl refl
 
+-- a valid module has no walk
+pub no_walk : (G : Table) (reach : Reach) (bytes : List ℕ) (e : Explanation) (walk : List ℕ) → e.judgment ≡ verdicts.Valid
+    → walk ≡ 1 ∷ [] → ¬ (IsWalk Short G reach bytes e walk)
+no_walk G reach bytes e _ j w (IsWalk.valid v) = cc
+no_walk G reach bytes e _ j w (IsWalk.broken words order is f evidence shown b h l x s t) = cc
+no_walk G reach bytes e _ j w (IsWalk.dead words order h l) = cc
+
 -- an OpString first
-first_opcodes : followers at.Capabilities 331 ≡ 10 ∷ 11 ∷ 14 ∷ 17 ∷ []
+first_opcodes : followers Own at.Capabilities (opcodes_of Own) ≡ 10 ∷ 11 ∷ 14 ∷ 17 ∷ []
 unfolding rows followers
 first_opcodes = refl
 
-first_to_come : layout.AreToCome [] (10 ∷ 11 ∷ 14 ∷ 17 ∷ []) false
-first_to_come = subst (λ l. layout.AreToCome [] l false) first_opcodes (to_come [] at.Capabilities leads_first)
+first_to_come : layout.AreToCome Own [] (10 ∷ 11 ∷ 14 ∷ 17 ∷ []) false
+first_to_come = subst (λ l. layout.AreToCome Own [] l false) first_opcodes (to_come Own [] at.Capabilities leads_first)
 
 not_string : ¬ (Contains {X = ℕ} (10 ∷ 11 ∷ 14 ∷ 17 ∷ []) 7)
 not_string c = by c.0 c.1 c.2
@@ -276,7 +288,7 @@ string_shown is l s =
     subst (λ js. IsEvidence small Profile 9 js L1 0 (MayCome (10 ∷ 11 ∷ 14 ∷ 17 ∷ []) false))
     (the_string is l) string_shows
 
-no_entry_shows : (r : Rule) (n : ℕ) (e : Evidence) → layout.IsEvidence small (string ∷ []) r n e → e ≡ NoEntry → ⊥
+no_entry_shows : (r : Rule) (n : ℕ) (e : Evidence) → layout.IsEvidence Own small (string ∷ []) r n e → e ≡ NoEntry → ⊥
 no_entry_shows _ _ _ (layout.IsEvidence.misfit i n known h k f) e = cc
 no_entry_shows _ _ _ (layout.IsEvidence.misplaced i n os end h a none) e = cc
 no_entry_shows _ _ _ (layout.IsEvidence.unfinished os a) e = cc

@@ -1,5 +1,5 @@
 -- A call of OpenCL.std that has too few operands, looked at and not.
-use Rattle.std.proofs.Common.{◌≡◌, ◌∙◌, ℕ, Some, ap, refl, sym, arith}
+use Rattle.std.proofs.Common.{◌≡◌, ◌∙◌, ℕ, Some, true, false, ap, refl, sym, arith}
 use Rattle.std.specs.Prelude.{Option, unwrap_or, option_map}
 use Rattle.spv_table.specs.Table.{Table}
 use Rattle.spv_module.specs.declared.fault.Rule.{Rule}
@@ -49,5 +49,5 @@ other_count_not_shown G bound h =
 pub by_profile_not_shown : (G : Table) (bound : ℕ) (e : Evidence)
     → ¬ (IsEvidence G Profile bound (looked_at Profile short_call) Y9 2 e)
 by_profile_not_shown G bound e h =
-    let on : Profile ≡ Extended = (of_extended_alone G Profile bound (looked_at Profile short_call) Y9 2 e h refl).on in
+    let on : false ≡ true = (of_extended_alone G Profile bound (looked_at Profile short_call) Y9 2 e h refl).on in
     absurd cc

@@ -27,29 +27,30 @@ use Rattle.spv_fault_lines.specs.Refused.{front_of}
 use Rattle.spv_fault_lines.specs.json_members.Members.{refused_members}
 use Rattle.spv_explain.specs.Json.{AreMembers, code_line, error_object, json_line, object_of}
 use Rattle.spv_explain.specs.declared.answers.Unread.TheVariants as unread
+use Rattle.spv_extended.specs.declared.reach.Reach.TheVariants as reaches
 use Rattle.spv_explain.proofs.Sufficing.{suffices}
 
-pub valid_told : json_line (object_of (Some (codes "a.spv"))
-    verdicts.Valid []) ≡ codes "{\"file\":\"a.spv\",\"verdict\":\"valid\"}" ++ line_end
+pub valid_told : json_line (object_of reaches.Profile (Some (codes "a.spv"))
+    verdicts.Valid []) ≡ codes "{\"file\":\"a.spv\",\"verdict\":\"valid\",\"profile\":\"own\"}" ++ line_end
 unfolding print_from escape_byte
 valid_told = refl
 
-pub unnamed_told : json_line (object_of None verdicts.Valid []) ≡ codes "{\"verdict\":\"valid\"}" ++ line_end
+pub unnamed_told : json_line (object_of (reaches.OpenCl 4) None verdicts.Valid []) ≡ codes "{\"verdict\":\"valid\",\"profile\":\"opencl\"}" ++ line_end
 unfolding print_from escape_byte
 unnamed_told = refl
 
-pub not_named_told : ¬ (json_line (object_of None verdicts.Valid []) ≡ codes "{\"file\":\"\",\"verdict\":\"valid\"}"
+pub not_named_told : ¬ (json_line (object_of (reaches.OpenCl 4) None verdicts.Valid []) ≡ codes "{\"file\":\"\",\"verdict\":\"valid\",\"profile\":\"opencl\"}"
     ++ line_end)
 not_named_told h = (let f : 118 ≡ 102 = ap (λ (t : List ℕ). slice_index t 2) (sym unnamed_told ∙ h) in
     absurd (omega (arith, f)))
 
-pub escaped_told : json_line (object_of (Some (34 ∷ 27 ∷ []))
-    verdicts.Valid []) ≡ codes "{\"file\":\"\\\"\\u001b\",\"verdict\":\"valid\"}" ++ line_end
+pub escaped_told : json_line (object_of reaches.Profile (Some (34 ∷ 27 ∷ []))
+    verdicts.Valid []) ≡ codes "{\"file\":\"\\\"\\u001b\",\"verdict\":\"valid\",\"profile\":\"own\"}" ++ line_end
 unfolding print_from escape_byte
 escaped_told = refl
 
-pub late_told : json_line (object_of (Some (127 ∷ 194 ∷ 155 ∷ []))
-    verdicts.Valid []) ≡ codes "{\"file\":\"\\u007f\\u009b\",\"verdict\":\"valid\"}" ++ line_end
+pub late_told : json_line (object_of reaches.Profile (Some (127 ∷ 194 ∷ 155 ∷ []))
+    verdicts.Valid []) ≡ codes "{\"file\":\"\\u007f\\u009b\",\"verdict\":\"valid\",\"profile\":\"own\"}" ++ line_end
 unfolding print_from escape_byte
 late_told = refl
 

@@ -1,10 +1,11 @@
 -- What shows that a rule is broken at an instruction, whatever rule it is. (Own.)
-use Rattle.std.specs.Prelude.{◌≡◌, ℕ, List}
+use Rattle.std.specs.Prelude.{ℕ, List, IsTrue}
 use Rattle.spv_table.specs.Table.{Table}
 use Rattle.spv_module.specs.Operand.{PlainInst}
 use Rattle.spv_module.specs.declared.fault.Rule.{Rule}
 use Rattle.spv_extended.specs.declared.reach.Reach.{Reach}
-use Rattle.spv_extended.specs.declared.reach.Reach.TheVariants.{Extended}
+use Rattle.spv_extended.specs.Reach.{opens, profile_of}
+use Rattle.spv_check.specs.Fork.{fork_of}
 use Rattle.spv_evidence.specs.declared.evidence.Evidence.{Evidence}
 use Rattle.spv_form_evidence.specs.layout.Evidence as layout
 use Rattle.spv_form_evidence.specs.ids.Evidence as ids
@@ -21,7 +22,8 @@ use Rattle.spv_operation_evidence.specs.Evidence as operations
 -- that number.
 pub data IsEvidence (G : Table) (reach : Reach) (bound : ℕ) (is : List PlainInst) : Rule → ℕ → Evidence → Type 0 where
   -- P and L
-  of_layout : (r : Rule) (n : ℕ) (e : Evidence) → layout.IsEvidence G is r n e → IsEvidence G reach bound is r n e
+  of_layout : (r : Rule) (n : ℕ) (e : Evidence) → layout.IsEvidence (profile_of reach) G is r n e
+      → IsEvidence G reach bound is r n e
   -- D
   of_ids : (r : Rule) (n : ℕ) (e : Evidence) → ids.IsEvidence G bound is r n e → IsEvidence G reach bound is r n e
   -- Y1
@@ -35,11 +37,12 @@ pub data IsEvidence (G : Table) (reach : Reach) (bound : ℕ) (is : List PlainIn
   of_operations : (r : Rule) (n : ℕ) (e : Evidence) → operations.IsEvidence G is r n e
       → IsEvidence G reach bound is r n e
   -- F
-  of_branches : (r : Rule) (n : ℕ) (e : Evidence) → branches.IsEvidence G is r n e → IsEvidence G reach bound is r n e
+  of_branches : (r : Rule) (n : ℕ) (e : Evidence) → branches.IsEvidence (fork_of reach) G is r n e
+      → IsEvidence G reach bound is r n e
   -- A
   of_walks : (r : Rule) (n : ℕ) (e : Evidence) → walks.IsEvidence G is r n e → IsEvidence G reach bound is r n e
   -- G
   of_calls : (r : Rule) (n : ℕ) (e : Evidence) → calls.IsEvidence is r n e → IsEvidence G reach bound is r n e
   -- Y9
-  of_extended : (r : Rule) (n : ℕ) (e : Evidence) → reach ≡ Extended → extended.IsEvidence is r n e
+  of_extended : (r : Rule) (n : ℕ) (e : Evidence) → IsTrue (opens reach) → extended.IsEvidence is r n e
       → IsEvidence G reach bound is r n e

@@ -11,6 +11,7 @@ use Rattle.spv_module.specs.Instruction.{IsListing}
 use Rattle.spv_module.specs.declared.fault.Fault.{Fault}
 use Rattle.spv_lines.specs.Text.{ShownLines}
 use Rattle.spv_extended.specs.declared.reach.Reach.{Reach}
+use Rattle.spv_extended.specs.declared.reach.Reach.TheVariants as reaches
 use Rattle.spv_extended.specs.Reach.{looked_at}
 use Rattle.spv_layout.specs.First.{stage_of}
 use Rattle.spv_layout.specs.Stage as stages
@@ -62,9 +63,19 @@ abbrev pub file_members : Option (List ℕ) → List Token
 file_members None = []
 file_members (Some name) = text_member (codes "file") name
 
+-- how far the module is looked at
+abbrev pub profile_text : Reach → List ℕ
+profile_text reaches.Profile = codes "own"
+profile_text reaches.Extended = codes "extended"
+profile_text (reaches.OpenCl minor) = codes "opencl"
+
+abbrev pub profile_members : Reach → List Token
+profile_members reach = text_member (codes "profile") (profile_text reach)
+
 -- the object of a verdict, with further members; and one object on a line, without control characters
-abbrev pub object_of : Option (List ℕ) → Judgment → List Token → List Token
-object_of name j members = begin_object ∷ file_members name ++ verdict_members j ++ members ++ end_object ∷ []
+abbrev pub object_of : Reach → Option (List ℕ) → Judgment → List Token → List Token
+object_of reach name j members =
+    begin_object ∷ file_members name ++ verdict_members j ++ profile_members reach ++ members ++ end_object ∷ []
 
 abbrev pub json_line : List Token → List ℕ
 json_line tokens = quiet_of (print tokens) ++ 10 ∷ []
@@ -73,7 +84,7 @@ json_line tokens = quiet_of (print tokens) ++ 10 ∷ []
 pub record IsCheckAnswer (G : Table) (reach : Reach) (name : Option (List ℕ)) (bytes : List ℕ)
     (a : Answer) : Type 0 where
   pub verdict : IsVerdict G reach bytes (line_of a.judgment)
-  pub told : a.text.items ≡ json_line (object_of name a.judgment [])
+  pub told : a.text.items ≡ json_line (object_of reach name a.judgment [])
 
 -- The members tell why the bytes have the verdict, under the table, where a module is looked at so far.
 pub data AreMembers (G : Table) (reach : Reach) (bytes : List ℕ) : Judgment → List Token → Type 0 where
@@ -100,7 +111,7 @@ pub record IsExplainAnswer (G : Table) (reach : Reach) (name : Option (List ℕ)
   pub verdict : IsVerdict G reach bytes (line_of a.judgment)
   pub members : List Token
   pub explain : AreMembers G reach bytes a.judgment members
-  pub told : a.text.items ≡ json_line (object_of name a.judgment members)
+  pub told : a.text.items ≡ json_line (object_of reach name a.judgment members)
 
 -- the object of a file that was not read
 abbrev pub unread_text : Unread → List ℕ

@@ -1,6 +1,8 @@
 -- What explains the verdict on bytes, and what `explain_stream` leaves in the writer. (Own.)
 use Rattle.std.specs.Prelude.{◌≡◌, ◌↔◌, ◌≤◌, ◌++◌, ℕ, List, [], Option, Some, None, IsTrue, Bool}
 use Rattle.std.specs.Prelude.{drop, length, slice_index, string_bytes, take}
+use Rattle.std.specs.List.{flat_map}
+use Rattle.std.specs.Option.{option_to_list}
 use Rattle.spv_words.specs.Header.{IsFirstBroken, IsModule}
 use Rattle.spv_words.specs.declared.words.Order.{Order}
 use Rattle.spv_words.specs.declared.words.WordError.{WordError}
@@ -11,6 +13,7 @@ use Rattle.spv_module.specs.Module.{plain_insts}
 use Rattle.spv_module.specs.declared.module.Module.{Module}
 use Rattle.spv_inst.specs.Outcome.{IsHeaderOf}
 use Rattle.spv_module.specs.Malformed.{IsMalformedAt}
+use Rattle.spv_module.specs.declared.fault.Fault.{Fault}
 use Rattle.spv_module.specs.declared.fault.Rule.{Rule}
 use Rattle.spv_lines.specs.Text.{ShownLines}
 use Rattle.spv_extended.specs.declared.reach.Reach.{Reach}
@@ -20,7 +23,10 @@ use Rattle.spv_layout.specs.Stage as stages
 use Rattle.spv_check.specs.Broken.{IsFirstOfAll}
 use Rattle.spv_check.specs.Verdict.{IsVerdict, valid_line}
 use Rattle.spv_check.specs.Text.{line_of}
+use Rattle.spv_check.specs.declared.verdict_line.Judgment.TheVariants.{Broken, Valid}
 use Rattle.spv_evidence.specs.declared.evidence.Evidence.{Evidence}
+use Rattle.spv_evidence.specs.declared.evidence.Evidence.TheVariants.{Walk}
+use Rattle.spv_fault_lines.specs.Lines.{result_of}
 use Rattle.spv_fault_lines.specs.declared.fact.Detail.{Detail}
 use Rattle.spv_explain.specs.Evidence.{IsEvidence}
 use Rattle.spv_form_evidence.specs.words.Evidence as instructions
@@ -81,6 +87,25 @@ pub record IsModuleOf (G : Table) (words : List ℕ) (m : Module) : Type 0 where
 abbrev pub IsModuleIn : Table → List ℕ → Option Module → Type 0
 IsModuleIn G words None = (is : List PlainInst) → ¬ (IsListing G is (drop 5 words))
 IsModuleIn G words (Some m) = IsModuleOf G words m
+
+-- the ids of the blocks of the walk that evidence of a list has, in order; none where it has none
+abbrev pub walk_in : List PlainInst → Evidence → List ℕ
+walk_in is (Walk operand defined blocks) = flat_map (λ n. option_to_list (result_of is n)) blocks
+walk_in is e = []
+
+-- These are the ids of the blocks of the walk that shows the fault, of the same evidence as the lines; where no list of
+-- instructions breaks a rule there are none.
+pub data IsWalk (d : Detail) (G : Table) (reach : Reach) (bytes : List ℕ) (e : Explanation) : List ℕ → Type 0 where
+  valid : e.judgment ≡ Valid → IsWalk d G reach bytes e []
+  broken : (words : List ℕ) (order : Order) (is : List PlainInst) (f : Fault) (evidence : Evidence)
+      (shown : List (List ℕ)) → e.judgment ≡ Broken f → IsModule order bytes words → IsListing G is (drop 5 words)
+      → (stages.of_profile ≤ stage_of f.rule
+      → IsEvidence G reach (slice_index words 3) (looked_at reach is) f.rule f.inst evidence)
+      → ShownLines G [] is shown
+      → string_bytes e.lines ≡ fault_text d G (slice_index words 3) is shown f.rule f.inst evidence
+      → IsWalk d G reach bytes e (walk_in is evidence)
+  dead : (words : List ℕ) (order : Order) → IsModule order bytes words
+      → ((is : List PlainInst) → ¬ (IsListing G is (drop 5 words))) → IsWalk d G reach bytes e []
 
 -- A writer that held the bytes `old` now also holds the verdict line of the bytes, after it lines that explain it, and
 -- nothing else; the answer tells whether the line is `valid`.

@@ -130,15 +130,39 @@ fn push_file(out: &mut Output, name: Option<&str>) -> Result<(), AllocError>
     }
 }
 
-/// The beginning of an object: the file, if its name is given, and the verdict.
-fn begun(alloc: Global, name: Option<&str>, judgment: Judgment) -> Result<Output, AllocError>
+/// How far a module is looked at, in a word.
+fn profile_name(reach: Reach) -> &'static str
+    ensures { result.now ≡ objects.profile_text reach }
+{
+    match reach {
+        Reach::Profile => "own",
+        Reach::Extended => "extended",
+        Reach::OpenCl { .. } => "opencl",
+    }
+}
+
+/// Adds how far a module is looked at.
+fn push_profile(out: &mut Output, reach: Reach) -> Result<(), AllocError>
+    ensures { OnOk result (out.new ≡ out.old ++ objects.profile_members reach) }
+{
+    out.text_member("profile", profile_name(reach))
+}
+
+/// The beginning of an object: the file, if its name is given, the verdict, and how far the module is looked at.
+fn begun(
+    alloc: Global,
+    reach: Reach,
+    name: Option<&str>,
+    judgment: Judgment,
+) -> Result<Output, AllocError>
     ensures { IfOk result (λ o. o ≡ begin_object ∷ file_members (option_map (λ n. n.now) name.entry)
-        ++ verdict_members judgment) }
+        ++ verdict_members judgment ++ objects.profile_members reach) }
 {
     let mut out = Output::new(alloc);
     out.begin_object()?;
     push_file(&mut out, name)?;
     push_verdict(&mut out, judgment)?;
+    push_profile(&mut out, reach)?;
     Ok(out)
 }
 
@@ -158,28 +182,30 @@ fn ended(out: Output, judgment: Judgment) -> Result<Answer, AllocError>
 /// The answer of a verdict alone.
 fn verdict_answer(
     alloc: Global,
+    reach: Reach,
     name: Option<&str>,
     judgment: Judgment,
 ) -> Result<Answer, AllocError>
     ensures judgment { IfOk result (λ a. a.judgment ≡ judgment) }
-    ensures text { IfOk result (λ a. a.text.items ≡ json_line (object_of (option_map (λ n. n.now) name.entry) judgment [])) }
+    ensures text { IfOk result (λ a. a.text.items ≡ json_line (object_of reach (option_map (λ n. n.now) name.entry) judgment [])) }
 {
-    let out = begun(alloc, name, judgment)?;
+    let out = begun(alloc, reach, name, judgment)?;
     ended(out, judgment)
 }
 
 /// The answer of bytes that are no words of a module, by what stands in front of them.
 fn refused_answer(
     alloc: Global,
+    reach: Reach,
     name: Option<&str>,
     code: WordError,
     front: Front,
 ) -> Result<Answer, AllocError>
     ensures judgment { IfOk result (λ a. a.judgment ≡ judgments.Refused code) }
-    ensures text { IfOk result (λ a. a.text.items ≡ json_line (object_of (option_map (λ n. n.now) name.entry)
+    ensures text { IfOk result (λ a. a.text.items ≡ json_line (object_of reach (option_map (λ n. n.now) name.entry)
         (judgments.Refused code) (refused_members code front))) }
 {
-    let mut out = begun(alloc, name, Judgment::Refused(code))?;
+    let mut out = begun(alloc, reach, name, Judgment::Refused(code))?;
     push_refused_members(&mut out, alloc, code, front)?;
     ended(out, Judgment::Refused(code))
 }
@@ -188,6 +214,7 @@ fn refused_answer(
 fn broken_answer(
     alloc: Global,
     table: &Table,
+    reach: Reach,
     name: Option<&str>,
     module: &Module<'_>,
     fault: Fault,
@@ -196,7 +223,7 @@ fn broken_answer(
     requires few { AreFew (plain_insts «module».now) }
     ensures judgment { IfOk result (λ a. a.judgment ≡ judgments.Broken fault) }
     ensures text { (shown : List (List ℕ)) → ShownLines table.now [] (plain_insts «module».now) shown
-        → IfOk result (λ a. a.text.items ≡ json_line (object_of (option_map (λ n. n.now) name.entry)
+        → IfOk result (λ a. a.text.items ≡ json_line (object_of reach (option_map (λ n. n.now) name.entry)
         (judgments.Broken fault) (members_of table.now (plain_insts «module».now) shown (facts_of
         «module».now.header.bound (plain_insts «module».now) fault.rule fault.inst evidence)))) }
 {
@@ -207,7 +234,7 @@ fn broken_answer(
         module,
     };
     let facts = about.facts_of(fault.rule, fault.inst, evidence)?;
-    let mut out = begun(alloc, name, Judgment::Broken(fault))?;
+    let mut out = begun(alloc, reach, name, Judgment::Broken(fault))?;
     push_members(&mut out, &about, &facts)?;
     ended(out, Judgment::Broken(fault))
 }
@@ -228,13 +255,14 @@ fn push_lone_members(
 fn malformed_answer(
     alloc: Global,
     table: &Table,
+    reach: Reach,
     name: Option<&str>,
     image: &Image,
     fault: Fault,
     evidence: Evidence,
 ) -> Result<Answer, AllocError>
     ensures judgment { IfOk result (λ a. a.judgment ≡ judgments.Broken fault) }
-    ensures text { IfOk result (λ a. a.text.items ≡ json_line (object_of (option_map (λ n. n.now) name.entry)
+    ensures text { IfOk result (λ a. a.text.items ≡ json_line (object_of reach (option_map (λ n. n.now) name.entry)
         (judgments.Broken fault) (members_of table.now [] [] (malformed_facts (drop 5 image.now) fault.inst
         (fault.word - 5) evidence)))) }
 {
@@ -246,7 +274,7 @@ fn malformed_answer(
         module: &module,
     };
     let facts = facts_of_words(about, image, fault.inst, fault.word, evidence)?;
-    let mut out = begun(alloc, name, Judgment::Broken(fault))?;
+    let mut out = begun(alloc, reach, name, Judgment::Broken(fault))?;
     push_lone_members(&mut out, &about, &facts)?;
     ended(out, Judgment::Broken(fault))
 }
@@ -266,21 +294,21 @@ fn explained_answer(
     word_counts();
     let _words = image.len();
     match explained_of(alloc, table, reach, image) {
-        Ok(Explained::Valid(_)) => verdict_answer(alloc, name, Judgment::Valid),
+        Ok(Explained::Valid(_)) => verdict_answer(alloc, reach, name, Judgment::Valid),
         Ok(
             Explained::Malformed {
                 fault,
                 evidence,
                 ..
             },
-        ) => malformed_answer(alloc, table, name, image, fault, evidence),
+        ) => malformed_answer(alloc, table, reach, name, image, fault, evidence),
         Ok(
             Explained::Broken {
                 fault,
                 evidence,
                 module,
             },
-        ) => broken_answer(alloc, table, name, &module, fault, evidence),
+        ) => broken_answer(alloc, table, reach, name, &module, fault, evidence),
         Err(_) => Err(AllocError),
     }
 }
@@ -297,45 +325,51 @@ fn checked_answer(
         → IfOk result (λ a. IsCheckAnswer table.now reach (option_map (λ n. n.now) name.entry) bytes a) }
 {
     match check(alloc, table, reach, image) {
-        Ok(Verdict::Valid(_)) => verdict_answer(alloc, name, Judgment::Valid),
-        Ok(Verdict::Fault(fault)) => verdict_answer(alloc, name, Judgment::Broken(fault)),
+        Ok(Verdict::Valid(_)) => verdict_answer(alloc, reach, name, Judgment::Valid),
+        Ok(Verdict::Fault(fault)) => verdict_answer(alloc, reach, name, Judgment::Broken(fault)),
         Err(_) => Err(AllocError),
     }
 }
 
 /// The answer of bytes that gave no image, without what is found. W1 and W9 are errors.
-fn check_refused(alloc: Global, name: Option<&str>, code: WordError) -> Result<Answer, AllocError>
+fn check_refused(
+    alloc: Global,
+    reach: Reach,
+    name: Option<&str>,
+    code: WordError,
+) -> Result<Answer, AllocError>
     ensures judgment { IfOk result (λ a. refusal_of code ≡ Ok a.judgment) }
-    ensures text { IfOk result (λ a. a.text.items ≡ json_line (object_of (option_map (λ n. n.now) name.entry)
+    ensures text { IfOk result (λ a. a.text.items ≡ json_line (object_of reach (option_map (λ n. n.now) name.entry)
         (judgments.Refused code) [])) }
 {
     match code {
         WordError::W1 => Err(AllocError),
         WordError::W9 => Err(AllocError),
-        _ => verdict_answer(alloc, name, Judgment::Refused(code)),
+        _ => verdict_answer(alloc, reach, name, Judgment::Refused(code)),
     }
 }
 
 /// The same, with what is found.
 fn explain_refused(
     alloc: Global,
+    reach: Reach,
     name: Option<&str>,
     code: WordError,
     front: Front,
 ) -> Result<Answer, AllocError>
     ensures judgment { IfOk result (λ a. refusal_of code ≡ Ok a.judgment) }
-    ensures text { IfOk result (λ a. a.text.items ≡ json_line (object_of (option_map (λ n. n.now) name.entry)
+    ensures text { IfOk result (λ a. a.text.items ≡ json_line (object_of reach (option_map (λ n. n.now) name.entry)
         (judgments.Refused code) (refused_members code front))) }
 {
     match code {
         WordError::W1 => Err(AllocError),
         WordError::W9 => Err(AllocError),
-        _ => refused_answer(alloc, name, code, front),
+        _ => refused_answer(alloc, reach, name, code, front),
     }
 }
 
 /// The verdict on a module's bytes in memory as one JSON object: `file`, if a name is given, `verdict`, and of a fault
-/// `code`, `inst` and `word` (from 0; not of a code on words), `rule` and `section`.
+/// `code`, `inst` and `word` (from 0; not of a code on words), `rule` and `section`; and `profile`.
 ///
 /// `Memory` comes only where a growth of memory was refused.
 pub fn check_json(
@@ -350,7 +384,7 @@ pub fn check_json(
 {
     let image = match image_of(alloc, bytes) {
         Ok((image, _)) => image,
-        Err(code) => match check_refused(alloc, name, code) {
+        Err(code) => match check_refused(alloc, reach, name, code) {
             Ok(answer) => return Ok(answer),
             Err(_) => return Err(Memory),
         },
@@ -377,7 +411,7 @@ pub fn explain_json(
 {
     let image = match image_of(alloc, bytes) {
         Ok((image, _)) => image,
-        Err(code) => match explain_refused(alloc, name, code, front_of(bytes)) {
+        Err(code) => match explain_refused(alloc, reach, name, code, front_of(bytes)) {
             Ok(answer) => return Ok(answer),
             Err(_) => return Err(Memory),
         },

@@ -4,9 +4,11 @@ ghost use Rattle.spv_table.specs.Table.{Table};
 ghost use Rattle.spv_module.specs.Module.{plain_insts};
 ghost use Rattle.spv_module.specs.declared.fault.Stop.TheVariants as stops;
 ghost use Rattle.spv_extended.specs.declared.reach.Reach.{Reach};
+ghost use Rattle.spv_flow.specs.declared.branches.fork.Fork.{Fork};
 ghost use Rattle.spv_layout.specs.Place.{IsShort};
 ghost use Rattle.spv_layout.specs.Plan.{IsPlan};
 ghost use Rattle.spv_ids.specs.Outcome.{AreIds};
+ghost use Rattle.spv_check.specs.Fork.{fork_of};
 ghost use Rattle.spv_check.specs.Judged.{IsRefusedAt};
 ghost use Rattle.spv_check.specs.flow.Outcome as flow_outcome;
 ghost use Rattle.spv_check.specs.types.Outcome as type_outcome;
@@ -15,6 +17,7 @@ ghost use Rattle.spv_explain.specs.inner.Shown.{IsShownAt};
 use crate::kinds::{is_of_calls, is_of_capabilities, is_of_operations, is_of_roles, is_of_values};
 use spv_check::Reached;
 use spv_evidence::Evidence;
+use spv_extended::{Reach, profile_of};
 use spv_flow_evidence::{branch_evidence, call_evidence, walk_evidence};
 use spv_form_evidence::{
     capability_evidence, extended_evidence, id_evidence, layout_evidence, role_evidence,
@@ -64,12 +67,12 @@ fn flow_evidence(
     fault: Fault,
 ) -> Result<Evidence, Memory>
     requires words { IsShort (plain_insts «module».now) }
-    requires known { (G : Table) × IsPlan G (plain_insts «module».now) plan.now
+    requires known { (fork : Fork) × (G : Table) × IsPlan G (plain_insts «module».now) plan.now
         × AreIds G «module».now.header.bound (plain_insts «module».now) ids.now
-        × flow_outcome.IsFirstOfFlow G (plain_insts «module».now) fault.rule fault.inst }
+        × flow_outcome.IsFirstOfFlow fork G (plain_insts «module».now) fault.rule fault.inst }
     ensures { (G : Table) (reach : Reach) → IsPlan G (plain_insts «module».now) plan.now
         → AreIds G «module».now.header.bound (plain_insts «module».now) ids.now
-        → flow_outcome.IsFirstOfFlow G (plain_insts «module».now) fault.rule fault.inst
+        → flow_outcome.IsFirstOfFlow (fork_of reach) G (plain_insts «module».now) fault.rule fault.inst
         → IfOk result (λ e. IsShownAt G reach «module».now.header.bound (plain_insts «module».now) fault e) }
 {
     if is_of_values(fault.rule) {
@@ -81,26 +84,33 @@ fn flow_evidence(
     Ok(branch_evidence(alloc, module, plan, ids, fault.rule, fault.inst)?)
 }
 
-/// What shows that a fault's rule is broken at its instruction. `reached` is how far `judge` came with the module, and
-/// the instruction at which the fault is told is looked at again, by the stage that found it.
+/// What shows that a fault's rule is broken at its instruction, of a module that is looked at as far as `reach` says.
+/// `reached` is how far `judge` came with the module, and the instruction at which the fault is told is looked at again,
+/// by the stage that found it.
 ///
 /// `Memory` comes only where a growth of memory was refused.
 pub fn evidence_of(
     alloc: Global,
     table: &Table,
+    reach: Reach,
     module: &Module<'_>,
     reached: &Reached,
     fault: Fault,
 ) -> Result<Evidence, Memory>
     requires words { IsShort (plain_insts «module».now) }
-    requires refused { (reach : Reach) × IsRefusedAt table.now reach «module».now.header.bound
-        (plain_insts «module».now) reached.now (stops.Fault fault) }
-    ensures { (reach : Reach) → IsRefusedAt table.now reach «module».now.header.bound (plain_insts «module».now)
-        reached.now (stops.Fault fault)
-        → IfOk result (λ e. IsShownAt table.now reach «module».now.header.bound (plain_insts «module».now) fault e) }
+    requires refused { IsRefusedAt table.now reach «module».now.header.bound (plain_insts «module».now) reached.now
+        (stops.Fault fault) }
+    ensures { IfOk result
+        (λ e. IsShownAt table.now reach «module».now.header.bound (plain_insts «module».now) fault e) }
 {
     match reached {
-        Reached::Decoded => Ok(layout_evidence(alloc, module, fault.rule, fault.inst)?),
+        Reached::Decoded => Ok(layout_evidence(
+            alloc,
+            profile_of(reach),
+            module,
+            fault.rule,
+            fault.inst,
+        )?),
         Reached::Placed(plan) => Ok(id_evidence(alloc, module, plan, fault.rule, fault.inst)?),
         Reached::Numbered(plan, ids) => typing_evidence(alloc, table, module, plan, ids, fault),
         Reached::Typed(plan, ids) => flow_evidence(alloc, module, plan, ids, fault),

@@ -18,14 +18,14 @@ ghost use Rattle.spv_module.specs.declared.fault.Rule.TheVariants.{D2, L1, Y9};
 ghost use Rattle.spv_module.specs.declared.module.Module.{Module};
 ghost use Rattle.spv_module.specs.declared.opcode.TheConstants as opcode;
 ghost use Rattle.spv_extended.specs.declared.reach.Reach.{Reach};
-ghost use Rattle.spv_extended.specs.declared.reach.Reach.TheVariants.{Profile, Extended};
+ghost use Rattle.spv_extended.specs.declared.reach.Reach.TheVariants.{Profile, Extended, OpenCl};
 ghost use Rattle.spv_extended.specs.Reach.{looked_at};
 ghost use Rattle.spv_layout.specs.First.{stage_of};
 ghost use Rattle.spv_layout.specs.Stage.{of_profile};
 ghost use Rattle.spv_ids.specs.Example.{of_void};
 ghost use Rattle.spv_form_evidence.specs.words.Evidence as instructions;
 ghost use Rattle.spv_evidence.specs.declared.evidence.Evidence.{Evidence};
-ghost use Rattle.spv_evidence.specs.declared.evidence.Evidence.TheVariants.{MayCome, Miscalled, NoEntry};
+ghost use Rattle.spv_evidence.specs.declared.evidence.Evidence.TheVariants.{MayCome, Miscalled, NoEntry, Walk};
 ghost use Rattle.spv_inst.specs.Outcome.{IsHeaderOf};
 ghost use Rattle.spv_rules.specs.declared.errors.AnyCode.TheVariants.{Error};
 ghost use Rattle.spv_rules.specs.declared.errors.ErrorCode.TheVariants.{J5};
@@ -44,8 +44,10 @@ ghost use Rattle.spv_rules.specs.declared.rules.Code.TheVariants.{Rule, Word};
 ghost use Rattle.spv_fault_lines.specs.json_members.Members.{refused_members};
 ghost use Rattle.spv_check.specs.declared.verdict_line.Judgment.TheVariants as verdicts;
 ghost use Rattle.spv_explain.specs.Json.{AreMembers, code_line, error_object, json_line, object_of};
+ghost use Rattle.spv_explain.specs.Json.{profile_members, profile_text};
 ghost use Rattle.spv_explain.specs.Lines.{refused_text, rule_line};
-ghost use Rattle.spv_explain.specs.Stream.{AreLinesOf};
+ghost use Rattle.spv_explain.specs.Stream.{AreLinesOf, IsWalk, walk_in};
+ghost use Rattle.spv_explain.specs.declared.stream.Explanation.{Explanation};
 ghost use Rattle.spv_explain.specs.declared.reading.Explained.TheVariants as explained;
 ghost use Rattle.spv_explain.specs.declared.answers.Unread.TheVariants as unread;
 
@@ -114,6 +116,17 @@ pub fn stream_examples()
     ensures not_first { (lines : List ℕ) → ¬ (AreLinesOf Short small Profile 5 twice_void D2 0 lines) }
 {}
 
+/// The walk that shows a fault, of two instructions with the result 1.
+pub fn walk_examples()
+    ensures walk { walk_in twice_void (Walk 0 0 (1 ∷ 0 ∷ [])) ≡ 1 ∷ 1 ∷ [] }
+    ensures no_walk { walk_in twice_void NoEntry ≡ [] }
+    // A valid module has none.
+    ensures valid { (G : Table) (reach : Reach) (bytes : List ℕ) (e : Explanation) → e.judgment ≡ verdicts.Valid
+        → IsWalk Short G reach bytes e [] }
+    ensures not_valid { (G : Table) (reach : Reach) (bytes : List ℕ) (e : Explanation) → e.judgment ≡ verdicts.Valid
+        → ¬ (IsWalk Short G reach bytes e (1 ∷ [])) }
+{}
+
 /// A module that begins with an OpString, under a small table.
 pub fn explained_examples()
     // There may come OpExtension, OpExtInstImport, OpMemoryModel or OpCapability.
@@ -142,21 +155,27 @@ pub fn extended_examples()
 
 /// The objects of verdicts and of codes, as texts.
 pub fn json_examples()
-    ensures valid { json_line (object_of (Some (codes "a.spv")) verdicts.Valid [])
-        ≡ codes "{\"file\":\"a.spv\",\"verdict\":\"valid\"}" ++ line_end }
-    ensures unnamed { json_line (object_of None verdicts.Valid []) ≡ codes "{\"verdict\":\"valid\"}" ++ line_end }
-    ensures not_named { ¬ (json_line (object_of None verdicts.Valid [])
-        ≡ codes "{\"file\":\"\",\"verdict\":\"valid\"}" ++ line_end) }
+    ensures valid { json_line (object_of Profile (Some (codes "a.spv")) verdicts.Valid [])
+        ≡ codes "{\"file\":\"a.spv\",\"verdict\":\"valid\",\"profile\":\"own\"}" ++ line_end }
+    ensures unnamed { json_line (object_of (OpenCl 4) None verdicts.Valid [])
+        ≡ codes "{\"verdict\":\"valid\",\"profile\":\"opencl\"}" ++ line_end }
+    ensures not_named { ¬ (json_line (object_of (OpenCl 4) None verdicts.Valid [])
+        ≡ codes "{\"file\":\"\",\"verdict\":\"valid\",\"profile\":\"opencl\"}" ++ line_end) }
+    // How far a module is looked at.
+    ensures profile { profile_text Extended ≡ codes "extended" }
+    ensures no_profile { profile_text Profile ≢ codes "extended" }
+    ensures profile_members { profile_members Profile ≡ name (codes "profile") ∷ text (codes "own") ∷ [] }
+    ensures no_profile_members { profile_members Profile ≢ profile_members Extended }
     // A code, and one with where it is broken.
     ensures code { code_line false (Error J5) ≡ codes "{\"code\":\"J5\"," ++ codes "\"rule\":\"Each category and each quantifier "
         ++ codes "is a known one. [own]\"," ++ codes "\"section\":\"own\"}" ++ line_end }
     ensures not_full { code_line true (Error J5) ≢ code_line false (Error J5) }
     // A control character is escaped as JSON has it, and so is a quotation mark.
-    ensures escaped { json_line (object_of (Some (34 ∷ 27 ∷ [])) verdicts.Valid [])
-        ≡ codes "{\"file\":\"\\\"\\u001b\",\"verdict\":\"valid\"}" ++ line_end }
+    ensures escaped { json_line (object_of Profile (Some (34 ∷ 27 ∷ [])) verdicts.Valid [])
+        ≡ codes "{\"file\":\"\\\"\\u001b\",\"verdict\":\"valid\",\"profile\":\"own\"}" ++ line_end }
     // And so are DEL and a control character from U+0080 on.
-    ensures late { json_line (object_of (Some (127 ∷ 194 ∷ 155 ∷ [])) verdicts.Valid [])
-        ≡ codes "{\"file\":\"\\u007f\\u009b\",\"verdict\":\"valid\"}" ++ line_end }
+    ensures late { json_line (object_of Profile (Some (127 ∷ 194 ∷ 155 ∷ [])) verdicts.Valid [])
+        ≡ codes "{\"file\":\"\\u007f\\u009b\",\"verdict\":\"valid\",\"profile\":\"own\"}" ++ line_end }
     ensures unread { json_line (error_object (Some (codes "a.spv")) unread.File)
         ≡ codes "{\"file\":\"a.spv\",\"verdict\":\"error\",\"error\":\"file\"}" ++ line_end }
     // What is found in three bytes.

@@ -11,7 +11,7 @@ ghost use Rattle.spv_explain.specs.inner.Reading.{IsExplained};
 use crate::evidence::evidence_of;
 use spv_check::{Checked, Judged, judge, read};
 use spv_evidence::Evidence;
-use spv_extended::Reach;
+use spv_extended::{Reach, opens};
 use spv_form_evidence::word_evidence;
 use spv_inst::{decode, listed_or_dead, one_listing};
 use spv_module::{Fault, Module, Stop};
@@ -67,15 +67,13 @@ fn spelled<'a>(
     ensures listing { IfOk result (λ m. IsListing table.now (plain_insts m) (drop 5 image.now)) }
     ensures header { IfOk result (λ m. IsHeaderOf image.now m.header) }
 {
-    match reach {
-        Reach::Profile => Ok(headed(image, module)),
-        Reach::Extended => {
-            drop(module);
-            match decode(alloc, table, image) {
-                Ok(module) => Ok(headed(image, module)),
-                Err(_) => Err(Memory),
-            }
-        }
+    if !opens(reach) {
+        return Ok(headed(image, module));
+    }
+    drop(module);
+    match decode(alloc, table, image) {
+        Ok(module) => Ok(headed(image, module)),
+        Err(_) => Err(Memory),
     }
 }
 
@@ -107,7 +105,7 @@ pub fn explained_of<'a>(
             module,
             reached,
         } => {
-            let evidence = evidence_of(alloc, table, &module, &reached, fault)?;
+            let evidence = evidence_of(alloc, table, reach, &module, &reached, fault)?;
             Ok(Explained::Broken {
                 fault,
                 evidence,

@@ -1,6 +1,8 @@
 //! What is written of the bytes of a stream.
 ghost use Rattle.std.specs.Prelude.{◌≡◌, ◌⊎◌, ◌↔◌, ◌++◌, ◌-◌, ◌≤◌, ℕ, List, [], Ok, drop, vec_len};
-ghost use Rattle.std.specs.Prelude.{IfOk, IfErr, IfSome, IsErrOf, IsSomeAnd, IsTrue, string_bytes};
+ghost use Rattle.std.specs.Prelude.{IfOk, IfErr, IfSome, IsErrOf, IsSomeAnd, IsTrue, OnOk, string_bytes};
+ghost use Rattle.std.specs.List.{flat_map};
+ghost use Rattle.std.specs.Option.{option_to_list};
 ghost use Rattle.spv_words.specs.Header.{IsFirstBroken, IsModule, greatest_size};
 ghost use Rattle.spv_words.specs.declared.words.Order.{Order};
 ghost use Rattle.spv_words.specs.declared.words.WordError.TheVariants.{W1, W8, W9};
@@ -8,6 +10,7 @@ ghost use Rattle.spv_module.specs.Module.{plain_insts};
 ghost use Rattle.spv_table.specs.Table.{Table};
 ghost use Rattle.spv_extended.specs.declared.reach.Reach.{Reach};
 ghost use Rattle.spv_extended.specs.declared.reach.Reach.TheVariants.{Profile};
+ghost use Rattle.spv_fault_lines.specs.Lines.{result_of};
 ghost use Rattle.spv_fault_lines.specs.declared.fact.Detail.{Detail};
 ghost use Rattle.spv_check.specs.Outcome.{HasFailed, OfKnown};
 ghost use Rattle.spv_check.specs.Verdict.{valid_line};
@@ -16,7 +19,7 @@ ghost use Rattle.spv_lines.specs.Text.{ShownLines};
 ghost use Rattle.spv_layout.specs.Place.{AreFew};
 ghost use Rattle.spv_explain.specs.Lines as lines;
 ghost use Rattle.spv_explain.specs.Lines.{fault_text, malformed_text, refused_by};
-ghost use Rattle.spv_explain.specs.Stream.{BeginsExplaining, Explains, IsExplanation, IsModuleIn};
+ghost use Rattle.spv_explain.specs.Stream.{BeginsExplaining, Explains, IsExplanation, IsModuleIn, IsWalk, walk_in};
 ghost use Rattle.spv_inst.specs.Outcome.{IsHeaderOf};
 ghost use Rattle.spv_check.specs.declared.verdict_line.Judgment.TheVariants as judgments;
 
@@ -25,10 +28,10 @@ use spv_check::{Checked, Judgment, line_for};
 use spv_evidence::Evidence;
 use spv_extended::Reach;
 use spv_fault_lines::{About, Detail, Front, front_of, push_malformed, push_refused};
-use spv_inst::{listed_or_dead, one_death, one_listing};
+use spv_inst::{decode, listed_or_dead, one_death, one_listing};
 use spv_layout::laws::word_counts;
 use spv_lines::shown_reads_back;
-use spv_module::{Fault, Module};
+use spv_module::{Fault, Module, Stop};
 use spv_rules::Code;
 use spv_table::{Memory, Table};
 use spv_words::{Image, Sink, Source, WordError, image_from, image_of, read_octets, write_all};
@@ -59,14 +62,53 @@ fn rule_line(alloc: Global, code: Code) -> Result<String, AllocError>
 pub struct Told<'a> {
     /// The verdict, and the lines that explain it.
     pub explanation: Explanation,
+    /// The ids of the blocks of the walk that shows the fault, in order; none where no walk does.
+    pub walk: Vec<u32>,
     /// The module, with texts lent by its image; None where the words spell no list of instructions.
     pub module: Option<Module<'a>>,
+}
+
+/// Adds the result of an instruction, if it has one.
+fn push_result(walk: &mut Vec<u32>, module: &Module<'_>, inst: u32) -> Result<(), AllocError>
+    ensures { OnOk result (walk.new.items
+        ≡ walk.old.items ++ option_to_list (result_of (plain_insts «module».now) inst)) }
+{
+    let Some(inst) = module.insts.get(inst as usize) else {
+        return Ok(());
+    };
+    match inst.result_id() {
+        Some(id) => Ok(walk.push(id)?),
+        None => Ok(()),
+    }
+}
+
+/// The results of instructions.
+fn results_of(alloc: Global, module: &Module<'_>, insts: &[u32]) -> Result<Vec<u32>, AllocError>
+    ensures { IfOk result (λ w. w.items
+        ≡ flat_map (λ n. option_to_list (result_of (plain_insts «module».now) n)) insts.now) }
+{
+    let mut walk = Vec::new(alloc);
+    for inst in insts {
+        push_result(&mut walk, module, *inst)?;
+    }
+    Ok(walk)
+}
+
+/// The ids of the blocks of the walk that evidence has, if it has one.
+fn walk_of(alloc: Global, module: &Module<'_>, evidence: &Evidence) -> Result<Vec<u32>, AllocError>
+    ensures { IfOk result (λ w. w.items ≡ walk_in (plain_insts «module».now) evidence.now) }
+{
+    match evidence {
+        Evidence::Walk { walk, .. } => results_of(alloc, module, walk.as_slice()),
+        _ => Ok(Vec::new(alloc)),
+    }
 }
 
 /// The verdict of a valid module, which has no lines, and the module.
 fn valid_told<'a>(alloc: Global, image: &Image, checked: Checked<'a>) -> Told<'a>
     ensures verdict { result.explanation.judgment ≡ judgments.Valid }
     ensures lines { string_bytes result.explanation.lines ≡ [] }
+    ensures walk { result.walk.items ≡ [] }
     ensures decoded { IsSomeAnd result.«module» (λ m. (plain_insts m ≡ checked.entry.insts) × IsHeaderOf image.now m.header) }
 {
     Told {
@@ -74,6 +116,7 @@ fn valid_told<'a>(alloc: Global, image: &Image, checked: Checked<'a>) -> Told<'a
             judgment: Judgment::Valid,
             lines: String::new(alloc),
         },
+        walk: Vec::new(alloc),
         module: Some(headed(image, checked.into_module())),
     }
 }
@@ -141,6 +184,8 @@ fn told_of<'a>(
 ) -> Result<Told<'a>, AllocError>
     ensures explanation { (bytes : List ℕ) (order : Order) → IsModule order bytes image.now
         → IfOk result (λ t. IsExplanation detail table.now reach bytes t.explanation) }
+    ensures walk { (bytes : List ℕ) (order : Order) → IsModule order bytes image.now
+        → IfOk result (λ t. IsWalk detail table.now reach bytes t.explanation t.walk.items) }
     ensures decoded { reach ≡ Profile → IfOk result (λ t. IsModuleIn table.now image.now t.«module») }
 {
     spv_words::laws::one_word_list();
@@ -163,6 +208,7 @@ fn told_of<'a>(
             let explanation = malformed_told(alloc, table, detail, image, fault, evidence)?;
             Ok(Told {
                 explanation,
+                walk: Vec::new(alloc),
                 module: None,
             })
         }
@@ -173,9 +219,11 @@ fn told_of<'a>(
                 module,
             },
         ) => {
+            let walk = walk_of(alloc, &module, &evidence)?;
             let explanation = broken_told(alloc, table, detail, &module, fault, evidence)?;
             Ok(Told {
                 explanation,
+                walk,
                 module: Some(module),
             })
         }
@@ -199,23 +247,76 @@ fn told_by(
     Ok(explanation)
 }
 
-/// The verdict on the words of a module by the profile and the lines that explain it, as `explain_bytes` answers them;
-/// and the module, which need not be decoded again.
+/// The module that the words of an image spell, with their header, if they spell one.
+fn module_of<'a>(
+    alloc: Global,
+    table: &Table,
+    image: &'a Image,
+) -> Result<Option<Module<'a>>, AllocError>
+    ensures { IfOk result (λ m. IsModuleIn table.now image.now m) }
+{
+    listed_or_dead();
+    match decode(alloc, table, image) {
+        Ok(module) => Ok(Some(module)),
+        Err(Stop::Fault(_)) => Ok(None),
+        Err(Stop::Memory) => Err(AllocError),
+    }
+}
+
+/// What the words of an image come to, told in lines, with the module that they spell: one that was opened is decoded
+/// again.
+fn told_whole<'a>(
+    alloc: Global,
+    table: &Table,
+    reach: Reach,
+    detail: Detail,
+    image: &'a Image,
+) -> Result<Told<'a>, AllocError>
+    ensures explanation { (bytes : List ℕ) (order : Order) → IsModule order bytes image.now
+        → IfOk result (λ t. IsExplanation detail table.now reach bytes t.explanation) }
+    ensures walk { (bytes : List ℕ) (order : Order) → IsModule order bytes image.now
+        → IfOk result (λ t. IsWalk detail table.now reach bytes t.explanation t.walk.items) }
+    ensures decoded { IfOk result (λ t. IsModuleIn table.now image.now t.«module») }
+{
+    let told = told_of(alloc, table, reach, detail, image)?;
+    let Told {
+        explanation,
+        walk,
+        ..
+    } = told;
+    let module = module_of(alloc, table, image)?;
+    Ok(Told {
+        explanation,
+        walk,
+        module,
+    })
+}
+
+/// The verdict on the words of a module and the lines that explain it, as `explain_bytes` answers them; and the module,
+/// which need not be decoded again.
 ///
 /// `Memory` comes only where a growth of memory was refused.
 pub fn explained<'a>(
     alloc: Global,
     table: &Table,
+    reach: Reach,
     detail: Detail,
     image: &'a Image,
 ) -> Result<Told<'a>, Memory>
     // The verdict is that of the bytes that have the words, and the lines explain it.
     ensures explanation { (bytes : List ℕ) (order : Order) → IsModule order bytes image.now
-        → IfOk result (λ t. IsExplanation detail table.now Profile bytes t.explanation) }
+        → IfOk result (λ t. IsExplanation detail table.now reach bytes t.explanation) }
+    // The walk is that of the evidence whose lines these are.
+    ensures walk { (bytes : List ℕ) (order : Order) → IsModule order bytes image.now
+        → IfOk result (λ t. IsWalk detail table.now reach bytes t.explanation t.walk.items) }
     // The module is the one that the words spell, with their header; there is none where they spell none.
     ensures decoded { IfOk result (λ t. IsModuleIn table.now image.now t.«module») }
 {
-    match told_of(alloc, table, Reach::Profile, detail, image) {
+    let told = match reach {
+        Reach::Profile => told_of(alloc, table, Reach::Profile, detail, image),
+        Reach::Extended | Reach::OpenCl { .. } => told_whole(alloc, table, reach, detail, image),
+    };
+    match told {
         Ok(told) => Ok(told),
         Err(_) => Err(Memory),
     }

@@ -5,11 +5,13 @@ use Rattle.spv_module.specs.declared.opcode.TheConstants.{EXT_INST_IMPORT}
 use Rattle.spv_extended.specs.declared.set.Set.{Set}
 use Rattle.spv_extended.specs.declared.set.Set.TheVariants.{OpenClStd, OpenClDebugInfo, DebugInfo, Other}
 
--- the set of a name [Khronos' specifications of the sets]
+-- the set of a name [Khronos' specifications of the sets; SPIRV.debug, the name that llvm-spirv gives to
+-- OpenCL.DebugInfo.100, own]
 abbrev pub set_named : List ℕ → Set
 set_named name = if bytes_eq name (codes "OpenCL.std") then OpenClStd
     else (if bytes_eq name (codes "OpenCL.DebugInfo.100") then OpenClDebugInfo
-    else (if bytes_eq name (codes "DebugInfo") then DebugInfo else Other))
+    else (if bytes_eq name (codes "SPIRV.debug") then OpenClDebugInfo
+    else (if bytes_eq name (codes "DebugInfo") then DebugInfo else Other)))
 
 -- the id and the set of an import, %x = OpExtInstImport "name" [3.49.4]
 abbrev pub import_in : List Plain → Option (ℕ × Set)

@@ -1,19 +1,29 @@
 //! Laws of the definitions, and worked examples. Each function does nothing: its contract is what is proved.
 
-ghost use Rattle.std.specs.Prelude.{◌≡◌, ◌≢◌, ◌++◌, ◌∷◌, [], ℕ, List, Some, None, length, map, sum_by, true, false};
+ghost use Rattle.std.specs.Prelude.{◌≡◌, ◌≢◌, ◌++◌, ◌∷◌, [], ℕ, List, Some, None, length, map, sum_by, true};
+ghost use Rattle.std.specs.Prelude.{false, codes};
+ghost use Rattle.spv_module.specs.declared.profile.Profile.TheVariants as profile;
 ghost use Rattle.spv_module.specs.Operand.{Plain, Id, Argument, Mention, PlainInst};
 ghost use Rattle.spv_extended.specs.declared.set.Set.TheVariants.{OpenClStd, OpenClDebugInfo, DebugInfo};
 ghost use Rattle.spv_extended.specs.declared.signature.More.TheVariants.{Nothing, Any, Unknown};
-ghost use Rattle.spv_extended.specs.declared.reach.Reach.TheVariants.{Profile, Extended};
+ghost use Rattle.spv_extended.specs.declared.reach.Reach.TheVariants.{Profile, Extended, OpenCl};
 ghost use Rattle.spv_module.specs.declared.fault.Rule.{Rule};
 ghost use Rattle.spv_module.specs.declared.fault.Rule.TheVariants.{Y9};
 ghost use Rattle.spv_extended.specs.Broken.{Broken};
-ghost use Rattle.spv_extended.specs.Reach.{looked_at};
+ghost use Rattle.spv_extended.specs.Reach.{looked_at, opens, profile_of};
 ghost use Rattle.spv_extended.specs.Facts.{is_literal, signature_of, takes};
 ghost use Rattle.spv_extended.specs.Opened.{opened};
+ghost use Rattle.spv_extended.specs.Sets.{set_named};
 ghost use Rattle.spv_extended.specs.Miscalled.{IsMiscalled};
 ghost use Rattle.spv_extended.specs.Call.{call_at};
 ghost use Rattle.spv_extended.specs.Example.{call, imports};
+
+/// The sets of names.
+pub fn set_examples()
+    ensures standard { set_named (codes "OpenCL.std") ≡ OpenClStd }
+    ensures debug { set_named (codes "SPIRV.debug") ≡ OpenClDebugInfo }
+    ensures not_debug { set_named (codes "SPIRV.debugs") ≢ OpenClDebugInfo }
+{}
 
 /// What sets tell of their instructions.
 pub fn signature_examples()
@@ -81,6 +91,7 @@ pub fn broken_examples()
     ensures fewer { Broken Extended (imports ++ call 1 171 (Id 7 ∷ Id 8 ∷ []) ∷ []) Y9 2 }
     ensures not_looked_at { (r : Rule) → ¬ (Broken Profile (imports ++ call 1 171 (Id 7 ∷ Id 8 ∷ []) ∷ []) r 2) }
     ensures load { (r : Rule) → ¬ (Broken Extended (imports ++ call 1 171 (Id 7 ∷ Id 8 ∷ Id 4 ∷ []) ∷ []) r 2) }
+    ensures opencl { (minor : ℕ) → Broken (OpenCl minor) (imports ++ call 1 171 (Id 7 ∷ Id 8 ∷ []) ∷ []) Y9 2 }
 {}
 
 /// A module as far as it is looked at.
@@ -88,6 +99,14 @@ pub fn reach_examples()
     ensures profile { looked_at Profile (call 1 171 (Id 7 ∷ []) ∷ []) ≡ call 1 171 (Id 7 ∷ []) ∷ [] }
     ensures extended { looked_at Extended (call 1 171 (Id 7 ∷ []) ∷ []) ≡ call 1 171 (Mention 7 ∷ []) ∷ [] }
     ensures not_looked_at { looked_at Profile (call 1 171 (Id 7 ∷ []) ∷ []) ≢ call 1 171 (Mention 7 ∷ []) ∷ [] }
+    ensures opencl { (minor : ℕ) → looked_at (OpenCl minor) (call 1 171 (Id 7 ∷ []) ∷ [])
+        ≡ call 1 171 (Mention 7 ∷ []) ∷ [] }
+    // Extended instructions are looked at whole, and the instructions are those of the profile.
+    ensures whole { opens Extended ≡ true }
+    ensures not_whole { opens Profile ≡ false }
+    ensures own { profile_of Extended ≡ profile.Own }
+    ensures wide { (minor : ℕ) → profile_of (OpenCl minor) ≡ profile.OpenCl }
+    ensures not_own { (minor : ℕ) → profile_of (OpenCl minor) ≢ profile.Own }
 {}
 
 /// What OpExtInsts call.

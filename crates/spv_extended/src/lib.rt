@@ -14,6 +14,6 @@ mod signature;
 pub use call::{Call, call_at};
 pub use miscalled::first_miscalled;
 pub use opening::open;
-pub use reach::Reach;
-pub use set::Set;
+pub use reach::{Reach, opens, profile_of};
+pub use set::{Set, set_named};
 pub use signature::{More, Signature, signature_of};

@@ -14,7 +14,7 @@ use std::collections::BTreeMap;
 pub enum Set {
     /// OpenCL.std.
     OpenClStd,
-    /// OpenCL.DebugInfo.100.
+    /// OpenCL.DebugInfo.100, under this name or the one that llvm-spirv gives it, SPIRV.debug.
     OpenClDebugInfo,
     /// DebugInfo.
     DebugInfo,
@@ -22,14 +22,17 @@ pub enum Set {
     Other,
 }
 
-/// The set of a name.
-fn set_named(name: &str) -> Set
+/// The set of a name. It takes no memory.
+pub fn set_named(name: &str) -> Set
     ensures { result ≡ spec.set_named name.now }
 {
     if name == "OpenCL.std" {
         return Set::OpenClStd;
     }
     if name == "OpenCL.DebugInfo.100" {
+        return Set::OpenClDebugInfo;
+    }
+    if name == "SPIRV.debug" {
         return Set::OpenClDebugInfo;
     }
     if name == "DebugInfo" {

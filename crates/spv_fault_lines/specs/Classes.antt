@@ -34,14 +34,16 @@ class_text class.Return = codes "the end of a block"
 class_text class.LoopMerge = codes "OpLoopMerge"
 class_text class.SelectionMerge = codes "OpSelectionMerge"
 class_text class.Line = codes "a line"
+class_text class.Extended = codes "OpExtInst"
 class_text class.Outside = codes "an opcode outside the profile"
 
 -- the class of a number that may be an opcode
 abbrev pub class_at : ℕ → Class
 class_at opcode = if nat_lt opcode 65536 then class_of opcode else class.Outside
 
--- are two classes told by the same words
+-- is a class told by the words of another: OpExtInst, where it may come in a block, by those of its instructions
 abbrev pub sounds_as : Class → Class → Bool
+sounds_as class.Extended class.Body = true
 sounds_as c d = bytes_eq (class_text c) (class_text d)
 
 -- classes with one more, unless one of them is told by the same words

@@ -110,18 +110,21 @@ abbrev pub width_operand : Option PlainInst → ℕ
 width_operand None = 1
 width_operand (Some i) = if nat_eq i.opcode TYPE_VECTOR then 2 else 1
 
--- what lists capabilities, before these: at instruction n an operand, a bit of one, or the width or count
+-- what lists capabilities, before these: at instruction n an operand, a bit of one, the width or count, or the access
+-- qualifier; nothing of an opcode or a type
 abbrev pub lister_facts : List PlainInst → ℕ → Lister → List Fact
 lister_facts is n lister.Entry = []
 lister_facts is n (lister.Value k) = fact.Operand n k ∷ []
 lister_facts is n (lister.Bit k bit) = fact.Operand n k ∷ fact.Bit n k bit ∷ []
 lister_facts is n lister.Width = fact.Operand n (width_operand (slice_get is n)) ∷ []
+lister_facts is n lister.Type = []
+lister_facts is n lister.Access = fact.Operand n 8 ∷ []
 
 -- what the evidence at instruction n tells
 abbrev pub evidence_facts : List PlainInst → ℕ → Evidence → List Fact
 evidence_facts is n (evidence.Opcode opcode) = fact.Opcode opcode ∷ []
 evidence_facts is n (evidence.Due opcode k kind) = fact.Opcode opcode ∷ fact.Failing k ∷ fact.Due kind ∷ []
-evidence_facts is n (evidence.Shape opcode known) = fact.Opcode opcode ∷ fact.Row opcode ∷ []
+evidence_facts is n (evidence.Shape opcode known) = fact.Opcode opcode ∷ fact.Row opcode known ∷ []
 evidence_facts is n (evidence.MayCome opcodes end) = fact.MayCome opcodes end ∷ []
 evidence_facts is n (evidence.Operand k) = fact.Operand n k ∷ []
 evidence_facts is n (evidence.Earlier m) = fact.Earlier m ∷ []

@@ -193,6 +193,13 @@ width_needs opcode os = if nat_eq opcode TYPE_INT then int_needs os
     else (if nat_eq opcode TYPE_FLOAT then float_needs os
     else (if nat_eq opcode TYPE_VECTOR then vector_needs os else []))
 
+-- the capabilities of which one is needed, by what of a type lacks it: of an image or sampler type ImageBasic (13), of
+-- an access qualifier ImageReadWrite (14), else those of a width or a count [3.31]
+abbrev pub type_needs : Lister → ℕ → List Plain → List ℕ
+type_needs lister.Type opcode os = 13 ∷ []
+type_needs lister.Access opcode os = 14 ∷ []
+type_needs l opcode os = width_needs opcode os
+
 -- the names of the capabilities that a value's enumerant lists, or a bit's
 abbrev pub listed_by : Table → ℕ → ℕ → Option (List (List ℕ))
 listed_by G kind x = option_map (λ e. e.capabilities)
@@ -206,20 +213,20 @@ abbrev pub bit_lists : Table → Option Plain → ℕ → Option (List (List ℕ
 bit_lists G (Some (Mask k x)) bit = listed_by G k bit
 bit_lists G o bit = None
 
--- the names that an opcode's entry lists, an operand's value or a bit of it; a width or a count has none
+-- the names that an opcode's entry lists, an operand's value or a bit of it; what a type needs has none
 abbrev pub listed_names : Table → PlainInst → Lister → Option (List (List ℕ))
 listed_names G i lister.Entry = option_map (λ e. e.capabilities) (entry_of G i.opcode)
 listed_names G i (lister.Value k) = value_lists G (slice_get i.operands k)
 listed_names G i (lister.Bit k bit) = bit_lists G (slice_get i.operands k) bit
-listed_names G i lister.Width = None
+listed_names G i l = None
 
-abbrev pub names_part : Table → PlainInst → Option (List (List ℕ)) → List ℕ
-names_part G i (Some names) = flat_map name_part names
-names_part G i None = flat_map (λ c. name_part (capability_name G c)) (width_needs i.opcode i.operands)
+abbrev pub names_part : Table → PlainInst → Lister → Option (List (List ℕ)) → List ℕ
+names_part G i l (Some names) = flat_map name_part names
+names_part G i l None = flat_map (λ c. name_part (capability_name G c)) (type_needs l i.opcode i.operands)
 
 abbrev pub needed_part : Table → Option PlainInst → Lister → List ℕ
 needed_part G None l = []
-needed_part G (Some i) l = names_part G i (listed_names G i l)
+needed_part G (Some i) l = names_part G i l (listed_names G i l)
 
 -- a part of E2 that is broken: in words, or the instruction by which it is
 abbrev pub entry_part_text : EntryPart → List ℕ
@@ -298,7 +305,7 @@ key_of (fact.Open p) = key.Open
 key_of (fact.Words before words after) = key.Words
 key_of (fact.Word k w) = key.Word
 key_of (fact.Opcode opcode) = key.Opcode
-key_of (fact.Row opcode) = key.Row
+key_of (fact.Row opcode known) = key.Row
 key_of (fact.MayCome opcodes end) = key.MayCome
 key_of (fact.Unended p) = key.Missing
 key_of (fact.Operand n k) = key.Operand
@@ -375,7 +382,7 @@ rest_of d G is lines (fact.Open p) = place_part is p
 rest_of d G is lines (fact.Words before words after) = words_rest before words after
 rest_of d G is lines (fact.Word k w) = number_part k ++ word_value w
 rest_of d G is lines (fact.Opcode opcode) = named_opcode_part G opcode
-rest_of d G is lines (fact.Row opcode) = name_part (row_text opcode)
+rest_of d G is lines (fact.Row opcode known) = name_part (row_text opcode known)
 rest_of d G is lines (fact.MayCome opcodes end) = coming_part d G opcodes end
 rest_of d G is lines (fact.Unended p) = name_part (unended_text is p)
 rest_of d G is lines (fact.Operand n k) = numbered_part G is n k

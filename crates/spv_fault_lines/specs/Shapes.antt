@@ -1,6 +1,7 @@
 -- The operands that a row of the table of shapes asks for, in words. (Own.)
 use Rattle.std.specs.Prelude.{◌++◌, ℕ, List, [], ◌∷◌, Bool, true, false, Option, Some, None, codes}
-use Rattle.spv_layout.specs.Row.{PlainRow, RowEnding, closed, file_and_text, maybe, maybe_others, name_of, others, repeated}
+use Rattle.spv_layout.specs.Row.{PlainRow, RowEnding, closed, file_and_text, maybe, maybe_others, maybe_repeated}
+use Rattle.spv_layout.specs.Row.{name_of, others, repeated}
 use Rattle.spv_layout.specs.Rows.{row_of}
 use Rattle.spv_layout.specs.declared.form.Form.{Form}
 use Rattle.spv_layout.specs.declared.form.Form.TheVariants as form
@@ -52,6 +53,8 @@ ending_text first file_and_text = comma first ++ codes "file or nothing, string 
 ending_text first (repeated fs) = comma first ++ codes "any number of: " ++ forms_text true fs
 ending_text first others = comma first ++ codes "any others"
 ending_text first (maybe_others f) = comma first ++ form_text f ++ codes " or nothing, any others"
+ending_text first (maybe_repeated f g) =
+    comma first ++ form_text f ++ codes " or nothing, any number of: " ++ form_text g
 
 -- has a row no fixed operands
 abbrev pub has_none : List Form → Bool
@@ -63,5 +66,7 @@ abbrev pub row_words : Option PlainRow → List ℕ
 row_words None = codes "none"
 row_words (Some r) = forms_text true r.fixed ++ ending_text (has_none r.fixed) r.ending
 
-abbrev pub row_text : ℕ → List ℕ
-row_text opcode = row_words (row_of opcode)
+-- the same of an opcode, if its row is known
+abbrev pub row_text : ℕ → Bool → List ℕ
+row_text opcode true = row_words (row_of opcode)
+row_text opcode false = codes "none"

@@ -39,6 +39,7 @@ fn class_words(class: Class) -> &'static str
         Class::LoopMerge => "OpLoopMerge",
         Class::SelectionMerge => "OpSelectionMerge",
         Class::Line => "a line",
+        Class::Extended => "OpExtInst",
         Class::Outside => "an opcode outside the profile",
     }
 }
@@ -63,11 +64,14 @@ fn class_at(opcode: u32) -> Class
     Class::Outside
 }
 
-/// Whether two classes are told by the same words.
+/// Whether a class is told by the words of another: OpExtInst by those of the instructions of a block, too.
 fn sound_alike(one: Class, other: Class) -> bool
     ensures { result ≡ sounds_as one other }
 {
-    class_words(one) == class_words(other)
+    match (one, other) {
+        (Class::Extended, Class::Body) => true,
+        _ => class_words(one) == class_words(other),
+    }
 }
 
 /// Whether one of these classes is told by the same words as another class.

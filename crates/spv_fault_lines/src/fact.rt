@@ -63,9 +63,10 @@ pub enum Fact {
     Opcode {
         opcode: u16,
     },
-    /// `row`: the operands that an opcode's row in the table of shapes asks for, or that it has none.
+    /// `row`: the operands that an opcode's row in the table of shapes asks for, or that the profile has none.
     Row {
         opcode: u16,
+        known: bool,
     },
     /// `may come`: the opcodes that may come, and whether the module may end.
     MayCome {

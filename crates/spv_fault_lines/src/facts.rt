@@ -172,10 +172,13 @@ fn push_form_facts(facts: &mut Vec<Fact>, inst: u32, evidence: &Evidence) -> Res
             Fact::Failing { operand: *operand },
             Fact::Due { kind: *kind },
         ),
-        Evidence::Shape { opcode, .. } => push_two(
+        Evidence::Shape { opcode, known } => push_two(
             facts,
             Fact::Opcode { opcode: *opcode },
-            Fact::Row { opcode: *opcode },
+            Fact::Row {
+                opcode: *opcode,
+                known: *known,
+            },
         ),
         Evidence::Capability {
             capability,
@@ -261,7 +264,8 @@ impl<'m, 'a> About<'m, 'a> {
             (plain_insts self.now.«module».now) inst lister ++ (kinds.NeedsOneOf inst lister ∷ []))) }
     {
         match lister {
-            Lister::Entry => {}
+            Lister::Entry | Lister::Type => {}
+            Lister::Access => push_one(facts, Fact::Operand { inst, operand: 8 })?,
             Lister::Value { operand } => push_one(facts, Fact::Operand { inst, operand })?,
             Lister::Bit { operand, bit } => push_two(
                 facts,

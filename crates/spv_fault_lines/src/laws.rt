@@ -10,6 +10,12 @@ ghost use Rattle.spv_layout.specs.Example.{bare, small_function};
 ghost use Rattle.spv_words.specs.declared.words.WordError.TheVariants.{W3, W4};
 ghost use Rattle.spv_evidence.specs.declared.condition.Condition.TheVariants as condition;
 ghost use Rattle.spv_evidence.specs.declared.evidence.Lister.TheVariants as lister;
+ghost use Rattle.spv_type_forms.specs.declared.form.Object.TheVariants as object;
+ghost use Rattle.spv_conditions.specs.declared.condition.Images.TheVariants as images;
+ghost use Rattle.spv_conditions.specs.declared.condition.Kind.TheVariants as kind;
+ghost use Rattle.spv_conditions.specs.declared.condition.Relation.TheVariants as relation;
+ghost use Rattle.spv_fault_lines.specs.Conditions.{condition_text, image_text, kind_text, object_text};
+ghost use Rattle.spv_fault_lines.specs.Conditions.{pointer_text, relation_text};
 ghost use Rattle.spv_fault_lines.specs.Facts.{lister_facts};
 ghost use Rattle.spv_fault_lines.specs.Keys.{line_name, member_name};
 ghost use Rattle.spv_fault_lines.specs.Example.{vector};
@@ -45,12 +51,12 @@ pub fn place_examples()
 
 /// The operands that rows ask for, in words. OpTypeMatrix has no row.
 pub fn row_examples()
-    ensures load { row_text opcode.LOAD
+    ensures load { row_text opcode.LOAD true
         ≡ codes "result type, result, value, MemoryAccess or nothing, any others" }
-    ensures phi { row_text opcode.PHI ≡ codes "result type, result, any number of: value, label" }
-    ensures bare { row_text opcode.RETURN ≡ codes "no operands" }
-    ensures unknown { row_text 24 ≡ codes "none" }
-    ensures not_other { ¬ (row_text opcode.RETURN ≡ codes "value") }
+    ensures phi { row_text opcode.PHI true ≡ codes "result type, result, any number of: value, label" }
+    ensures bare { row_text opcode.RETURN true ≡ codes "no operands" }
+    ensures unknown { row_text 24 true ≡ codes "none" }
+    ensures not_other { ¬ (row_text opcode.RETURN true ≡ codes "value") }
 {}
 
 /// Keys as they are written: with spaces in lines, and as one word in JSON.
@@ -67,13 +73,30 @@ pub fn key_examples()
     ensures not_nothing { ¬ (raw_of Short small [] [] (fact.Least None) ≡ codes "least:") }
 {}
 
-/// What lists capabilities at an OpTypeInt or an OpTypeVector: its width, operand 1, or its count, operand 2.
+/// What lists capabilities at an OpTypeInt, an OpTypeVector or an OpTypeImage: its width, operand 1, its count, operand
+/// 2, or its access qualifier, operand 8.
 pub fn lister_examples()
     ensures width { lister_facts (bare opcode.TYPE_INT ∷ []) 0 lister.Width ≡ fact.Operand 0 1 ∷ [] }
     ensures count { lister_facts (bare opcode.TYPE_VECTOR ∷ []) 0 lister.Width ≡ fact.Operand 0 2 ∷ [] }
     ensures not_width { ¬ (lister_facts (bare opcode.TYPE_VECTOR ∷ []) 0 lister.Width ≡ fact.Operand 0 1 ∷ []) }
-    // The entry of an opcode is no operand.
+    ensures access { lister_facts (bare opcode.TYPE_IMAGE ∷ []) 0 lister.Access ≡ fact.Operand 0 8 ∷ [] }
+    // An image type itself is no operand, nor is the entry of an opcode.
+    ensures image { lister_facts (bare opcode.TYPE_IMAGE ∷ []) 0 lister.Type ≡ [] }
     ensures entry { lister_facts (bare opcode.TYPE_INT ∷ []) 0 lister.Entry ≡ [] }
+{}
+
+/// Conditions in words.
+pub fn condition_examples()
+    ensures bytes { kind_text kind.Int8Pointer ≡ codes "its type is a pointer to an int of width 8" }
+    ensures across { relation_text relation.Across ≡ codes
+        "its type and the wanted one are pointers, one of the storage class Workgroup and one of CrossWorkgroup" }
+    ensures sizes { condition_text condition.LocalSizes
+        ≡ codes "each value after the block is an int or a pointer to an int" }
+    ensures not_sizes { ¬ (condition_text condition.Block ≡ condition_text condition.Locals) }
+    ensures queue { object_text object.Queue ≡ codes "its type is a queue type" }
+    ensures no_queue { ¬ (object_text object.Queue ≡ pointer_text object.Queue) }
+    ensures flat { image_text images.Flat ≡ codes "its type is an image type whose images have one size" }
+    ensures not_sized { ¬ (image_text images.Sized ≡ image_text images.Leveled) }
 {}
 
 /// What makes a module of bytes that are none.

@@ -197,7 +197,7 @@ fn entry_lists(table: &Table, opcode: u16) -> Option<&NameList>
     }
 }
 
-/// The names that are listed: those of an entry, a value or a bit. A width or a count has no such list.
+/// The names that are listed: those of an entry, a value or a bit. What a type needs has no such list.
 pub fn listed_names<'t>(table: &'t Table, inst: &Inst<'_>, lister: Lister) -> Option<&'t NameList>
     ensures { option_map (λ n. n.now) result ≡ lines.listed_names table.now (plain_inst inst.now) lister }
 {
@@ -206,7 +206,7 @@ pub fn listed_names<'t>(table: &'t Table, inst: &Inst<'_>, lister: Lister) -> Op
         Lister::Entry => entry_lists(table, inst.opcode),
         Lister::Value { operand } => value_lists(table, operands.get(operand as usize)),
         Lister::Bit { operand, bit } => bit_lists(table, operands.get(operand as usize), bit),
-        Lister::Width => None,
+        Lister::Width | Lister::Type | Lister::Access => None,
     }
 }
 
@@ -320,7 +320,7 @@ impl<'m, 'a> About<'m, 'a> {
             None => push_capabilities(
                 out,
                 self.table,
-                needs_of(inst.opcode, inst.operands.as_slice()),
+                needs_of(lister, inst.opcode, inst.operands.as_slice()),
             ),
         }
     }
@@ -473,7 +473,7 @@ impl<'m, 'a> About<'m, 'a> {
     {
         match fact {
             Fact::At { inst } => self.push_inst(out, *inst),
-            Fact::Row { opcode } => push_row_of(out, *opcode),
+            Fact::Row { opcode, known } => push_row_of(out, *opcode, *known),
             Fact::Unended { place } => self.push_unended(out, *place),
             Fact::Failing { operand: number }
             | Fact::Bound { bound: number }

@@ -1,8 +1,9 @@
-//! The capabilities that widths and counts ask for.
+//! The capabilities that types ask for.
 ghost use Rattle.std.specs.Prelude.{◌≡◌};
 ghost use Rattle.spv_module.specs.Module.{plain_operands};
-ghost use Rattle.spv_fault_lines.specs.Lines.{float_needs, int_needs, vector_needs, width_needs};
+ghost use Rattle.spv_fault_lines.specs.Lines.{float_needs, int_needs, type_needs, vector_needs, width_needs};
 
+use spv_evidence::Lister;
 use spv_module::{Operand, opcode};
 
 /// Of an OpTypeInt: Int16 (22) or Int64 (11).
@@ -38,8 +39,8 @@ fn vector_needs_of(operands: &[Operand<'_>]) -> &'static [u32]
     }
 }
 
-/// The capabilities of which one is needed for the width or the count of a type, by their numbers.
-pub fn needs_of(code: u16, operands: &[Operand<'_>]) -> &'static [u32]
+/// Those of a width or a count.
+fn width_needs_of(code: u16, operands: &[Operand<'_>]) -> &'static [u32]
     ensures { result.now ≡ width_needs code (plain_operands operands.now) }
 {
     match code {
@@ -47,5 +48,17 @@ pub fn needs_of(code: u16, operands: &[Operand<'_>]) -> &'static [u32]
         opcode::TYPE_FLOAT => float_needs_of(operands),
         opcode::TYPE_VECTOR => vector_needs_of(operands),
         _ => &[],
+    }
+}
+
+/// The capabilities of which one is needed, by their numbers: of an image or sampler type ImageBasic (13), of an access
+/// qualifier ImageReadWrite (14), and of a type of another opcode those of its width or count.
+pub fn needs_of(lister: Lister, code: u16, operands: &[Operand<'_>]) -> &'static [u32]
+    ensures { result.now ≡ type_needs lister code (plain_operands operands.now) }
+{
+    match lister {
+        Lister::Type => &[13],
+        Lister::Access => &[14],
+        _ => width_needs_of(code, operands),
     }
 }

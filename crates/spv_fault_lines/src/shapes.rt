@@ -1,6 +1,6 @@
 //! The operands that a row of the table of shapes asks for, in words.
-ghost use Rattle.std.specs.Prelude.{◌≡◌, ◌++◌, OnOk, Some, true, string_bytes};
-ghost use Rattle.spv_layout.specs.Row.{file_and_text, maybe, maybe_others, name_of};
+ghost use Rattle.std.specs.Prelude.{◌≡◌, ◌++◌, OnOk, Some, codes, true, string_bytes};
+ghost use Rattle.spv_layout.specs.Row.{file_and_text, maybe, maybe_others, maybe_repeated, name_of};
 ghost use Rattle.spv_layout.specs.inner.Row.{plain_ending, plain_row};
 ghost use Rattle.spv_fault_lines.specs.Shapes as shapes;
 
@@ -40,6 +40,14 @@ fn kind_name(kind: Named) -> &'static str
         Named::MemoryAccess => "MemoryAccess",
         Named::LoopControl => "LoopControl",
         Named::SelectionControl => "SelectionControl",
+        Named::Dim => "Dim",
+        Named::ImageFormat => "ImageFormat",
+        Named::AccessQualifier => "AccessQualifier",
+        Named::SamplerAddressingMode => "SamplerAddressingMode",
+        Named::SamplerFilterMode => "SamplerFilterMode",
+        Named::GroupOperation => "GroupOperation",
+        Named::PackedVectorFormat => "PackedVectorFormat",
+        Named::ImageOperands => "ImageOperands",
     }
 }
 
@@ -124,6 +132,36 @@ fn push_maybe_others(out: &mut String, first: bool, form: Form) -> Result<(), Al
     out.push_str(" or nothing, any others")
 }
 
+/// Adds an operand that may be left out, and that any number of another may follow it.
+fn push_maybe_before(out: &mut String, first: bool, form: Form) -> Result<(), AllocError>
+    ensures { OnOk result (string_bytes out.new
+        ≡ string_bytes out.old ++ (shapes.comma first ++ shapes.form_text form ++ codes " or nothing, any number of: ")) }
+{
+    push_form(out, first, form)?;
+    out.push_str(" or nothing, any number of: ")
+}
+
+/// Adds the words for a form.
+fn push_words(out: &mut String, form: Form) -> Result<(), AllocError>
+    ensures { OnOk result (string_bytes out.new ≡ string_bytes out.old ++ shapes.form_text form) }
+{
+    out.push_str(form_words(form))
+}
+
+/// Adds an operand and any number of another that may be left out.
+fn push_maybe_repeated(
+    out: &mut String,
+    first: bool,
+    form: Form,
+    other: Form,
+) -> Result<(), AllocError>
+    ensures { OnOk result
+        (string_bytes out.new ≡ string_bytes out.old ++ shapes.ending_text first (maybe_repeated form other)) }
+{
+    push_maybe_before(out, first, form)?;
+    push_words(out, other)
+}
+
 /// Adds what may come after the fixed operands, and whether that is the first that is told.
 fn push_ending(out: &mut String, first: bool, ending: Ending) -> Result<(), AllocError>
     ensures { OnOk result (string_bytes out.new ≡ string_bytes out.old ++ shapes.ending_text first (plain_ending ending)) }
@@ -142,6 +180,7 @@ fn push_ending(out: &mut String, first: bool, ending: Ending) -> Result<(), Allo
             out.push_str("any others")
         }
         Ending::MaybeOthers(form) => push_maybe_others(out, first, form),
+        Ending::MaybeRepeated(form, other) => push_maybe_repeated(out, first, form, other),
     }
 }
 
@@ -163,10 +202,13 @@ fn push_row(out: &mut String, row: &Row) -> Result<(), AllocError>
     push_ending(out, has_none(row.fixed), row.ending)
 }
 
-/// Adds the operands that the row of an opcode asks for, or that it has none.
-pub fn push_row_of(out: &mut String, opcode: u16) -> Result<(), AllocError>
-    ensures { OnOk result (string_bytes out.new ≡ string_bytes out.old ++ shapes.row_text opcode) }
+/// Adds the operands that the row of an opcode asks for, or that it has none, or none that is known.
+pub fn push_row_of(out: &mut String, opcode: u16, known: bool) -> Result<(), AllocError>
+    ensures { OnOk result (string_bytes out.new ≡ string_bytes out.old ++ shapes.row_text opcode known) }
 {
+    if !known {
+        return out.push_str("none");
+    }
     match row(opcode) {
         Some(row) => push_row(out, row),
         None => out.push_str("none"),

@@ -12,6 +12,7 @@ ghost use Rattle.spv_layout.specs.Place.{IsShort};
 ghost use Rattle.spv_layout.specs.Plan.{IsPlan};
 ghost use Rattle.spv_layout.specs.Stage.{of_branches};
 ghost use Rattle.spv_ids.specs.Outcome.{AreIds};
+ghost use Rattle.spv_flow.specs.declared.branches.fork.Fork.{Fork};
 ghost use Rattle.spv_flow.specs.branches.Broken.{Broken};
 ghost use Rattle.spv_flow_evidence.specs.branches.Evidence.{IsEvidence};
 
@@ -45,15 +46,16 @@ pub fn branch_evidence(
     rule: Rule,
     inst: u32,
 ) -> Result<Evidence, AllocError>
-    // The conditions of `check_branches`, and that this is the first broken rule and its instruction, by some table.
+    // The conditions of `check_branches`, and that this is the first broken rule and its instruction, by some table,
+    // whether F4 is asked or not.
     requires words { IsShort (plain_insts «module».now) }
     requires known { (G : Table) × IsPlan G (plain_insts «module».now) plan.now
         × AreIds G «module».now.header.bound (plain_insts «module».now) ids.now }
-    requires first { (G : Table) × IsPlan G (plain_insts «module».now) plan.now
-        × IsFirst (Broken G (plain_insts «module».now)) of_branches rule inst }
-    ensures { (G : Table) → IsPlan G (plain_insts «module».now) plan.now
-        → IsFirst (Broken G (plain_insts «module».now)) of_branches rule inst
-        → IfOk result (λ e. IsEvidence G (plain_insts «module».now) rule inst e) }
+    requires first { (fork : Fork) × (G : Table) × IsPlan G (plain_insts «module».now) plan.now
+        × IsFirst (Broken fork G (plain_insts «module».now)) of_branches rule inst }
+    ensures { (fork : Fork) (G : Table) → IsPlan G (plain_insts «module».now) plan.now
+        → IsFirst (Broken fork G (plain_insts «module».now)) of_branches rule inst
+        → IfOk result (λ e. IsEvidence fork G (plain_insts «module».now) rule inst e) }
 {
     let code = Code {
         insts: module.insts.as_slice(),

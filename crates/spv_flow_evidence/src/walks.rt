@@ -12,6 +12,7 @@ ghost use Rattle.spv_layout.specs.Place.{IsOfFunction, IsShort, AreFew};
 ghost use Rattle.spv_layout.specs.Plan.{IsPlan};
 ghost use Rattle.spv_layout.specs.Stage.{of_branches};
 ghost use Rattle.spv_ids.specs.Outcome.{AreIds};
+ghost use Rattle.spv_flow.specs.declared.branches.fork.Fork.{Fork};
 ghost use Rattle.spv_flow.specs.branches.Broken.{Broken};
 ghost use Rattle.spv_flow.specs.walks.inner.Code.{insts_of, IsCode};
 ghost use Rattle.spv_flow.specs.walks.inner.Divided.{IsIn};
@@ -161,13 +162,13 @@ pub fn walk_evidence(
     // The condition of `lay_out`, and that the rule is broken there, by some table, in a module of which the plan and
     // the ids are what was answered, and whose branches are sound.
     requires words { IsShort (plain_insts «module».now) }
-    requires broken { (G : Table) × IsPlan G (plain_insts «module».now) plan.now
+    requires broken { (fork : Fork) × (G : Table) × IsPlan G (plain_insts «module».now) plan.now
         × AreIds G «module».now.header.bound (plain_insts «module».now) ids.now
-        × IsUnbroken (Broken G (plain_insts «module».now)) of_branches
-        × Broken G (plain_insts «module».now) rule inst }
-    ensures { (G : Table) → IsPlan G (plain_insts «module».now) plan.now
+        × IsUnbroken (Broken fork G (plain_insts «module».now)) of_branches
+        × Broken fork G (plain_insts «module».now) rule inst }
+    ensures { (fork : Fork) (G : Table) → IsPlan G (plain_insts «module».now) plan.now
         → AreIds G «module».now.header.bound (plain_insts «module».now) ids.now
-        → IsUnbroken (Broken G (plain_insts «module».now)) of_branches
+        → IsUnbroken (Broken fork G (plain_insts «module».now)) of_branches
         → IfOk result (λ e. IsEvidence G (plain_insts «module».now) rule inst e) }
 {
     let insts = module.insts.as_slice();

@@ -1,6 +1,6 @@
 -- What a grammar file is refused for, in lines for people. (Own.)
-use Rattle.std.specs.Prelude.{◌≡◌, ◌∷◌, ◌++◌, ◌+◌, ◌/◌, ◌%◌, ◌==◌, ◌||◌, ℕ, List, [], Option, Some, None, codes}
-use Rattle.std.specs.Prelude.{flat_map, nat_lt, string_bytes, if◌then◌else◌}
+use Rattle.std.specs.Prelude.{◌≡◌, ◌∷◌, ◌++◌, ◌+◌, ◌/◌, ◌%◌, ◌||◌, ℕ, List, [], Option, Some, None, codes}
+use Rattle.std.specs.Prelude.{flat_map, nat_le, nat_lt, string_bytes, if◌then◌else◌}
 use Rattle.spv_grammar.specs.Place.{Tells}
 use Rattle.spv_grammar.specs.declared.place.GrammarFault.{GrammarFault}
 
@@ -8,10 +8,10 @@ use Rattle.spv_grammar.specs.declared.place.GrammarFault.{GrammarFault}
 abbrev pub digit_shown : ℕ → ℕ
 digit_shown d = if nat_lt d 10 then 48 + d else 87 + d
 
--- a control character of ASCII as `\xNN`, and any other octet as it is
+-- an octet of ASCII that is no control character as it is, and any other one as `\xNN`
 abbrev pub octet_shown : ℕ → List ℕ
 octet_shown b =
-    if nat_lt b 32 || b == 127 then 92 ∷ 120 ∷ digit_shown (b / 16) ∷ digit_shown (b % 16) ∷ [] else b ∷ []
+    if nat_lt b 32 || nat_le 127 b then 92 ∷ 120 ∷ digit_shown (b / 16) ∷ digit_shown (b % 16) ∷ [] else b ∷ []
 
 -- `KEY: TEXT` and a line feed
 abbrev pub line_of : List ℕ → List ℕ → List ℕ

@@ -146,9 +146,11 @@ pub fn place_examples()
 
 /// Worked examples of the lines of what a file is refused for.
 pub fn reason_examples()
-    // A line feed is told by its number, and a backslash stands alone.
+    // A line feed is told by its number, and so is what is none of ASCII; a backslash stands alone.
     ensures control { octet_shown 10 ≡ codes "\\x0a" }
     ensures feed { ¬ (octet_shown 10 ≡ 10 ∷ []) }
+    ensures past_ascii { octet_shown 155 ≡ codes "\\x9b" }
+    ensures backslash { octet_shown 92 ≡ 92 ∷ [] }
     ensures line { line_of (codes "at") (codes "a") ≡ codes "at: a" ++ 10 ∷ [] }
     ensures no_line { ¬ (line_of (codes "at") (codes "a") ≡ codes "at: a") }
     // The whole file has no path.

@@ -7,6 +7,7 @@ use Rattle.spv_module.specs.Operand as operand
 use Rattle.spv_layout.specs.declared.form.Form.{Form}
 use Rattle.spv_layout.specs.declared.form.Form.TheVariants as form
 use Rattle.spv_layout.specs.Row.{PlainRow, RowEnding, closed, maybe, file_and_text, repeated, others, maybe_others}
+use Rattle.spv_layout.specs.Row.{maybe_repeated}
 use Rattle.spv_layout.specs.Rows.{rows}
 use Rattle.spv_layout.specs.Shape.{is_of, AreOf, Ends, FitsShape}
 use Rattle.spv_ids.specs.inner.Uses.{early_result, result_at, AreEarly}
@@ -35,6 +36,7 @@ ending_free file_and_text = true
 ending_free (repeated fs) = is_free fs
 ending_free others = true
 ending_free (maybe_others f) = not (is_result f)
+ending_free (maybe_repeated f g) = not (is_result f) && not (is_result g)
 
 row_starts : PlainRow → Bool
 row_starts r = is_free_late r.fixed && ending_free r.ending
@@ -85,6 +87,11 @@ ends_free _ _ c Ends.no_other = refl
 ends_free _ _ c (Ends.other gs r) = others_free gs r
 ends_free _ _ c (Ends.no_kind f) = refl
 ends_free _ _ c (Ends.kind f gs r) = cons_free f gs c (others_free gs r)
+ends_free _ _ c (Ends.no_first f g) = refl
+ends_free _ _ c (Ends.first f g gs r) =
+    let a = and_first (not (is_result f)) (not (is_result g)) c in
+    let b = and_second (not (is_result f)) (not (is_result g)) c in
+    cons_free f gs a (ends_free (repeated (g ∷ [])) gs (one_free g b) r)
 
 late_free : (fs gs : List Form) → is_free_late fs ≡ true → is_free gs ≡ true → is_free_late (fs ++ gs) ≡ true
 unfolding is_free_late

@@ -9,14 +9,14 @@ use Rattle.spv_table.specs.Table.{Table}
 use Rattle.spv_module.specs.Operand.{Plain, PlainInst, result_in}
 use Rattle.spv_module.specs.Operand as operand
 use Rattle.spv_module.specs.declared.opcode.TheConstants as opcode
-use Rattle.spv_layout.specs.declared.class.Class.TheVariants.{Body, FunctionEnd}
+use Rattle.spv_layout.specs.declared.class.Class.TheVariants.{Extended, FunctionEnd}
 use Rattle.spv_layout.specs.declared.form.Role.{Role}
 use Rattle.spv_layout.specs.declared.form.Role.TheVariants as role
 use Rattle.spv_layout.specs.declared.form.Form.{Form}
 use Rattle.spv_layout.specs.declared.form.Form.TheVariants as form
 use Rattle.spv_layout.specs.Class.{is_among}
 use Rattle.spv_layout.specs.Row.{PlainRow, RowEnding, closed, maybe, file_and_text, repeated, others, maybe_others}
-use Rattle.spv_layout.specs.Row.{row_in}
+use Rattle.spv_layout.specs.Row.{maybe_repeated, row_in}
 use Rattle.spv_layout.specs.inner.Row.{row}
 use Rattle.spv_layout.specs.Rows.{rows, row_of, class_of, class_in}
 use Rattle.spv_layout.specs.Layout.{classes}
@@ -42,6 +42,7 @@ ending_seen file_and_text = true
 ending_seen (repeated fs) = all_seen fs
 ending_seen others = true
 ending_seen (maybe_others f) = not (is_unseen f)
+ending_seen (maybe_repeated f g) = not (is_unseen f) && not (is_unseen g)
 
 row_seen : PlainRow → Bool
 row_seen r = all_seen r.fixed && ending_seen r.ending
@@ -125,6 +126,8 @@ ends_closed _ _ c Ends.no_other = cc
 ends_closed _ _ c (Ends.other gs r) = cc
 ends_closed _ _ c (Ends.no_kind f) = cc
 ends_closed _ _ c (Ends.kind f gs r) = cc
+ends_closed _ _ c (Ends.no_first f g) = cc
+ends_closed _ _ c (Ends.first f g gs r) = cc
 
 nil_tells : (fs : List Form) → is_nil fs ≡ true → fs ≡ []
 unfolding is_nil
@@ -237,6 +240,11 @@ ends_seen _ _ c Ends.no_other = refl
 ends_seen _ _ c (Ends.other gs r) = others_seen gs r
 ends_seen _ _ c (Ends.no_kind f) = refl
 ends_seen _ _ c (Ends.kind f gs r) = cons_seen f gs c (others_seen gs r)
+ends_seen _ _ c (Ends.no_first f g) = refl
+ends_seen _ _ c (Ends.first f g gs r) =
+    let a = and_first (not (is_unseen f)) (not (is_unseen g)) c in
+    let b = and_second (not (is_unseen f)) (not (is_unseen g)) c in
+    cons_seen f gs a (ends_seen (repeated (g ∷ [])) gs (one_seen g b) r)
 
 -- of another opcode than OpExtInst's all forms are looked at
 forms_seen : (G : Table) (i : PlainInst) (fs : List Form) (h : HasForms G i fs) → (i.opcode ≡ opcode.EXT_INST → ⊥)
@@ -262,7 +270,7 @@ abbrev ext_fixed : List Form
 ext_fixed = form.OfType ∷ form.Result ∷ form.Id role.Set ∷ form.Word ∷ []
 
 abbrev ext_row : PlainRow
-ext_row = row opcode.EXT_INST opcode.EXT_INST Body ext_fixed (repeated (form.Unseen ∷ []))
+ext_row = row opcode.EXT_INST opcode.EXT_INST Extended ext_fixed (repeated (form.Unseen ∷ []))
 
 ext_known : row_of 12 ≡ Some ext_row
 unfolding rows
@@ -291,6 +299,8 @@ rounds_unseen _ _ n f q Ends.no_other h = cc
 rounds_unseen _ _ n f q (Ends.other gs r) h = cc
 rounds_unseen _ _ n f q (Ends.no_kind g) h = cc
 rounds_unseen _ _ n f q (Ends.kind g gs r) h = cc
+rounds_unseen _ _ n f q (Ends.no_first g k) h = cc
+rounds_unseen _ _ n f q (Ends.first g k gs r) h = cc
 
 row_same : (n : ℕ) (r : PlainRow) → n ≡ 12 → row_of n ≡ Some r → r ≡ ext_row
 row_same n r h k = let k' : row_of 12 ≡ Some r = rw h at k in let q = ext_known in cc

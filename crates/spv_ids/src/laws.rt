@@ -4,7 +4,7 @@ ghost use Rattle.std.specs.Prelude.{◌≡◌, ℕ, List, [], ◌∷◌};
 ghost use Rattle.spv_module.specs.Example.{small};
 ghost use Rattle.spv_module.specs.Operand.{Argument, Mention};
 ghost use Rattle.spv_module.specs.declared.fault.Rule.TheVariants.{D1, D2, D3, D4, D5};
-ghost use Rattle.spv_ids.specs.Example.{void, of_void, used_inside, used_outside, extended, mentioned};
+ghost use Rattle.spv_ids.specs.Example.{void, of_void, used_inside, used_outside, extended, mentioned, between};
 ghost use Rattle.spv_ids.specs.Order.{IsInOrder, IsInScope};
 ghost use Rattle.spv_table.specs.Table.{Table};
 ghost use Rattle.spv_module.specs.Operand.{PlainInst};
@@ -65,6 +65,8 @@ pub fn scope_examples()
     ensures not_in_place { ¬ (IsLocalTo used_outside 5 4) }
     ensures not_in_scope { ¬ (IsInScope used_outside 6 5) }
     ensures broken { Broken small 9 used_outside D5 6 }
+    // The result of an extended instruction between functions.
+    ensures between { ¬ (IsLocal between 2) }
 {}
 
 /// Operands behind the number of an extended instruction that are looked at, under the bound 5.

@@ -86,7 +86,7 @@ fn read_all<'t, 'a>(
 /// A `Fault` tells the first instruction that fails, with its rule, I1 to I12, and the word of the module (from 0) by
 /// which the rule is told. `Memory` comes only where a growth of memory was refused.
 #[inline(never)]
-pub fn decode<'a>(alloc: Global, table: &Table, image: &'a Image) -> Result<Module<'a>, Stop>
+pub fn decode<'t, 'a>(alloc: Global, table: &'t Table, image: &'a Image) -> Result<Module<'a>, Stop>
     // What is answered is the list that the words from word 5 on spell.
     ensures found { IfOk result (λ m. IsListing table.now (plain_insts m) (drop 5 image.now)) }
     // The words spell no other.
@@ -101,7 +101,7 @@ pub fn decode<'a>(alloc: Global, table: &Table, image: &'a Image) -> Result<Modu
     let words = image.len() as usize;
     let mut module = with_room(alloc, image.header(), words / WORDS_FOR_EACH)?;
     let mut definitions = room_for(alloc, table, image)?;
-    let mut pending = Pending::new(alloc);
+    let mut pending: Pending<'t> = Pending::new(alloc);
     let mut batch = Batch::with_room(alloc, words)?;
     read_all(
         alloc,

@@ -217,6 +217,7 @@ impl Definitions {
     }
 
     /// What is kept of an id.
+    #[inline(always)]
     fn latest(&self, id: u32) -> Option<Definition>
         ensures { result ≡ kept self.now id }
     {
@@ -227,6 +228,8 @@ impl Definitions {
     }
 
     /// What is kept of an id at its rank or in the map.
+    #[cold]
+    #[inline(never)]
     fn latest_far(&self, id: u32) -> Option<Definition>
         ensures { result ≡ kept_far self.now id }
     {

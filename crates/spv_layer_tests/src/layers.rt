@@ -1,13 +1,13 @@
 //! The layers one after another.
 
 use spv_builtin::{FromGrammar, Table};
-use spv_flow::branches::check_branches;
+use spv_flow::branches::{Fork, check_branches};
 use spv_flow::calls::first_cycle;
 use spv_flow::walks::check_values;
 use spv_ids::number;
 use spv_inst::{Stop, decode};
 use spv_layout::laws::word_counts;
-use spv_layout::lay_out;
+use spv_layout::{Profile, lay_out};
 use spv_samples::{CALL_OF_LATER_FUNCTION, PROFILE, image_of};
 use spv_verdict::{flow_check, type_check};
 use spv_words::Image;
@@ -19,10 +19,10 @@ pub fn flow_of(alloc: Global, table: &Table, image: &Image) -> Result<u32, Stop>
     word_counts();
     let _words = image.len();
     let module = decode(alloc, table, image)?;
-    let plan = lay_out(alloc, table, &module)?;
+    let plan = lay_out(alloc, Profile::Own, table, &module)?;
     let ids = number(alloc, &module, &plan)?;
     let types = type_check(alloc, table, &module, &plan, &ids)?;
-    let flow = flow_check(alloc, &module, &plan, &ids, &types)?;
+    let flow = flow_check(alloc, &module, &plan, &ids, &types, Fork::Distinct)?;
     Ok(flow.definitions())
 }
 
@@ -31,9 +31,9 @@ fn cycle_of(alloc: Global, table: &Table, image: &Image) -> Result<Option<u32>, 
     word_counts();
     let _words = image.len();
     let module = decode(alloc, table, image)?;
-    let plan = lay_out(alloc, table, &module)?;
+    let plan = lay_out(alloc, Profile::Own, table, &module)?;
     let ids = number(alloc, &module, &plan)?;
-    check_branches(alloc, &module, &plan, &ids)?;
+    check_branches(alloc, &module, &plan, &ids, Fork::Distinct)?;
     check_values(alloc, &module, &plan, &ids)?;
     Ok(first_cycle(alloc, &module, &plan, &ids)?)
 }

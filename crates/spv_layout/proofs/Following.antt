@@ -4,12 +4,14 @@ use Rattle.std.specs.Prelude.{slice_get, is_none}
 use Rattle.std.proofs.lemmas.Bool.{lt-ltb, eqb-true, eq-eqb}
 use Rattle.spv_module.specs.Operand.{PlainInst}
 use Rattle.spv_layout.specs.declared.class.Class.{Class}
-use Rattle.spv_layout.specs.declared.class.Class.TheVariants.{Capability, Function, FunctionEnd, Label, Branch, BranchConditional, Switch, Return}
+use Rattle.spv_module.specs.declared.profile.Profile.{Profile}
+use Rattle.spv_module.specs.declared.profile.Profile.TheVariants.{Own, OpenCl}
+use Rattle.spv_layout.specs.declared.class.Class.TheVariants.{Capability, Function, FunctionEnd, Label, Body, Branch, BranchConditional, Switch, Return, Extended}
 use Rattle.spv_layout.specs.declared.state.State.{State}
 use Rattle.spv_layout.specs.declared.state.State.TheVariants as at
 use Rattle.spv_layout.specs.declared.span.Spans.{Spans}
 use Rattle.spv_layout.specs.Class.{is_among}
-use Rattle.spv_layout.specs.Layout.{classes}
+use Rattle.spv_layout.specs.Layout.{classes, seen}
 use Rattle.spv_layout.specs.Place.{IsAt, IsLast, IsWithin, IsOfFunction, IsDefinition, terminators, section_of}
 use Rattle.spv_layout.specs.inner.Span.{Span, In, Outside, After, inside, left, UpTo, Before, mark, no_number, at_first, no_spans, entered_in, left_in}
 use Rattle.spv_layout.specs.inner.State.{next_of, is_first}
@@ -254,6 +256,14 @@ fine_move s c t e = parts (rw e at (fine s c)) where
       let w = both_hold _ _ v.0 in
       record { opens = w.0; declaring = w.1; label = v.1; function = u.1; definition = r.1; early = q.1; late = p.1 }
 
+-- a transition by a class as a profile sees it keeps the same of the class
+pub fine_seen : (p : Profile) (s : State) (c : Class) (t : State) → next_of s (seen p c) ≡ Some t → Fine s c t
+fine_seen OpenCl s c t e = fine_move s c t e
+fine_seen Own s Extended t e =
+    let f = fine_move s Body t e in
+    record { opens = f.opens; declaring = f.declaring; label = f.label; function = f.function; definition = f.definition; early = f.early; late = f.late }
+fine_seen Own s c t e = fine_move s c t e
+
 -- which functions are definitions, as far as the labels before instruction n tell
 pub record Defined (is : List PlainInst) (n : ℕ) (s : State) (function definitions : ℕ) : Type 0 where
   pub labels : (k : ℕ) → k < n → k < definitions → ¬ (IsAt is k (Label ∷ []))
@@ -443,11 +453,11 @@ pub stands_at : (is : List PlainInst) (n : ℕ) (s : State) (c : Class) (x : Spa
     → Stands is n (entered_in x c n).function (entered_in x c n).block
 stands_at is n s c x l m h f = record { of_function = enter_function is n c x l m h f.function; of_block = enter_block is n c x l m h f.block }
 
-pub follows_on : (is : List PlainInst) (n : ℕ) (s t : State) (c : Class) (x : Spans) → next_of s c ≡ Some t → n < length is → n < no_number → slice_get (classes is) n ≡ Some c → Follows is n s x
+pub follows_on : (p : Profile) (is : List PlainInst) (n : ℕ) (s t : State) (c : Class) (x : Spans) → next_of s (seen p c) ≡ Some t → n < length is → n < no_number → slice_get (classes is) n ≡ Some c → Follows is n s x
     → Follows is (n + 1) t (left_in (entered_in x c n) c)
-follows_on is n s t c x e l m h f = record {
+follows_on p is n s t c x e l m h f = record {
   function = leave_function is n c (entered_in x c n) h (enter_function is n c x l m h f.function);
   block = leave_block is n c (entered_in x c n) h (enter_block is n c x l m h f.block);
   functions = begins is n c x m h f.functions;
-  definitions = goes is n s t c x (fine_move s c t e) l m h f.function f.definitions;
+  definitions = goes is n s t c x (fine_seen p s c t e) l m h f.function f.definitions;
 }

@@ -8,6 +8,7 @@ use Rattle.spv_table.specs.Table.{Table}
 use Rattle.spv_module.specs.declared.module.Inst.{Inst}
 use Rattle.spv_module.specs.Operand.{PlainInst}
 use Rattle.spv_module.specs.Module.{plain_inst}
+use Rattle.spv_module.specs.declared.profile.Profile.{Profile}
 use Rattle.spv_layout.specs.declared.class.Class.{Class}
 use Rattle.spv_layout.specs.declared.class.Class.TheVariants.{Function, FunctionEnd, Label}
 use Rattle.spv_layout.specs.declared.state.State.{State}
@@ -18,7 +19,7 @@ use Rattle.spv_layout.specs.declared.place.Early.{Early}
 use Rattle.spv_layout.specs.declared.place.Standing.{Standing}
 use Rattle.spv_layout.specs.Class.{is_among}
 use Rattle.spv_layout.specs.Rows.{class_of}
-use Rattle.spv_layout.specs.Layout.{IsLayout, classes}
+use Rattle.spv_layout.specs.Layout.{IsLayout, classes, seen}
 use Rattle.spv_layout.specs.Shape.{FitsShape}
 use Rattle.spv_layout.specs.Place.{IsAt, IsLast, IsWithin, IsDefinition, IsOfSection, terminators, section_of, first_word_of}
 use Rattle.spv_layout.specs.Plan.{IsPlaceOf, IsPlan}
@@ -26,7 +27,7 @@ use Rattle.spv_layout.specs.inner.Kept.{early_place, late_place, late_places, pl
 use Rattle.spv_layout.specs.inner.Span.{Span, UpTo, no_number, mark}
 use Rattle.spv_layout.specs.inner.State.{is_first, may_stop, next_of}
 use Rattle.spv_layout.proofs.Spans.{within}
-use Rattle.spv_layout.proofs.Following.{SpannedTo, Begun, Defined, Follows, Stands, Fine, fine_move, is_definition, implies}
+use Rattle.spv_layout.proofs.Following.{SpannedTo, Begun, Defined, Follows, Stands, Fine, fine_seen, is_definition, implies}
 
 -- the class of an instruction of a slice
 pub class_there : (insts : List Inst) (n : ℕ) (i : Inst) → n < length insts → i ≡ get_or insts n i → slice_get (classes (map plain_inst insts)) n ≡ Some (class_of i.opcode)
@@ -114,10 +115,10 @@ keeps_by (Some section) is n s t c x word early late e g h w d k =
     }
 
 -- one instruction more
-pub keeps : (is : List PlainInst) (n : ℕ) (s t : State) (c : Class) (x : Spans) (word : ℕ) (early new_early : List Early) (late new_late : List Standing) → next_of s c ≡ Some t
+pub keeps : (p : Profile) (is : List PlainInst) (n : ℕ) (s t : State) (c : Class) (x : Spans) (word : ℕ) (early new_early : List Early) (late new_late : List Standing) → next_of s (seen p c) ≡ Some t
     → new_early ≡ early_with (section_of c) word early → new_late ≡ late_with (section_of c) x word late
     → slice_get (classes is) n ≡ Some c → word ≡ first_word_of is n → Stands is n x.function x.block → Kept is n s early late → Kept is (n + 1) t new_early new_late
-keeps is n s t c x word early new_early late new_late e a b h w d k = rw (a, b) (keeps_by (section_of c) is n s t c x word early late refl (fine_move s c t e) h w d k)
+keeps p is n s t c x word early new_early late new_late e a b h w d k = rw (a, b) (keeps_by (section_of c) is n s t c x word early late refl (fine_seen p s c t e) h w d k)
 
 -- the places, by number
 pub front_get : (early : List Early) (rest : List Place) (n : ℕ) → n < length early → slice_get (map early_place early ++ rest) n ≡ option_map early_place (slice_get early n)

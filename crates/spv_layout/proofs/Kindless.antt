@@ -43,6 +43,10 @@ unkinded_ends _ _ Ends.no_other h = cc
 unkinded_ends _ _ (Ends.other gs e) h = cc
 unkinded_ends _ _ (Ends.no_kind f) h = cc
 unkinded_ends _ _ (Ends.kind f gs e) h = cc
+unkinded_ends _ _ (Ends.no_first f g) h = refl
+unkinded_ends _ _ (Ends.first f g gs e) h =
+    let p = both_hold (is_unkinded f) (is_unkinded g) h in
+    both_true (is_unkinded f) (are_unkinded gs) p.0 (unkinded_ends _ gs e (both_true (is_unkinded g) true p.1 refl))
 
 -- the operands of an instruction that fits such a row
 pub unkinded_operands : (G : Table) (i : PlainInst) (r : PlainRow) → row_of i.opcode ≡ Some r → are_unkinded r.fixed ≡ true → is_unkinded_ending r.ending ≡ true → FitsShape G i → AllByRecursion IsUnkinded i.operands

@@ -8,6 +8,8 @@ pub mod Firsts
 pub mod Shapes
 pub mod Places
 pub mod Worked
+pub mod Seen
+pub mod Blocks
 pub mod WordCounts
 pub mod Brokens
 pub mod Tested

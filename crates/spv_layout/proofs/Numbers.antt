@@ -1,10 +1,9 @@
 -- The numbers of the rows are those of the first rows that have the opcodes.
-use Rattle.std.proofs.Common.{◌≡◌, ◌∙◌, ◌<◌, ◌≤◌, ◌+◌, ℕ, zero, suc, nat_le, nat_lt, List, [], ◌∷◌, refl, sym, ap, Bool, true, false, ◌&&◌, if◌then◌else◌, Option, Some, None, length, arith, inl, inr}
+use Rattle.std.proofs.Common.{◌≡◌, ◌∙◌, ◌<◌, ◌≤◌, ◌+◌, ℕ, zero, suc, nat_le, nat_lt, List, [], ◌∷◌, refl, sym, ap, Bool, true, false, ◌&&◌, if◌then◌else◌, Option, Some, None, length, take, drop, arith}
 use Rattle.std.specs.Prelude.{slice_get}
-use Rattle.std.proofs.lemmas.Bool.{cases_lt, ltb-true, lt-leb}
-use Rattle.std.proofs.lemmas.Option.{slice_get_past}
+use Rattle.std.proofs.lemmas.Bool.{ltb-true, lt-leb}
 use Rattle.spv_layout.specs.Row.{PlainRow, row_in}
-use Rattle.spv_layout.specs.declared.rows.TheConstants.{NUMBERS}
+use Rattle.spv_layout.specs.declared.rows.TheConstants.{NUMBERS, NUMBERED}
 use Rattle.spv_layout.specs.inner.Row.{numbered}
 use Rattle.spv_layout.specs.Rows.{rows, row_of}
 use Rattle.spv_layout.proofs.Derivatives.{both_hold}
@@ -61,12 +60,12 @@ position_at rs n (suc count) (suc k) h =
     let e : (n + 1) + k ≡ n + suc k = omega arith in
     position_at rs (n + 1) count k (omega arith) ∙ ap (λ m. Some (position_from rs 0 m)) e
 
--- the opcodes of all rows are below n
+-- the opcodes of all these rows are below n
 are_below : List PlainRow → ℕ → Bool
 are_below [] n = true
 are_below (r ∷ rs) n = nat_lt r.to n && are_below rs n
 
-all_below : are_below rows count ≡ true
+all_below : are_below (take NUMBERED rows) count ≡ true
 unfolding count are_below rows
 all_below = refl
 
@@ -74,24 +73,23 @@ passed : (a b : Bool) (r : PlainRow) (o : Option PlainRow) → b ≡ false → (
 passed true b r o h = rw h refl
 passed false b r o h = refl
 
-no_row : (rs : List PlainRow) (m n : ℕ) → are_below rs m ≡ true → m ≤ n → row_in rs n ≡ None
+skipped : (k : ℕ) (rs : List PlainRow) (m n : ℕ) → are_below (take k rs) m ≡ true → m ≤ n → row_in rs n ≡ row_in (drop k rs) n
 unfolding are_below
-no_row [] m n h l = refl
-no_row (r ∷ rs) m n h l =
-    let p = both_hold (nat_lt r.to m) (are_below rs m) h in
+skipped zero rs m n h l = refl
+skipped (suc k) [] m n h l = refl
+skipped (suc k) (r ∷ rs) m n h l =
+    let p = both_hold (nat_lt r.to m) (are_below (take k rs) m) h in
     let t : r.to < m = ltb-true r.to m p.0 in
     let f : nat_le n r.to ≡ false = lt-leb n r.to (omega arith) in
-    passed (nat_le r.from n) (nat_le n r.to) r (row_in rs n) f ∙ no_row rs m n p.1 l
+    passed (nat_le r.from n) (nat_le n r.to) r (row_in rs n) f ∙ skipped k rs m n p.1 l
 
--- no number stands past the last opcode
-past : (n : ℕ) → count ≤ n → slice_get NUMBERS n ≡ None
+-- an opcode that has a number, and one that has none
+pub numbered_row : (n : ℕ) → n < length NUMBERS → numbered rows (slice_get NUMBERS n) ≡ row_of n
 unfolding count
-past n h = slice_get_past NUMBERS n h
+numbered_row n h =
+    let z : 0 + n ≡ n = omega arith in
+    ap (λ ns. numbered rows (slice_get ns n)) agree ∙ ap (numbered rows) (position_at rows 0 count n h) ∙ at_position rows rows 0 (0 + n) none_past same_places ∙ ap row_of z
 
-pub numbered_row : (n : ℕ) → numbered rows (slice_get NUMBERS n) ≡ row_of n
-numbered_row n = elim (cases_lt n count) [
-  | inl h ↦
-      let z : 0 + n ≡ n = omega arith in
-      ap (λ ns. numbered rows (slice_get ns n)) agree ∙ ap (numbered rows) (position_at rows 0 count n h) ∙ at_position rows rows 0 (0 + n) none_past same_places ∙ ap row_of z
-  | inr h ↦ let l : count ≤ n = omega arith in ap (numbered rows) (past n l) ∙ sym (no_row rows count n all_below l)
-]
+pub far_row : (n : ℕ) → length NUMBERS ≤ n → row_in (drop NUMBERED rows) n ≡ row_of n
+unfolding count
+far_row n h = sym (skipped NUMBERED rows count n all_below h)

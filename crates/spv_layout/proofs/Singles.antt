@@ -1,7 +1,8 @@
 -- An instruction that fits a row whose operands take one word each has one more word than operands.
-use Rattle.std.proofs.Common.{◌≡◌, ◌++◌, ◌+◌, ℕ, nat_eq, zero, suc, List, [], ◌∷◌, refl, sym, ap, subst, Bool, true, false, if◌then◌else◌, ◌&&◌, ◌||◌, ◌<◌, inl, inr, Option, Some, None, length, drop, arith}
+use Rattle.std.proofs.Common.{◌≡◌, ◌++◌, ◌+◌, ℕ, nat_eq, zero, suc, List, [], ◌∷◌, refl, sym, ap, subst, Bool, true, false, if◌then◌else◌, ◌&&◌, ◌||◌, ◌<◌, inl, inr, Option, Some, None, length, drop, get_or, arith}
 use Rattle.std.specs.Prelude.{sum_by, slice_get}
 use Rattle.std.proofs.lemmas.Bool.Decides.{eqb_tells}
+use Rattle.std.proofs.lemmas.Option.{slice_get-get_or}
 use Rattle.std.proofs.lemmas.List.Sums.{sum_by-cons}
 use Rattle.spv_table.specs.Table.{Table}
 use Rattle.spv_module.specs.Operand.{Plain, PlainInst}
@@ -76,6 +77,19 @@ sorts_at rs k r h e =
     let q = both_hold (nat_eq r.front (front_of r.fixed.now)) (are_row_sorts r.sorts r.kind r.fixed.now) (numbers_at rs k r h e) in
     q.1
 
+-- the same of a row that a list has at a place
+pub flag_in : (rs : List declared.Row) (k : ℕ) (d : declared.Row) → are_flagged rs ≡ true → k < length rs → (get_or rs k d).single ≡ is_single_row (plain_row (get_or rs k d))
+flag_in rs k d f l = flagged_at rs k (get_or rs k d) f (slice_get-get_or rs k d l)
+
+pub section_in : (rs : List declared.Row) (k : ℕ) (d : declared.Row) → are_flagged rs ≡ true → k < length rs → (get_or rs k d).section ≡ section_of (get_or rs k d).class
+section_in rs k d f l = section_at rs k (get_or rs k d) f (slice_get-get_or rs k d l)
+
+pub front_in : (rs : List declared.Row) (k : ℕ) (d : declared.Row) → are_flagged rs ≡ true → k < length rs → (get_or rs k d).front ≡ front_of (get_or rs k d).fixed.now
+front_in rs k d f l = front_at rs k (get_or rs k d) f (slice_get-get_or rs k d l)
+
+pub sorts_in : (rs : List declared.Row) (k : ℕ) (d : declared.Row) → are_flagged rs ≡ true → k < length rs → HasSorts (get_or rs k d).sorts (get_or rs k d).kind (get_or rs k d).fixed.now
+sorts_in rs k d f l = sorts_at rs k (get_or rs k d) f (slice_get-get_or rs k d l)
+
 same_sorts : (m : ℕ) (k : Option ℕ) (fs : List Form) → are_sorts m k fs ≡ true → (m ≡ sorts_asked fs) × (is_kind_at k fs ≡ true)
 same_sorts m k fs h = let d = both_hold (nat_eq m (sorts_asked fs)) (is_kind_at k fs) h in (same_number m (sorts_asked fs) d.0, d.1)
 
@@ -129,6 +143,10 @@ single_ends _ _ Ends.no_other h = cc
 single_ends _ _ (Ends.other gs e) h = cc
 single_ends _ _ (Ends.no_kind f) h = cc
 single_ends _ _ (Ends.kind f gs e) h = cc
+single_ends _ _ (Ends.no_first f g) h = refl
+single_ends _ _ (Ends.first f g gs e) h =
+    let p = both_hold (is_single f) (is_single g) h in
+    both_true (is_single f) (are_single gs) p.0 (single_ends _ gs e (both_true (is_single g) true p.1 refl))
 
 -- the words of an instruction that fits such a row
 pub single_words : (G : Table) (i : PlainInst) (r : PlainRow) → FitsShape G i → row_of i.opcode ≡ Some r → is_single_row r ≡ true → word_count i ≡ 1 + length i.operands

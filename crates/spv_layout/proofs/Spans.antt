@@ -36,7 +36,7 @@ begun_here is c n h a = record { within = h; up_to = omega arith; there = a; las
 last_on : (is : List PlainInst) (c : Class) (n f : ℕ) → n < length is → f < n → IsAt is f (c ∷ []) → ((k : ℕ) → f < k → k < n → ¬ (IsAt is k (c ∷ []))) → ¬ (IsAt is n (c ∷ [])) → IsLast is c n f
 last_on is c n f h l a g x = record { within = h; up_to = omega arith; there = a; last = none_up_to is (c ∷ []) n (λ k. f < k) x g }
 
-enter_true : (is : List PlainInst) (c : Class) (es : List Class) (n : ℕ) → n < length is → IsAt is n (c ∷ []) → UpTo is c es n (In n)
+pub enter_true : (is : List PlainInst) (c : Class) (es : List Class) (n : ℕ) → n < length is → IsAt is n (c ∷ []) → UpTo is c es n (In n)
 enter_true is c es n h a = UpTo.within n (record { begun = begun_here is c n h a; not_ended = λ k l m. absurd (omega arith) })
 
 enter_false : (is : List PlainInst) (c : Class) (es : List Class) (n : ℕ) (s : Span) → n < length is → ¬ (IsAt is n (c ∷ [])) → Before is c es n s → UpTo is c es n s

@@ -10,9 +10,9 @@ use Rattle.spv_layout.specs.inner.State.{next_of, place_of, joined}
 
 -- the table of the code
 unfoldable pub table : List (Option State)
-table = Some at.Capabilities ∷ Some at.Extensions ∷ Some at.Imports ∷ Some at.EntryPoints ∷ None ∷ None ∷ None ∷ None ∷ None ∷ None ∷ None ∷ None ∷ None ∷ None ∷ None ∷ None ∷ None ∷ None ∷ None ∷ None ∷ None ∷ None ∷ None ∷ None ∷ None ∷ None ∷ None ∷ None ∷ Some at.Extensions ∷ Some at.Imports ∷ Some at.EntryPoints ∷ None ∷ None ∷ None ∷ None ∷ None ∷ None ∷ None ∷ None ∷ None ∷ None ∷ None ∷ None ∷ None ∷ None ∷ None ∷ None ∷ None ∷ None ∷ None ∷ None ∷ None ∷ None ∷ None ∷ None ∷ None ∷ Some at.Imports ∷ Some at.EntryPoints ∷ None ∷ None ∷ None ∷ None ∷ None ∷ None ∷ None ∷ None ∷ None ∷ None ∷ None ∷ None ∷ None ∷ None ∷ None ∷ None ∷ None ∷ None ∷ None ∷ None ∷ None ∷ None ∷ None ∷ None ∷ None ∷ None ∷ None ∷ Some at.EntryPoints ∷ Some at.ExecutionModes ∷ Some at.Sources ∷ Some at.Names ∷ Some at.Processed ∷ Some at.Decorations ∷ Some at.Declarations ∷ Some at.Declarations ∷ Some at.Declarations ∷ Some at.Function ∷ None ∷ None ∷ None ∷ None ∷ None ∷ None ∷ None ∷ None ∷ None ∷ None ∷ None ∷ Some at.Declarations ∷ None ∷ None ∷ None ∷ None ∷ None ∷ None ∷ Some at.ExecutionModes ∷ Some at.Sources ∷ Some at.Names ∷ Some at.Processed ∷ Some at.Decorations ∷ Some at.Declarations ∷ Some at.Declarations ∷ Some at.Declarations ∷ Some at.Function ∷ None ∷ None ∷ None ∷ None ∷ None ∷ None ∷ None ∷ None ∷ None ∷ None ∷ None ∷ Some at.Declarations ∷ None ∷ None ∷ None ∷ None ∷ None ∷ None ∷ None ∷ Some at.Sources ∷ Some at.Names ∷ Some at.Processed ∷ Some at.Decorations ∷ Some at.Declarations ∷ Some at.Declarations ∷ Some at.Declarations ∷ Some at.Function ∷ None ∷ None ∷ None ∷ None ∷ None ∷ None ∷ None ∷ None ∷ None ∷ None ∷ None ∷ Some at.Declarations ∷ None ∷ None ∷ None ∷ None ∷ None ∷ None ∷ None ∷ None ∷ Some at.Names ∷ Some at.Processed ∷ Some at.Decorations ∷ Some at.Declarations ∷ Some at.Declarations ∷ Some at.Declarations ∷ Some at.Function ∷ None ∷ None ∷ None ∷ None ∷ None ∷ None ∷ None ∷ None ∷ None ∷ None ∷ None ∷ Some at.Declarations ∷ None ∷ None ∷ None ∷ None ∷ None ∷ None ∷ None ∷ None ∷ None ∷ Some at.Processed ∷ Some at.Decorations ∷ Some at.Declarations ∷ Some at.Declarations ∷ Some at.Declarations ∷ Some at.Function ∷ None ∷ None ∷ None ∷ None ∷ None ∷ None ∷ None ∷ None ∷ None ∷ None ∷ None ∷ Some at.Declarations ∷ None ∷ None ∷ None ∷ None ∷ None ∷ None ∷ None ∷ None ∷ None ∷ None ∷ Some at.Decorations ∷ Some at.Declarations ∷ Some at.Declarations ∷ Some at.Declarations ∷ Some at.Function ∷ None ∷ None ∷ None ∷ None ∷ None ∷ None ∷ None ∷ None ∷ None ∷ None ∷ None ∷ Some at.Declarations ∷ None ∷ None ∷ None ∷ None ∷ None ∷ None ∷ None ∷ None ∷ None ∷ None ∷ None ∷ Some at.Declarations ∷ Some at.Declarations ∷ Some at.Declarations ∷ Some at.Function ∷ None ∷ None ∷ None ∷ None ∷ None ∷ None ∷ None ∷ None ∷ None ∷ None ∷ None ∷ Some at.Declarations ∷ None ∷ None ∷ None ∷ None ∷ None ∷ None ∷ None ∷ None ∷ None ∷ None ∷ None ∷ None ∷ None ∷ None ∷ None ∷ Some at.Function ∷ Some at.Declared ∷ Some at.Variables ∷ None ∷ None ∷ None ∷ None ∷ None ∷ None ∷ None ∷ None ∷ Some at.Function ∷ None ∷ None ∷ None ∷ None ∷ None ∷ None ∷ None ∷ None ∷ None ∷ None ∷ None ∷ None ∷ None ∷ None ∷ Some at.Function ∷ None ∷ None ∷ None ∷ None ∷ None ∷ None ∷ None ∷ None ∷ None ∷ None ∷ None ∷ Some at.Declared ∷ None ∷ None ∷ None ∷ None ∷ None ∷ None ∷ None ∷ None ∷ None ∷ None ∷ None ∷ None ∷ None ∷ None ∷ None ∷ Some at.Definition ∷ None ∷ Some at.Variables ∷ None ∷ None ∷ None ∷ None ∷ None ∷ None ∷ None ∷ None ∷ Some at.Definition ∷ None ∷ None ∷ None ∷ None ∷ None ∷ None ∷ None ∷ None ∷ None ∷ None ∷ None ∷ None ∷ None ∷ None ∷ Some at.Definition ∷ None ∷ None ∷ None ∷ None ∷ None ∷ None ∷ None ∷ None ∷ None ∷ None ∷ None ∷ Some at.Defined ∷ None ∷ None ∷ None ∷ None ∷ None ∷ None ∷ None ∷ None ∷ None ∷ None ∷ None ∷ None ∷ Some at.Variables ∷ Some at.Body ∷ None ∷ None ∷ None ∷ None ∷ None ∷ Some at.Body ∷ Some at.Block ∷ Some at.Block ∷ Some at.Block ∷ Some at.Block ∷ Some at.LoopMerge ∷ Some at.SelectionMerge ∷ Some at.Variables ∷ None ∷ None ∷ None ∷ None ∷ None ∷ None ∷ None ∷ None ∷ None ∷ None ∷ None ∷ None ∷ None ∷ Some at.Body ∷ None ∷ None ∷ None ∷ None ∷ Some at.Phis ∷ Some at.Body ∷ Some at.Block ∷ Some at.Block ∷ Some at.Block ∷ Some at.Block ∷ Some at.LoopMerge ∷ Some at.SelectionMerge ∷ Some at.Phis ∷ None ∷ None ∷ None ∷ None ∷ None ∷ None ∷ None ∷ None ∷ None ∷ None ∷ None ∷ None ∷ None ∷ Some at.Body ∷ None ∷ None ∷ None ∷ None ∷ None ∷ Some at.Body ∷ Some at.Block ∷ Some at.Block ∷ Some at.Block ∷ Some at.Block ∷ Some at.LoopMerge ∷ Some at.SelectionMerge ∷ Some at.Body ∷ None ∷ None ∷ None ∷ None ∷ None ∷ None ∷ None ∷ None ∷ None ∷ None ∷ None ∷ None ∷ None ∷ None ∷ None ∷ None ∷ None ∷ None ∷ None ∷ None ∷ Some at.Block ∷ Some at.Block ∷ None ∷ None ∷ None ∷ None ∷ None ∷ None ∷ None ∷ None ∷ None ∷ None ∷ None ∷ None ∷ None ∷ None ∷ None ∷ None ∷ None ∷ None ∷ None ∷ None ∷ None ∷ None ∷ None ∷ None ∷ None ∷ None ∷ Some at.Block ∷ Some at.Block ∷ None ∷ None ∷ None ∷ None ∷ None ∷ None ∷ None ∷ None ∷ None ∷ None ∷ None ∷ None ∷ None ∷ None ∷ None ∷ None ∷ None ∷ None ∷ None ∷ None ∷ Some at.Defined ∷ Some at.Phis ∷ None ∷ None ∷ None ∷ None ∷ None ∷ None ∷ None ∷ None ∷ Some at.Block ∷ None ∷ []
+table = Some at.Capabilities ∷ Some at.Extensions ∷ Some at.Imports ∷ Some at.EntryPoints ∷ None ∷ None ∷ None ∷ None ∷ None ∷ None ∷ None ∷ None ∷ None ∷ None ∷ None ∷ None ∷ None ∷ None ∷ None ∷ None ∷ None ∷ None ∷ None ∷ None ∷ None ∷ None ∷ None ∷ None ∷ None ∷ Some at.Extensions ∷ Some at.Imports ∷ Some at.EntryPoints ∷ None ∷ None ∷ None ∷ None ∷ None ∷ None ∷ None ∷ None ∷ None ∷ None ∷ None ∷ None ∷ None ∷ None ∷ None ∷ None ∷ None ∷ None ∷ None ∷ None ∷ None ∷ None ∷ None ∷ None ∷ None ∷ None ∷ Some at.Imports ∷ Some at.EntryPoints ∷ None ∷ None ∷ None ∷ None ∷ None ∷ None ∷ None ∷ None ∷ None ∷ None ∷ None ∷ None ∷ None ∷ None ∷ None ∷ None ∷ None ∷ None ∷ None ∷ None ∷ None ∷ None ∷ None ∷ None ∷ None ∷ None ∷ None ∷ None ∷ Some at.EntryPoints ∷ Some at.ExecutionModes ∷ Some at.Sources ∷ Some at.Names ∷ Some at.Processed ∷ Some at.Decorations ∷ Some at.Declarations ∷ Some at.Declarations ∷ Some at.Declarations ∷ Some at.Function ∷ None ∷ None ∷ None ∷ None ∷ None ∷ None ∷ None ∷ None ∷ None ∷ None ∷ None ∷ Some at.Declarations ∷ Some at.Declarations ∷ None ∷ None ∷ None ∷ None ∷ None ∷ None ∷ Some at.ExecutionModes ∷ Some at.Sources ∷ Some at.Names ∷ Some at.Processed ∷ Some at.Decorations ∷ Some at.Declarations ∷ Some at.Declarations ∷ Some at.Declarations ∷ Some at.Function ∷ None ∷ None ∷ None ∷ None ∷ None ∷ None ∷ None ∷ None ∷ None ∷ None ∷ None ∷ Some at.Declarations ∷ Some at.Declarations ∷ None ∷ None ∷ None ∷ None ∷ None ∷ None ∷ None ∷ Some at.Sources ∷ Some at.Names ∷ Some at.Processed ∷ Some at.Decorations ∷ Some at.Declarations ∷ Some at.Declarations ∷ Some at.Declarations ∷ Some at.Function ∷ None ∷ None ∷ None ∷ None ∷ None ∷ None ∷ None ∷ None ∷ None ∷ None ∷ None ∷ Some at.Declarations ∷ Some at.Declarations ∷ None ∷ None ∷ None ∷ None ∷ None ∷ None ∷ None ∷ None ∷ Some at.Names ∷ Some at.Processed ∷ Some at.Decorations ∷ Some at.Declarations ∷ Some at.Declarations ∷ Some at.Declarations ∷ Some at.Function ∷ None ∷ None ∷ None ∷ None ∷ None ∷ None ∷ None ∷ None ∷ None ∷ None ∷ None ∷ Some at.Declarations ∷ Some at.Declarations ∷ None ∷ None ∷ None ∷ None ∷ None ∷ None ∷ None ∷ None ∷ None ∷ Some at.Processed ∷ Some at.Decorations ∷ Some at.Declarations ∷ Some at.Declarations ∷ Some at.Declarations ∷ Some at.Function ∷ None ∷ None ∷ None ∷ None ∷ None ∷ None ∷ None ∷ None ∷ None ∷ None ∷ None ∷ Some at.Declarations ∷ Some at.Declarations ∷ None ∷ None ∷ None ∷ None ∷ None ∷ None ∷ None ∷ None ∷ None ∷ None ∷ Some at.Decorations ∷ Some at.Declarations ∷ Some at.Declarations ∷ Some at.Declarations ∷ Some at.Function ∷ None ∷ None ∷ None ∷ None ∷ None ∷ None ∷ None ∷ None ∷ None ∷ None ∷ None ∷ Some at.Declarations ∷ Some at.Declarations ∷ None ∷ None ∷ None ∷ None ∷ None ∷ None ∷ None ∷ None ∷ None ∷ None ∷ None ∷ Some at.Declarations ∷ Some at.Declarations ∷ Some at.Declarations ∷ Some at.Function ∷ None ∷ None ∷ None ∷ None ∷ None ∷ None ∷ None ∷ None ∷ None ∷ None ∷ None ∷ Some at.Declarations ∷ Some at.Declarations ∷ None ∷ None ∷ None ∷ None ∷ None ∷ None ∷ None ∷ None ∷ None ∷ None ∷ None ∷ None ∷ None ∷ None ∷ None ∷ Some at.Function ∷ Some at.Declared ∷ Some at.Variables ∷ None ∷ None ∷ None ∷ None ∷ None ∷ None ∷ None ∷ None ∷ Some at.Function ∷ None ∷ None ∷ None ∷ None ∷ None ∷ None ∷ None ∷ None ∷ None ∷ None ∷ None ∷ None ∷ None ∷ None ∷ None ∷ Some at.Function ∷ None ∷ None ∷ None ∷ None ∷ None ∷ None ∷ None ∷ None ∷ None ∷ None ∷ None ∷ Some at.Declared ∷ Some at.Declared ∷ None ∷ None ∷ None ∷ None ∷ None ∷ None ∷ None ∷ None ∷ None ∷ None ∷ None ∷ None ∷ None ∷ None ∷ None ∷ Some at.Definition ∷ None ∷ Some at.Variables ∷ None ∷ None ∷ None ∷ None ∷ None ∷ None ∷ None ∷ None ∷ Some at.Definition ∷ None ∷ None ∷ None ∷ None ∷ None ∷ None ∷ None ∷ None ∷ None ∷ None ∷ None ∷ None ∷ None ∷ None ∷ None ∷ Some at.Definition ∷ None ∷ None ∷ None ∷ None ∷ None ∷ None ∷ None ∷ None ∷ None ∷ None ∷ None ∷ Some at.Defined ∷ Some at.Defined ∷ None ∷ None ∷ None ∷ None ∷ None ∷ None ∷ None ∷ None ∷ None ∷ None ∷ None ∷ None ∷ Some at.Variables ∷ Some at.Body ∷ None ∷ None ∷ None ∷ None ∷ None ∷ Some at.Body ∷ Some at.Block ∷ Some at.Block ∷ Some at.Block ∷ Some at.Block ∷ Some at.LoopMerge ∷ Some at.SelectionMerge ∷ Some at.Variables ∷ Some at.Variables ∷ None ∷ None ∷ None ∷ None ∷ None ∷ None ∷ None ∷ None ∷ None ∷ None ∷ None ∷ None ∷ None ∷ Some at.Body ∷ None ∷ None ∷ None ∷ None ∷ Some at.Phis ∷ Some at.Body ∷ Some at.Block ∷ Some at.Block ∷ Some at.Block ∷ Some at.Block ∷ Some at.LoopMerge ∷ Some at.SelectionMerge ∷ Some at.Phis ∷ Some at.Phis ∷ None ∷ None ∷ None ∷ None ∷ None ∷ None ∷ None ∷ None ∷ None ∷ None ∷ None ∷ None ∷ None ∷ Some at.Body ∷ None ∷ None ∷ None ∷ None ∷ None ∷ Some at.Body ∷ Some at.Block ∷ Some at.Block ∷ Some at.Block ∷ Some at.Block ∷ Some at.LoopMerge ∷ Some at.SelectionMerge ∷ Some at.Body ∷ Some at.Body ∷ None ∷ None ∷ None ∷ None ∷ None ∷ None ∷ None ∷ None ∷ None ∷ None ∷ None ∷ None ∷ None ∷ None ∷ None ∷ None ∷ None ∷ None ∷ None ∷ None ∷ Some at.Block ∷ Some at.Block ∷ None ∷ None ∷ None ∷ None ∷ None ∷ None ∷ None ∷ None ∷ None ∷ None ∷ None ∷ None ∷ None ∷ None ∷ None ∷ None ∷ None ∷ None ∷ None ∷ None ∷ None ∷ None ∷ None ∷ None ∷ None ∷ None ∷ None ∷ Some at.Block ∷ Some at.Block ∷ None ∷ None ∷ None ∷ None ∷ None ∷ None ∷ None ∷ None ∷ None ∷ None ∷ None ∷ None ∷ None ∷ None ∷ None ∷ None ∷ None ∷ None ∷ None ∷ None ∷ None ∷ Some at.Defined ∷ Some at.Phis ∷ None ∷ None ∷ None ∷ None ∷ None ∷ None ∷ None ∷ None ∷ Some at.Block ∷ None ∷ None ∷ []
 
-pub table_tells : (s : State) (c : Class) → joined (slice_get table (27 * place_of s + class_number c)) ≡ next_of s c
+pub table_tells : (s : State) (c : Class) → joined (slice_get table (28 * place_of s + class_number c)) ≡ next_of s c
 unfolding table
 table_tells at.Capabilities Capability = refl
 table_tells at.Capabilities _ = refl

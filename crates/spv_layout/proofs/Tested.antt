@@ -11,11 +11,11 @@ use Rattle.spv_module.specs.Operand as operand
 use Rattle.spv_layout.specs.declared.form.Role.TheVariants as role
 use Rattle.spv_layout.specs.declared.form.Form.{Form}
 use Rattle.spv_layout.specs.declared.form.Form.TheVariants as form
-use Rattle.spv_layout.specs.Row.{PlainRow, RowEnding, closed, maybe, file_and_text, repeated, others, maybe_others, has_masks}
+use Rattle.spv_layout.specs.Row.{PlainRow, RowEnding, closed, maybe, file_and_text, repeated, others, maybe_others, maybe_repeated, has_masks}
 use Rattle.spv_layout.specs.Rows.{row_of}
 use Rattle.spv_layout.specs.Shape.{is_of, AreOf, Ends, FitsShape}
 use Rattle.spv_layout.specs.inner.Shape.{FitsEnding}
-use Rattle.spv_layout.specs.inner.Test.{sort_of, sort_for, row_sort, sorts_of, sorts_asked, is_kind, is_kind_at, is_of_at, are_of, are_others, is_empty, are_rounds, is_kind_and_others, fits_ending, fits_row}
+use Rattle.spv_layout.specs.inner.Test.{sort_of, sort_for, row_sort, sorts_of, sorts_asked, is_kind, is_kind_at, is_of_at, are_of, are_others, is_empty, are_rounds, is_kind_and_others, is_first_and_rounds, fits_ending, fits_row}
 use Rattle.spv_layout.proofs.Derivatives.{both_hold, both_true}
 use Rattle.spv_layout.proofs.Shapes.{no_operands, are_rest, are_moved}
 
@@ -110,6 +110,13 @@ kind_fits G f (o ∷ os) h =
     let r = others_fit G os p.1 in
     ending G (maybe_others f) (f ∷ r.forms) (o ∷ os) (Ends.kind f r.forms r.allowed) (AreOf.more f o r.forms os p.0 r.each)
 
+first_fits : (G : Table) (f g : Form) (os : List Plain) → is_first_and_rounds G f g os ≡ true → FitsEnding G (maybe_repeated f g) os
+first_fits G f g [] h = ending G (maybe_repeated f g) [] [] (Ends.no_first f g) AreOf.none
+first_fits G f g (o ∷ os) h =
+    let p = both_hold (is_of G f o) (are_rounds G (g ∷ []) [] os) h in
+    let r = rounds_fit G (g ∷ []) [] os p.1 in
+    ending G (maybe_repeated f g) (f ∷ r.forms) (o ∷ os) (Ends.first f g r.forms r.allowed) (AreOf.more f o r.forms os p.0 r.each)
+
 text_fits : (G : Table) (os : List Plain)
     → (is_empty os || are_of G (form.Id role.Text ∷ []) os || are_of G (form.Text ∷ []) os || are_of G (form.Id role.Text ∷ form.Text ∷ []) os) ≡ true → FitsEnding G file_and_text os
 text_fits G os h =
@@ -135,6 +142,7 @@ ending_fits G file_and_text os h = text_fits G os h
 ending_fits G (repeated fs) os h = let r = rounds_fit G fs [] os h in ending G (repeated fs) r.forms os r.allowed r.each
 ending_fits G others os h = others_fit G os h
 ending_fits G (maybe_others f) os h = kind_fits G f os h
+ending_fits G (maybe_repeated f g) os h = first_fits G f g os h
 
 fit_text_1 : (a b c d : Bool) → a ≡ true → (a || b || c || d) ≡ true
 fit_text_1 a b c d h = rw h refl
@@ -152,6 +160,12 @@ fit_kind G f gs _ e (AreOf.more _ o _ os h r) = both_true (is_of G f o) (are_oth
 no_kind_fit : (G : Table) (f : Form) (os : List Plain) → os ≡ [] → is_kind_and_others G f os ≡ true
 no_kind_fit G f os h = rw h refl
 
+fit_first : (G : Table) (f g : Form) (gs : List Form) (os : List Plain) → Ends (repeated (g ∷ [])) gs → AreOf G (f ∷ gs) os → is_first_and_rounds G f g os ≡ true
+fit_first G f g gs _ e (AreOf.more _ o _ os h r) = both_true (is_of G f o) (are_rounds G (g ∷ []) [] os) h (fit_rounds G (g ∷ []) gs os e r)
+
+no_first_fit : (G : Table) (f g : Form) (os : List Plain) → os ≡ [] → is_first_and_rounds G f g os ≡ true
+no_first_fit G f g os h = rw h refl
+
 -- and the other way round
 pub fits_ending_test : (G : Table) (e : RowEnding) (gs : List Form) (os : List Plain) → Ends e gs → AreOf G gs os → fits_ending G e os ≡ true
 fits_ending_test G _ _ os Ends.nothing a = is_empty_of os (no_operands G [] os a refl)
@@ -167,6 +181,8 @@ fits_ending_test G _ _ os Ends.no_other a = fit_others G [] os Ends.no_other a
 fits_ending_test G _ _ os (Ends.other gs e) a = fit_others G (form.Other ∷ gs) os (Ends.other gs e) a
 fits_ending_test G _ _ os (Ends.no_kind f) a = no_kind_fit G f os (no_operands G [] os a refl)
 fits_ending_test G _ _ os (Ends.kind f gs e) a = fit_kind G f gs os e a
+fits_ending_test G _ _ os (Ends.no_first f g) a = no_first_fit G f g os (no_operands G [] os a refl)
+fits_ending_test G _ _ os (Ends.first f g gs e) a = fit_first G f g gs os e a
 
 are_front : (G : Table) (fs gs : List Form) (os : List Plain) → AreOf G (fs ++ gs) os → AreOf G fs (take (length fs) os)
 are_front G [] gs os a = AreOf.none
@@ -270,6 +286,7 @@ ending_empty G file_and_text os h = rw h refl
 ending_empty G (repeated fs) os h = no_rounds G fs os h
 ending_empty G others os h = rw h refl
 ending_empty G (maybe_others f) os h = rw h refl
+ending_empty G (maybe_repeated f g) os h = rw h refl
 
 and_true : (a b : Bool) → b ≡ true → a ≡ (a && b)
 and_true true b h = sym h

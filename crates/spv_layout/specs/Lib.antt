@@ -2,6 +2,7 @@ pub mod Class
 pub mod Expression
 pub mod Row
 pub mod Rows
+pub mod Profile
 pub mod Layout
 pub mod DeadPlace
 pub mod Shape

@@ -1,6 +1,7 @@
 -- Rows of the table of shapes. (Own.)
 use Rattle.std.specs.Prelude.{ℕ, List, [], ◌∷◌, Bool, true, false, nat_le, ◌&&◌, if◌then◌else◌}
 use Rattle.std.specs.Prelude.{Option, Some, None, codes}
+use Rattle.spv_module.specs.declared.profile.Profile.{Profile}
 use Rattle.spv_layout.specs.declared.class.Class.{Class}
 use Rattle.spv_layout.specs.declared.form.Named.{Named}
 use Rattle.spv_layout.specs.declared.form.Named.TheVariants as kind_of
@@ -10,7 +11,8 @@ use Rattle.spv_layout.specs.declared.form.After.TheVariants as after
 
 -- what may come after the fixed operands of a row: nothing; one operand, or nothing; an OpString's id, or nothing, and
 -- then a text, or nothing; these operands in turn, any number of times; any number of operands other than a result type
--- or a result; one operand and any number of such others, or nothing [own]
+-- or a result; one operand and any number of such others, or nothing; one operand and any number of another, or nothing
+-- [own]
 pub data RowEnding : Type 0 where
   closed : RowEnding
   maybe : Form → RowEnding
@@ -18,22 +20,25 @@ pub data RowEnding : Type 0 where
   repeated : List Form → RowEnding
   others : RowEnding
   maybe_others : Form → RowEnding
+  maybe_repeated : Form → Form → RowEnding
 
--- a row: from an opcode to an opcode, their class in the layout, their operands, and what may come after these [own]
+-- a row: from an opcode to an opcode, the profile that it belongs to, their class in the layout, their operands, and
+-- what may come after these [own]
 pub record PlainRow : Type 0 where
   pub from : ℕ
   pub to : ℕ
+  pub profile : Profile
   pub class : Class
   pub fixed : List Form
   pub ending : RowEnding
 
--- a line of the code's table, as src/rows.rt writes it: the first and the last opcode, the class, the fixed operands,
--- what may come after them, and the operands that this names; and its row [own]
+-- a line of the code's table, as src/rows.rt writes it: the first and the last opcode, the profile, the class, the fixed
+-- operands, what may come after them, and the operands that this names; and its row [own]
 abbrev pub Forms : Type 0
 Forms = record { now : List Form }
 
 abbrev pub Line : Type 0
-Line = ℕ × ℕ × Class × Forms × After × Forms
+Line = ℕ × ℕ × Profile × Class × Forms × After × Forms
 
 abbrev pub ending_of : After → List Form → RowEnding
 ending_of after.Maybe (f ∷ fs) = maybe f
@@ -41,10 +46,12 @@ ending_of after.FileAndText fs = file_and_text
 ending_of after.Repeated fs = repeated fs
 ending_of after.Others fs = others
 ending_of after.MaybeOthers (f ∷ fs) = maybe_others f
+ending_of after.MaybeRepeated (f ∷ g ∷ fs) = maybe_repeated f g
 ending_of _ fs = closed
 
 abbrev pub row_on : Line → PlainRow
-row_on l = record { from = l.0; to = l.1; class = l.2; fixed = l.3.now; ending = ending_of l.4 l.5.now }
+row_on l =
+    record { from = l.0; to = l.1; profile = l.2; class = l.3; fixed = l.4.now; ending = ending_of l.5 l.6.now }
 
 -- the first row that has the opcode [own]
 abbrev pub row_in : List PlainRow → ℕ → Option PlainRow
@@ -65,10 +72,19 @@ name_of kind_of.FunctionControl = codes "FunctionControl"
 name_of kind_of.MemoryAccess = codes "MemoryAccess"
 name_of kind_of.LoopControl = codes "LoopControl"
 name_of kind_of.SelectionControl = codes "SelectionControl"
+name_of kind_of.Dim = codes "Dim"
+name_of kind_of.ImageFormat = codes "ImageFormat"
+name_of kind_of.AccessQualifier = codes "AccessQualifier"
+name_of kind_of.SamplerAddressingMode = codes "SamplerAddressingMode"
+name_of kind_of.SamplerFilterMode = codes "SamplerFilterMode"
+name_of kind_of.GroupOperation = codes "GroupOperation"
+name_of kind_of.PackedVectorFormat = codes "PackedVectorFormat"
+name_of kind_of.ImageOperands = codes "ImageOperands"
 
 abbrev pub has_masks : Named → Bool
 has_masks kind_of.FunctionControl = true
 has_masks kind_of.MemoryAccess = true
 has_masks kind_of.LoopControl = true
 has_masks kind_of.SelectionControl = true
+has_masks kind_of.ImageOperands = true
 has_masks _ = false

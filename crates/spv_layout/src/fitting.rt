@@ -7,16 +7,19 @@ ghost use Rattle.spv_module.specs.Module.{plain_inst, plain_operand};
 ghost use Rattle.spv_layout.specs.Row.{has_masks};
 ghost use Rattle.spv_layout.specs.inner.Row.{plain_ending, plain_row};
 ghost use Rattle.spv_layout.specs.Rows.{class_of};
-ghost use Rattle.spv_layout.specs.Shape.{FitsShape, is_of};
+ghost use Rattle.spv_layout.specs.Shape.{is_of};
+ghost use Rattle.spv_layout.specs.Profile.{FitsProfile};
 ghost use Rattle.spv_layout.specs.inner.Single.{IsFront};
 ghost use Rattle.spv_layout.specs.declared.form.Form.TheVariants.{Kind};
 ghost use Rattle.spv_layout.specs.inner.Test.{sort_of, sort_for, sorts_of, HasSorts, is_of_at, are_of, are_others};
-ghost use Rattle.spv_layout.specs.inner.Test.{are_rounds, is_kind_and_others, fits_ending, fits_row};
+ghost use Rattle.spv_layout.specs.inner.Test.{are_rounds, is_kind_and_others, is_first_and_rounds, fits_ending};
+ghost use Rattle.spv_layout.specs.inner.Test.{fits_row};
 
 use crate::form::{Ending, Form, Named, Role, Row};
 use crate::kinds::Kinds;
+use crate::profile::includes;
 use crate::rows::sorted_row;
-use spv_module::{Inst, Operand};
+use spv_module::{Inst, Operand, Profile};
 
 /// Whether a kind's operands are masks.
 #[inline(always)]
@@ -28,6 +31,7 @@ fn is_mask(kind: Named) -> bool
         Named::MemoryAccess => true,
         Named::LoopControl => true,
         Named::SelectionControl => true,
+        Named::ImageOperands => true,
         _ => false,
     }
 }
@@ -380,6 +384,16 @@ fn have_first(kinds: &Kinds<'_>, form: Form, operands: &[Operand<'_>]) -> bool
     }
 }
 
+/// Whether operands are one of a form and any number of another, or none.
+fn have_first_and_all(kinds: &Kinds<'_>, form: Form, other: Form, operands: &[Operand<'_>]) -> bool
+    ensures { result ≡ is_first_and_rounds kinds.now form other (map plain_operand operands.now) }
+{
+    match operands {
+        [] => true,
+        [first, rest @ ..] => has_form(kinds, form, *first) && are_all(kinds, other, rest),
+    }
+}
+
 /// Whether operands fit the ending of a row.
 #[inline(never)]
 fn have_ending(kinds: &Kinds<'_>, row: &Row, operands: &[Operand<'_>]) -> bool
@@ -402,6 +416,7 @@ fn have_ending(kinds: &Kinds<'_>, row: &Row, operands: &[Operand<'_>]) -> bool
         },
         Ending::Others => are_free(kinds, operands),
         Ending::MaybeOthers(form) => have_first(kinds, form, operands),
+        Ending::MaybeRepeated(form, other) => have_first_and_all(kinds, form, other, operands),
     }
 }
 
@@ -473,20 +488,23 @@ fn have_row(kinds: &Kinds<'_>, row: &Row, operands: &[Operand<'_>]) -> bool
     }
 }
 
-/// The row of an instruction that fits its opcode's row, under a grammar table.
+/// The row of an instruction that fits its opcode's row, which the profile has, under a grammar table.
 #[inline(always)]
-pub fn fitting(kinds: &Kinds<'_>, inst: &Inst<'_>) -> Option<&'static Row>
-    ensures fits { IfSome result (λ r. FitsShape kinds.now (plain_inst inst.now)) }
+pub fn fitting(profile: Profile, kinds: &Kinds<'_>, inst: &Inst<'_>) -> Option<&'static Row>
+    ensures fits { IfSome result (λ r. FitsProfile profile kinds.now (plain_inst inst.now)) }
     ensures class { IfSome result (λ r. r.now.class ≡ class_of inst.now.opcode) }
     ensures section { IfSome result (λ r. r.now.section ≡ section_of r.now.class) }
     ensures single { IfSome result (λ r. r.now.single ≡ true
         → word_count (plain_inst inst.now) ≡ 1 + length (plain_inst inst.now).operands) }
     ensures front { IfSome result (λ r. IsFront (plain_inst inst.now).operands r.now.front) }
-    ensures misfit { IfNone result (¬ (FitsShape kinds.now (plain_inst inst.now))) }
+    ensures misfit { IfNone result (¬ (FitsProfile profile kinds.now (plain_inst inst.now))) }
 {
     let Some(row) = sorted_row(inst.opcode) else {
         return None;
     };
+    if !includes(profile, row.profile) {
+        return None;
+    }
     if have_row(kinds, row, inst.operands.as_slice()) {
         Some(row)
     } else {

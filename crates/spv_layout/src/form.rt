@@ -1,4 +1,5 @@
 use crate::class::Class;
+use spv_module::Profile;
 
 /// What an id is used as by an operand (own; SPIR-V Specification 1.6, section 3).
 #[derive(Clone, Copy, Debug, PartialEq, Eq)]
@@ -36,6 +37,14 @@ pub enum Named {
     MemoryAccess,
     LoopControl,
     SelectionControl,
+    Dim,
+    ImageFormat,
+    AccessQualifier,
+    SamplerAddressingMode,
+    SamplerFilterMode,
+    GroupOperation,
+    PackedVectorFormat,
+    ImageOperands,
 }
 
 /// What a row asks of an operand.
@@ -72,6 +81,8 @@ pub enum Ending {
     Others,
     /// One operand and any number of other operands, or nothing.
     MaybeOthers(Form),
+    /// One operand and any number of another, or nothing.
+    MaybeRepeated(Form, Form),
 }
 
 /// What may come after the fixed operands of a line of the table of shapes.
@@ -89,6 +100,8 @@ pub enum After {
     Others,
     /// One operand and any number of such others, or nothing.
     MaybeOthers,
+    /// The first operand that the line names and any number of the second, or nothing.
+    MaybeRepeated,
 }
 
 /// What a row asks of its fixed operands, of which just one is of a kind.
@@ -106,6 +119,8 @@ pub struct Row {
     /// Its opcodes, both ends included.
     pub from: u16,
     pub to: u16,
+    /// The profile that it belongs to. `OpenCl` has the rows of `Own`, too.
+    pub profile: Profile,
     pub class: Class,
     /// The section of its class, if that stands in one alone: one of sections 1 to 8, by number as in `Place`.
     pub section: Option<u8>,

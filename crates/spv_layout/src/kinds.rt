@@ -13,7 +13,7 @@ use std::marker::Model;
 pub struct Kinds<'a> {
     table: &'a Table,
     /// The number of each kind, if the table has it, in the order of `Named`.
-    numbers: [Option<u32>; 12],
+    numbers: [Option<u32>; 20],
 }
 
 impl<'a> Model for Kinds<'a> {
@@ -32,7 +32,7 @@ impl<'a> Model for Kinds<'a> {
 #[inline(always)]
 fn place(kind: Named) -> usize
     ensures place { result ≡ place_of kind }
-    ensures within { result < 12 }
+    ensures within { result < 20 }
 {
     match kind {
         Named::SourceLanguage => 0,
@@ -47,6 +47,14 @@ fn place(kind: Named) -> usize
         Named::MemoryAccess => 9,
         Named::LoopControl => 10,
         Named::SelectionControl => 11,
+        Named::Dim => 12,
+        Named::ImageFormat => 13,
+        Named::AccessQualifier => 14,
+        Named::SamplerAddressingMode => 15,
+        Named::SamplerFilterMode => 16,
+        Named::GroupOperation => 17,
+        Named::PackedVectorFormat => 18,
+        Named::ImageOperands => 19,
     }
 }
 
@@ -70,6 +78,14 @@ impl<'a> Kinds<'a> {
                 table.kind_named("MemoryAccess"),
                 table.kind_named("LoopControl"),
                 table.kind_named("SelectionControl"),
+                table.kind_named("Dim"),
+                table.kind_named("ImageFormat"),
+                table.kind_named("AccessQualifier"),
+                table.kind_named("SamplerAddressingMode"),
+                table.kind_named("SamplerFilterMode"),
+                table.kind_named("GroupOperation"),
+                table.kind_named("PackedVectorFormat"),
+                table.kind_named("ImageOperands"),
             ],
         }
     }

@@ -9,20 +9,20 @@ ghost use Rattle.spv_layout.specs.First.{IsFirst};
 ghost use Rattle.spv_layout.specs.Stage.{of_profile};
 ghost use Rattle.spv_layout.specs.Broken.{Broken};
 ghost use Rattle.spv_layout.specs.DeadPlace.{IsDeadPlace};
-ghost use Rattle.spv_layout.specs.Shape.{FitsShape};
+ghost use Rattle.spv_layout.specs.Profile.{FitsProfile};
 ghost use Rattle.spv_layout.specs.Place.{AreFew, IsAt, IsShort, first_word_of};
 ghost use Rattle.spv_layout.specs.declared.class.Class.TheVariants.{Function};
 ghost use Rattle.spv_layout.specs.inner.Kept.{AreSectioned};
 ghost use Rattle.spv_layout.specs.inner.Outcome.{ArePlacesOf, IsStopAt};
-ghost use Rattle.spv_layout.specs.Plan.{IsPlan, IsRefusal};
+ghost use Rattle.spv_layout.specs.Plan.{IsPlan, IsLaidOut, IsRefusal};
 
 use crate::fitting::fitting;
 use crate::kinds::Kinds;
 use crate::place::{Early, Place, Standing, inst_words, keep, words_of};
 use crate::rows::row;
 use crate::span::Spans;
-use crate::state::{State, next, stops};
-use spv_module::{Fault, Inst, Module, Rule, Stop};
+use crate::state::{State, next_seen, stops};
+use spv_module::{Fault, Inst, Module, Profile, Rule, Stop};
 use spv_table::Table;
 use std::alloc::Global;
 use std::marker::Model;
@@ -116,15 +116,15 @@ fn fault(rule: Rule, inst: usize, word: u32) -> Stop
     })
 }
 
-/// The first instruction that does not fit its row.
-fn first_misfit(kinds: &Kinds<'_>, insts: &[Inst<'_>]) -> Option<usize>
-    ensures some { IfSome result (λ n. IsFirst (Broken kinds.now (map plain_inst insts.now)) of_profile rule.P1 n) }
+/// The first instruction that does not fit its row, or has none in the profile.
+fn first_misfit(profile: Profile, kinds: &Kinds<'_>, insts: &[Inst<'_>]) -> Option<usize>
+    ensures some { IfSome result (λ n. IsFirst (Broken profile kinds.now (map plain_inst insts.now)) of_profile rule.P1 n) }
     ensures within { IfSome result (λ n. n < length insts.now) }
     ensures none { IfNone result ((n : ℕ) (i : PlainInst) → slice_get (map plain_inst insts.now) n ≡ Some i
-        → FitsShape kinds.now i) }
+        → FitsProfile profile kinds.now i) }
 {
     for (i, inst) in insts.iter().enumerate() {
-        let Some(_) = fitting(kinds, inst) else {
+        let Some(_) = fitting(profile, kinds, inst) else {
             return Some(i);
         };
     }
@@ -145,17 +145,24 @@ fn word_at(insts: &[Inst<'_>], n: usize) -> u32
 }
 
 /// The first broken rule of a module with a dead place, whose first word is told: P1 at the first instruction that does
-/// not fit its row, or the rule of the place.
+/// not fit its row, or has none in the profile, or the rule of the place.
 #[cold]
 #[inline(never)]
-fn refused(kinds: &Kinds<'_>, insts: &[Inst<'_>], rule: Rule, inst: usize, word: u32) -> Stop
+fn refused(
+    profile: Profile,
+    kinds: &Kinds<'_>,
+    insts: &[Inst<'_>],
+    rule: Rule,
+    inst: usize,
+    word: u32,
+) -> Stop
     requires words { IsShort (map plain_inst insts.now) }
-    requires dead { IsDeadPlace (map plain_inst insts.now) rule inst }
+    requires dead { IsDeadPlace profile (map plain_inst insts.now) rule inst }
     requires within { inst ≤ length insts.now }
     requires word { word ≡ first_word_of (map plain_inst insts.now) inst }
-    ensures { IsRefusal kinds.now (map plain_inst insts.now) result }
+    ensures { IsRefusal profile kinds.now (map plain_inst insts.now) result }
 {
-    match first_misfit(kinds, insts) {
+    match first_misfit(profile, kinds, insts) {
         Some(misfit) => fault(Rule::P1, misfit, word_at(insts, misfit)),
         None => fault(rule, inst, word),
     }
@@ -179,10 +186,16 @@ fn count_early(insts: &[Inst<'_>]) -> usize
 
 /// Lays instructions out, in one pass.
 #[inline(never)]
-fn plan_of(alloc: Global, kinds: &Kinds<'_>, insts: &[Inst<'_>]) -> Result<Plan, Stop>
+fn plan_of(
+    alloc: Global,
+    profile: Profile,
+    kinds: &Kinds<'_>,
+    insts: &[Inst<'_>],
+) -> Result<Plan, Stop>
     requires words { IsShort (map plain_inst insts.now) }
     ensures plan { IfOk result (λ p. IsPlan kinds.now (map plain_inst insts.now) p) }
-    ensures refused { IfErr result (λ s. IsRefusal kinds.now (map plain_inst insts.now) s) }
+    ensures laid_out { IfOk result (λ p. IsLaidOut profile kinds.now (map plain_inst insts.now)) }
+    ensures refused { IfErr result (λ s. IsRefusal profile kinds.now (map plain_inst insts.now) s) }
 {
     let count = count_early(insts);
     let mut early = Vec::with_capacity(alloc, count)?;
@@ -191,11 +204,11 @@ fn plan_of(alloc: Global, kinds: &Kinds<'_>, insts: &[Inst<'_>]) -> Result<Plan,
     let mut spans = Spans::new();
     let mut word = 5;
     for (i, inst) in insts.iter().enumerate() {
-        let Some(row) = fitting(kinds, inst) else {
+        let Some(row) = fitting(profile, kinds, inst) else {
             return Err(fault(Rule::P1, i, word));
         };
-        let Some(after) = next(state, row.class) else {
-            return Err(refused(kinds, insts, Rule::L1, i, word));
+        let Some(after) = next_seen(profile, state, row.class) else {
+            return Err(refused(profile, kinds, insts, Rule::L1, i, word));
         };
         state = after;
         spans.enter(row.class, i as u32);
@@ -204,7 +217,7 @@ fn plan_of(alloc: Global, kinds: &Kinds<'_>, insts: &[Inst<'_>]) -> Result<Plan,
         word += words_of(inst, row);
     }
     if !stops(state) {
-        return Err(refused(kinds, insts, Rule::L2, insts.len(), word));
+        return Err(refused(profile, kinds, insts, Rule::L2, insts.len(), word));
     }
     Ok(Plan {
         early,
@@ -214,12 +227,12 @@ fn plan_of(alloc: Global, kinds: &Kinds<'_>, insts: &[Inst<'_>]) -> Result<Plan,
     })
 }
 
-/// Lays a module out: each instruction has the operands that the row of its opcode asks for (own), and all together
-/// stand in the order of the sections (SPIR-V Specification 1.6, section 2.4).
+/// Lays a module out under a profile: each instruction has the operands that the row of its opcode asks for (own), and
+/// all together stand in the order of the sections (SPIR-V Specification 1.6, section 2.4).
 ///
 /// A `Fault` tells the first broken rule, the number of its instruction, from 0, and that of the instruction's first
 /// word in the module:
-/// - P1, wherever it stands: the opcode has no row, or the operands do not fit it (own).
+/// - P1, wherever it stands: the opcode has no row in the profile, or the operands do not fit it (own).
 /// - L1, where no instruction breaks P1: no module goes on with this instruction after those before it (2.4).
 /// - L2, where none breaks P1 or L1: the module ends too early. The numbers are those of all instructions and all
 ///   words.
@@ -227,11 +240,18 @@ fn plan_of(alloc: Global, kinds: &Kinds<'_>, insts: &[Inst<'_>]) -> Result<Plan,
 /// `Memory` comes only where a growth of memory was refused.
 ///
 /// A module that was decoded has few enough words: the law `word_counts` says how many.
-pub fn lay_out(alloc: Global, table: &Table, module: &Module<'_>) -> Result<Plan, Stop>
+pub fn lay_out(
+    alloc: Global,
+    profile: Profile,
+    table: &Table,
+    module: &Module<'_>,
+) -> Result<Plan, Stop>
     requires { IsShort (plain_insts «module».now) }
+    // What places are rests on no profile; what the profile asks besides is kept.
     ensures plan { IfOk result (λ p. IsPlan table.now (plain_insts «module».now) p) }
-    ensures refused { IfErr result (λ s. IsRefusal table.now (plain_insts «module».now) s) }
+    ensures laid_out { IfOk result (λ p. IsLaidOut profile table.now (plain_insts «module».now)) }
+    ensures refused { IfErr result (λ s. IsRefusal profile table.now (plain_insts «module».now) s) }
 {
     let kinds = Kinds::of(table);
-    plan_of(alloc, &kinds, module.insts.as_slice())
+    plan_of(alloc, profile, &kinds, module.insts.as_slice())
 }

@@ -87,6 +87,7 @@ fn form_in(ending: Ending, operand: Operand<'_>, n: usize) -> Option<Form>
                 Some(Form::Other)
             }
         }
+        Ending::MaybeRepeated(form, other) => { if n == 0 { Some(form) } else { Some(other) } }
     }
 }
 

@@ -3,11 +3,12 @@ ghost use Rattle.spv_layout.specs.inner.Single.{is_single_row, front_of, are_fla
 ghost use Rattle.spv_layout.specs.inner.Row.{plain_row, numbered};
 ghost use Rattle.spv_layout.specs.inner.Test.{HasSorts};
 ghost use Rattle.spv_layout.specs.Place.{section_of};
+ghost use Rattle.spv_layout.specs.Row.{row_in};
 ghost use Rattle.spv_layout.specs.Rows.{row_of};
 
 use crate::class::Class;
 use crate::form::{After, Ending, Form, Kinded, Named, Role, Row};
-use spv_module::opcode;
+use spv_module::{Profile, opcode};
 
 /// The form that a letter of the table stands for.
 macro_rules! form {
@@ -46,6 +47,7 @@ macro_rules! sort {
     (kind MemoryAccess) => { 7 };
     (kind LoopControl) => { 7 };
     (kind SelectionControl) => { 7 };
+    (kind ImageOperands) => { 7 };
     (kind $named:ident) => { 6 };
     ($id:ident) => { 2 };
 }
@@ -110,6 +112,9 @@ macro_rules! ending {
     (repeated $($form:ident),+) => { Ending::Repeated(&[$(form!($form)),+]) };
     (others) => { Ending::Others };
     (maybe_others $($form:ident)+) => { Ending::MaybeOthers(form!($($form)+)) };
+    (maybe_repeated $($form:ident)+, $other:ident) => {
+        Ending::MaybeRepeated(form!($($form)+), form!($other))
+    };
 }
 
 /// Whether each operand of an ending takes one word.
@@ -117,6 +122,9 @@ macro_rules! is_single_ending {
     (closed) => { true };
     (repeated $($form:ident),+) => { true $(&& is_single!($form))+ };
     (maybe $($form:ident)+) => { is_single!($($form)+) };
+    (maybe_repeated $($form:ident)+, $other:ident) => {
+        is_single!($($form)+) && is_single!($other)
+    };
     ($($other:ident)+) => { false };
 }
 
@@ -135,6 +143,12 @@ macro_rules! section {
     ($other:ident) => { None };
 }
 
+/// The profile that a line belongs to, by the word at its end.
+macro_rules! profile {
+    () => { Profile::Own };
+    (opencl) => { Profile::OpenCl };
+}
+
 /// The last opcode of a row.
 macro_rules! last {
     ($from:ident) => { opcode::$from };
@@ -146,7 +160,8 @@ macro_rules! last {
 /// result, W a literal of one word, N one whose width its type tells, S a text, `kind` a value or mask of the kind
 /// named; an id is t of a type, v of a value, f of a function, s of an OpString, e of an OpExtInstImport, l of a label,
 /// g of a variable outside functions, a in any role, and x one of which nothing is asked, unless the module is opened.
-/// What may come after is of `After`.
+/// What may come after is of `After`. A line with the word `opencl` belongs to the profile of OpenCL alone; such lines
+/// come behind the others.
 macro_rules! table {
     ($what:ident) => {
         $what! {
@@ -161,7 +176,7 @@ macro_rules! table {
             LINE: Line [s, W, W] closed;
             EXTENSION: Extension [S] closed;
             EXT_INST_IMPORT: Import [R, S] closed;
-            EXT_INST: Body [T, R, e, W] repeated[x];
+            EXT_INST: Extended [T, R, e, W] repeated[x];
             MEMORY_MODEL: MemoryModel [kind AddressingModel, kind MemoryModel] closed;
             ENTRY_POINT: EntryPoint [kind ExecutionModel, f, S] repeated[g];
             EXECUTION_MODE: ExecutionMode [f, kind ExecutionMode] others;
@@ -242,6 +257,93 @@ macro_rules! table {
             LIFETIME_START to LIFETIME_STOP: Body [v, W] closed;
             NO_LINE: Line [] closed;
             MODULE_PROCESSED: Processed [S] closed;
+            TYPE_IMAGE: Declaration [R, t, kind Dim, W, W, W, W, kind ImageFormat] maybe[kind AccessQualifier] opencl;
+            TYPE_SAMPLER: Declaration [R] closed opencl;
+            TYPE_SAMPLED_IMAGE: Declaration [R, t] closed opencl;
+            TYPE_EVENT to TYPE_QUEUE: Declaration [R] closed opencl;
+            TYPE_PIPE: Declaration [R, kind AccessQualifier] closed opencl;
+            CONSTANT_SAMPLER: Declaration [T, R, kind SamplerAddressingMode, W, kind SamplerFilterMode] closed opencl;
+            IMAGE_TEXEL_POINTER: Body [T, R, v, v, v] closed opencl;
+            GENERIC_PTR_MEM_SEMANTICS: Body [T, R, v] closed opencl;
+            DECORATION_GROUP: Decoration [R] closed opencl;
+            GROUP_DECORATE: Decoration [a] repeated[a] opencl;
+            GROUP_MEMBER_DECORATE: Decoration [a] repeated[a, W] opencl;
+            SAMPLED_IMAGE: Body [T, R, v, v] closed opencl;
+            IMAGE_SAMPLE_EXPLICIT_LOD: Body [T, R, v, v, kind ImageOperands] repeated[v] opencl;
+            IMAGE_FETCH: Body [T, R, v, v] maybe_repeated[kind ImageOperands, v] opencl;
+            IMAGE_READ: Body [T, R, v, v] maybe_repeated[kind ImageOperands, v] opencl;
+            IMAGE_WRITE: Body [v, v, v] maybe_repeated[kind ImageOperands, v] opencl;
+            IMAGE to IMAGE_QUERY_ORDER: Body [T, R, v] closed opencl;
+            IMAGE_QUERY_SIZE_LOD: Body [T, R, v, v] closed opencl;
+            IMAGE_QUERY_SIZE: Body [T, R, v] closed opencl;
+            IMAGE_QUERY_LEVELS to IMAGE_QUERY_SAMPLES: Body [T, R, v] closed opencl;
+            QUANTIZE_TO_F16: Body [T, R, v] closed opencl;
+            SAT_CONVERT_S_TO_U to SAT_CONVERT_U_TO_S: Body [T, R, v] closed opencl;
+            GENERIC_CAST_TO_PTR_EXPLICIT: Body [T, R, v, kind StorageClass] closed opencl;
+            VECTOR_TIMES_SCALAR: Body [T, R, v, v] closed opencl;
+            DOT to S_MUL_EXTENDED: Body [T, R, v, v] closed opencl;
+            ANY to SIGN_BIT_SET: Body [T, R, v] closed opencl;
+            LESS_OR_GREATER to UNORDERED: Body [T, R, v, v] closed opencl;
+            BIT_FIELD_INSERT: Body [T, R, v, v, v, v] closed opencl;
+            BIT_FIELD_S_EXTRACT to BIT_FIELD_U_EXTRACT: Body [T, R, v, v, v] closed opencl;
+            BIT_REVERSE to BIT_COUNT: Body [T, R, v] closed opencl;
+            ATOMIC_COMPARE_EXCHANGE_WEAK: Body [T, R, v, v, v, v, v, v] closed opencl;
+            GROUP_ASYNC_COPY: Body [T, R, v, v, v, v, v, v] closed opencl;
+            GROUP_WAIT_EVENTS: Body [v, v, v] closed opencl;
+            GROUP_ALL to GROUP_ANY: Body [T, R, v, v] closed opencl;
+            GROUP_BROADCAST: Body [T, R, v, v, v] closed opencl;
+            GROUP_I_ADD to GROUP_S_MAX: Body [T, R, v, kind GroupOperation, v] closed opencl;
+            READ_PIPE to WRITE_PIPE: Body [T, R, v, v, v, v] closed opencl;
+            RESERVED_READ_PIPE to RESERVED_WRITE_PIPE: Body [T, R, v, v, v, v, v, v] closed opencl;
+            RESERVE_READ_PIPE_PACKETS to RESERVE_WRITE_PIPE_PACKETS: Body [T, R, v, v, v, v] closed opencl;
+            COMMIT_READ_PIPE to COMMIT_WRITE_PIPE: Body [v, v, v, v] closed opencl;
+            IS_VALID_RESERVE_ID: Body [T, R, v] closed opencl;
+            GET_NUM_PIPE_PACKETS to GET_MAX_PIPE_PACKETS: Body [T, R, v, v, v] closed opencl;
+            GROUP_RESERVE_READ_PIPE_PACKETS to GROUP_RESERVE_WRITE_PIPE_PACKETS:
+                Body [T, R, v, v, v, v, v] closed opencl;
+            GROUP_COMMIT_READ_PIPE to GROUP_COMMIT_WRITE_PIPE: Body [v, v, v, v, v] closed opencl;
+            ENQUEUE_MARKER: Body [T, R, v, v, v, v] closed opencl;
+            ENQUEUE_KERNEL: Body [T, R, v, v, v, v, v, v, f, v, v, v] repeated[v] opencl;
+            GET_KERNEL_ND_RANGE_SUB_GROUP_COUNT to GET_KERNEL_ND_RANGE_MAX_SUB_GROUP_SIZE:
+                Body [T, R, v, f, v, v, v] closed opencl;
+            GET_KERNEL_WORK_GROUP_SIZE to GET_KERNEL_PREFERRED_WORK_GROUP_SIZE_MULTIPLE:
+                Body [T, R, f, v, v, v] closed opencl;
+            RETAIN_EVENT to RELEASE_EVENT: Body [v] closed opencl;
+            CREATE_USER_EVENT: Body [T, R] closed opencl;
+            IS_VALID_EVENT: Body [T, R, v] closed opencl;
+            SET_USER_EVENT_STATUS: Body [v, v] closed opencl;
+            CAPTURE_EVENT_PROFILING_INFO: Body [v, v, v] closed opencl;
+            GET_DEFAULT_QUEUE: Body [T, R] closed opencl;
+            BUILD_ND_RANGE: Body [T, R, v, v, v] closed opencl;
+            ATOMIC_FLAG_TEST_AND_SET: Body [T, R, v, v, v] closed opencl;
+            ATOMIC_FLAG_CLEAR: Body [v, v, v] closed opencl;
+            SIZE_OF: Body [T, R, v] closed opencl;
+            TYPE_PIPE_STORAGE: Declaration [R] closed opencl;
+            CONSTANT_PIPE_STORAGE: Declaration [T, R, W, W, W] closed opencl;
+            CREATE_PIPE_FROM_PIPE_STORAGE: Body [T, R, v] closed opencl;
+            GET_KERNEL_LOCAL_SIZE_FOR_SUBGROUP_COUNT: Body [T, R, v, f, v, v, v] closed opencl;
+            GET_KERNEL_MAX_NUM_SUBGROUPS: Body [T, R, f, v, v, v] closed opencl;
+            TYPE_NAMED_BARRIER: Declaration [R] closed opencl;
+            NAMED_BARRIER_INITIALIZE: Body [T, R, v] closed opencl;
+            MEMORY_NAMED_BARRIER: Body [v, v, v] closed opencl;
+            EXECUTION_MODE_ID: ExecutionMode [f, kind ExecutionMode] others opencl;
+            DECORATE_ID: Decoration [a, kind Decoration] others opencl;
+            GROUP_NON_UNIFORM_ELECT: Body [T, R, v] closed opencl;
+            GROUP_NON_UNIFORM_ALL to GROUP_NON_UNIFORM_ALL_EQUAL: Body [T, R, v, v] closed opencl;
+            GROUP_NON_UNIFORM_BROADCAST: Body [T, R, v, v, v] closed opencl;
+            GROUP_NON_UNIFORM_BROADCAST_FIRST to GROUP_NON_UNIFORM_INVERSE_BALLOT: Body [T, R, v, v] closed opencl;
+            GROUP_NON_UNIFORM_BALLOT_BIT_EXTRACT: Body [T, R, v, v, v] closed opencl;
+            GROUP_NON_UNIFORM_BALLOT_BIT_COUNT: Body [T, R, v, kind GroupOperation, v] closed opencl;
+            GROUP_NON_UNIFORM_BALLOT_FIND_LSB to GROUP_NON_UNIFORM_BALLOT_FIND_MSB: Body [T, R, v, v] closed opencl;
+            GROUP_NON_UNIFORM_SHUFFLE to GROUP_NON_UNIFORM_SHUFFLE_DOWN: Body [T, R, v, v, v] closed opencl;
+            GROUP_NON_UNIFORM_I_ADD to GROUP_NON_UNIFORM_LOGICAL_XOR:
+                Body [T, R, v, kind GroupOperation, v] maybe[v] opencl;
+            GROUP_NON_UNIFORM_QUAD_BROADCAST to GROUP_NON_UNIFORM_QUAD_SWAP: Body [T, R, v, v, v] closed opencl;
+            PTR_EQUAL to PTR_DIFF: Body [T, R, v, v] closed opencl;
+            S_DOT to SU_DOT: Body [T, R, v, v] maybe[kind PackedVectorFormat] opencl;
+            S_DOT_ACC_SAT to SU_DOT_ACC_SAT: Body [T, R, v, v, v] maybe[kind PackedVectorFormat] opencl;
+            DECORATE_STRING: Decoration [a, kind Decoration] others opencl;
+            MEMBER_DECORATE_STRING: Decoration [a, W, kind Decoration] others opencl;
         }
     };
 }
@@ -254,6 +356,7 @@ macro_rules! after {
     (repeated $($form:ident),+) => { After::Repeated };
     (others) => { After::Others };
     (maybe_others $($form:ident)+) => { After::MaybeOthers };
+    (maybe_repeated $($form:ident)+, $other:ident) => { After::MaybeRepeated };
 }
 
 /// The operands that it names.
@@ -264,16 +367,19 @@ macro_rules! forms_after {
     (repeated $($form:ident),+) => { [$(form!($form)),+] };
     (others) => { [] };
     (maybe_others $($form:ident)+) => { [form!($($form)+)] };
+    (maybe_repeated $($form:ident)+, $other:ident) => { [form!($($form)+), form!($other)] };
 }
 
 /// The lines of the table as definitions read them.
 macro_rules! lines {
     ($(
-        $from:ident $(to $to:ident)?: $class:ident [$($($form:ident)+),*] $ending:ident $([$($after:tt)+])?;
+        $from:ident $(to $to:ident)?: $class:ident [$($($form:ident)+),*]
+            $ending:ident $([$($after:tt)+])? $($profile:ident)?;
     )+) => {
         [$((
             opcode::$from,
             last!($from $($to)?),
+            profile!($($profile)?),
             Class::$class,
             &[$(form!($($form)+)),*],
             after!($ending $($($after)+)?),
@@ -285,11 +391,13 @@ macro_rules! lines {
 /// The rows of the table, as the code reads them.
 macro_rules! rows {
     ($(
-        $from:ident $(to $to:ident)?: $class:ident [$($($form:ident)+),*] $ending:ident $([$($after:tt)+])?;
+        $from:ident $(to $to:ident)?: $class:ident [$($($form:ident)+),*]
+            $ending:ident $([$($after:tt)+])? $($profile:ident)?;
     )+) => {
         [$(Row {
             from: opcode::$from,
             to: last!($from $($to)?),
+            profile: profile!($($profile)?),
             class: Class::$class,
             section: section!($class),
             fixed: &[$(form!($($form)+)),*],
@@ -302,35 +410,51 @@ macro_rules! rows {
     };
 }
 
-/// A line of the table as definitions read it: the first and the last opcode, the class, the fixed operands, and what
-/// may come after them, with the operands that this names.
-pub type Line = (u16, u16, Class, &'static [Form], After, &'static [Form]);
+/// A line of the table as definitions read it: the first and the last opcode, the profile, the class, the fixed
+/// operands, and what may come after them, with the operands that this names.
+pub type Line = (
+    u16,
+    u16,
+    Profile,
+    Class,
+    &'static [Form],
+    After,
+    &'static [Form],
+);
 
 /// The table as definitions read it.
-pub static TABLE: [Line; 92] = table!(lines);
+pub static TABLE: [Line; 175] = table!(lines);
 
 /// The table as the code reads it.
-static ROWS: [Row; 92] = table!(rows);
+static ROWS: [Row; 175] = table!(rows);
 
-/// For each opcode up to the last one the number of its row, or 255 where it has none. Written by
+/// How many rows are found by number. The opcodes of those behind them are higher than all that have a number. Written
+/// by `tests/rows-of-opcodes`.
+const NUMBERED: usize = 171;
+
+/// For each opcode of these rows up to the last one the number of its row, or 255 where it has none. Written by
 /// `tests/rows-of-opcodes`.
-static NUMBERS: [u8; 331] = [
+static NUMBERS: [u8; 404] = [
     0, 1, 2, 3, 4, 5, 6, 7, 8, 255, 9, 10, 11, 255, 12, 13, 14, 15, 255, 16, 16, 17, 18, 19, 255,
-    255, 255, 255, 20, 255, 21, 22, 23, 24, 255, 255, 255, 255, 255, 25, 255, 26, 26, 27, 28, 255,
-    29, 255, 30, 30, 31, 32, 255, 255, 33, 34, 35, 36, 255, 37, 255, 38, 39, 39, 40, 41, 41, 42,
-    255, 255, 43, 44, 45, 255, 255, 255, 255, 46, 47, 48, 49, 50, 51, 52, 255, 255, 255, 255, 255,
+    92, 93, 94, 20, 255, 21, 22, 23, 24, 95, 95, 95, 95, 96, 25, 255, 26, 26, 27, 28, 97, 29, 255,
+    30, 30, 31, 32, 255, 255, 33, 34, 35, 36, 255, 37, 98, 38, 39, 39, 40, 41, 41, 42, 255, 99, 43,
+    44, 45, 100, 101, 102, 255, 46, 47, 48, 49, 50, 51, 52, 255, 255, 103, 255, 104, 255, 255, 255,
+    255, 255, 255, 105, 255, 255, 106, 107, 108, 108, 108, 109, 110, 255, 111, 111, 255, 53, 53,
+    53, 53, 54, 54, 54, 112, 55, 113, 113, 56, 57, 57, 114, 58, 255, 59, 59, 60, 60, 60, 60, 60,
+    60, 60, 60, 60, 61, 61, 61, 61, 61, 115, 255, 255, 255, 255, 255, 116, 116, 116, 116, 116, 255,
+    117, 117, 117, 117, 117, 117, 117, 118, 118, 118, 62, 62, 62, 62, 63, 64, 65, 65, 65, 65, 65,
+    65, 65, 65, 65, 65, 66, 66, 66, 66, 66, 66, 66, 66, 66, 66, 66, 66, 255, 255, 67, 67, 67, 68,
+    68, 68, 69, 119, 120, 120, 121, 121, 255, 255, 255, 255, 255, 255, 255, 255, 255, 255, 255,
+    255, 255, 255, 255, 255, 255, 255, 70, 71, 255, 72, 73, 74, 75, 122, 76, 76, 77, 77, 77, 77,
+    77, 77, 78, 78, 78, 255, 255, 79, 80, 81, 82, 83, 84, 85, 255, 86, 87, 88, 89, 89, 255, 123,
+    124, 125, 125, 126, 127, 127, 127, 127, 127, 127, 127, 127, 255, 255, 128, 128, 129, 129, 130,
+    130, 131, 131, 132, 133, 133, 134, 134, 135, 135, 255, 255, 136, 137, 138, 138, 139, 139, 140,
+    140, 141, 142, 143, 144, 145, 146, 255, 255, 255, 255, 255, 255, 255, 255, 255, 255, 255, 255,
+    90, 147, 148, 255, 149, 150, 151, 152, 153, 154, 155, 156, 157, 91, 158, 159, 160, 161, 161,
+    161, 162, 163, 163, 163, 164, 165, 166, 166, 167, 167, 167, 167, 168, 168, 168, 168, 168, 168,
+    168, 168, 168, 168, 168, 168, 168, 168, 168, 168, 169, 169, 255, 255, 255, 255, 255, 255, 255,
     255, 255, 255, 255, 255, 255, 255, 255, 255, 255, 255, 255, 255, 255, 255, 255, 255, 255, 255,
-    255, 53, 53, 53, 53, 54, 54, 54, 255, 55, 255, 255, 56, 57, 57, 255, 58, 255, 59, 59, 60, 60,
-    60, 60, 60, 60, 60, 60, 60, 61, 61, 61, 61, 61, 255, 255, 255, 255, 255, 255, 255, 255, 255,
-    255, 255, 255, 255, 255, 255, 255, 255, 255, 255, 255, 255, 255, 62, 62, 62, 62, 63, 64, 65,
-    65, 65, 65, 65, 65, 65, 65, 65, 65, 66, 66, 66, 66, 66, 66, 66, 66, 66, 66, 66, 66, 255, 255,
-    67, 67, 67, 68, 68, 68, 69, 255, 255, 255, 255, 255, 255, 255, 255, 255, 255, 255, 255, 255,
-    255, 255, 255, 255, 255, 255, 255, 255, 255, 255, 70, 71, 255, 72, 73, 74, 75, 255, 76, 76, 77,
-    77, 77, 77, 77, 77, 78, 78, 78, 255, 255, 79, 80, 81, 82, 83, 84, 85, 255, 86, 87, 88, 89, 89,
-    255, 255, 255, 255, 255, 255, 255, 255, 255, 255, 255, 255, 255, 255, 255, 255, 255, 255, 255,
-    255, 255, 255, 255, 255, 255, 255, 255, 255, 255, 255, 255, 255, 255, 255, 255, 255, 255, 255,
-    255, 255, 255, 255, 255, 255, 255, 255, 255, 255, 255, 255, 255, 255, 255, 255, 255, 255, 255,
-    255, 255, 90, 255, 255, 255, 255, 255, 255, 255, 255, 255, 255, 255, 255, 91,
+    255, 255, 255, 255, 255, 255, 255, 255, 170, 170, 170,
 ];
 
 /// The row that a list of numbers names for an opcode, if it names one.
@@ -357,6 +481,25 @@ fn row_at(numbers: &'static [u8], rows: &'static [Row], opcode: u16) -> Option<&
     }
 }
 
+/// The first of some rows that has an opcode.
+#[cold]
+#[inline(never)]
+fn row_among(rows: &'static [Row], opcode: u16) -> Option<&'static Row>
+    requires { IsTrue (are_flagged rows.now) }
+    ensures row { option_map (λ r. plain_row r.now) result ≡ row_in (map plain_row rows.now) opcode }
+    ensures section { IfSome result (λ r. r.now.section ≡ section_of r.now.class) }
+    ensures single { IfSome result (λ r. r.now.single ≡ is_single_row (plain_row r.now)) }
+    ensures front { IfSome result (λ r. r.now.front ≡ front_of r.now.fixed.now) }
+    ensures sorts { IfSome result (λ r. HasSorts r.now.sorts r.now.kind r.now.fixed.now) }
+{
+    for row in rows {
+        if row.from <= opcode && opcode <= row.to {
+            return Some(row);
+        }
+    }
+    None
+}
+
 /// The row of an opcode, and what it says of the sorts of its operands.
 #[inline(always)]
 pub fn sorted_row(opcode: u16) -> Option<&'static Row>
@@ -366,7 +509,12 @@ pub fn sorted_row(opcode: u16) -> Option<&'static Row>
     ensures front { IfSome result (λ r. r.now.front ≡ front_of r.now.fixed.now) }
     ensures sorts { IfSome result (λ r. HasSorts r.now.sorts r.now.kind r.now.fixed.now) }
 {
-    row_at(&NUMBERS, &ROWS, opcode)
+    let has_number = usize::from(opcode) < NUMBERS.len();
+    if has_number {
+        row_at(&NUMBERS, &ROWS, opcode)
+    } else {
+        row_among(&ROWS[NUMBERED..], opcode)
+    }
 }
 
 /// The row of an opcode.

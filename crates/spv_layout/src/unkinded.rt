@@ -40,6 +40,7 @@ fn is_ending_unkinded(ending: Ending) -> bool
         Ending::Closed | Ending::FileAndText => true,
         Ending::Maybe(form) => is_form_unkinded(form),
         Ending::Repeated(forms) => are_unkinded(forms),
+        Ending::MaybeRepeated(form, other) => is_form_unkinded(form) && is_form_unkinded(other),
         Ending::Others | Ending::MaybeOthers(_) => false,
     }
 }

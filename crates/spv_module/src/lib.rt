@@ -6,11 +6,13 @@ mod module;
 pub mod opcode;
 mod operand;
 mod operands;
+mod profile;
 mod results;
 
 pub use fault::{Fault, Rule, Stop};
 pub use module::{Inst, Module};
 pub use operand::Operand;
 pub use operands::Operands;
+pub use profile::Profile;
 pub use results::{result_in, type_in};
 pub use spv_table::Memory;

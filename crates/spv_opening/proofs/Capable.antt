@@ -159,7 +159,7 @@ closed_inst G is sets i = by (nat_eq i.opcode opcode.EXT_INST)
     by false h = h
 
 needs_nothing : (i j : PlainInst) → Looks i j → needs_of i ≡ needs_of j
-needs_nothing = told_same (List ℕ) needs_of [] (λ k call. rw call refl)
+needs_nothing = told_same (List (List ℕ)) needs_of [] (λ k call. rw call refl)
 
 -- Entry points.
 
@@ -224,8 +224,12 @@ entries G is js a n i j l k = record {
       (l.other (λ call. let never : opcode.ENTRY_POINT ≡ opcode.EXT_INST = sym e ∙ (sym l.opcode ∙ call) in cc))
       (sound_entry is js a i.operands (k.entry (l.opcode ∙ e)));
   mode = λ e. subst (λ (x : PlainInst). IsSoundMode js x.operands)
-      (l.other (λ call. let never : opcode.EXECUTION_MODE ≡ opcode.EXT_INST = sym e ∙ (sym l.opcode ∙ call) in cc))
-      (sound_mode is js a i.operands (k.mode (l.opcode ∙ e)));
+      (l.other (λ call. elim e [
+        | inl q ↦ (let never : opcode.EXECUTION_MODE ≡ opcode.EXT_INST = sym q ∙ (sym l.opcode ∙ call) in cc)
+        | inr q ↦ (let never : opcode.EXECUTION_MODE_ID ≡ opcode.EXT_INST = sym q ∙ (sym l.opcode ∙ call) in cc)
+      ]))
+      (sound_mode is js a i.operands
+      (k.mode (elim e [ inl q ↦ inl (l.opcode ∙ q) | inr q ↦ inr (l.opcode ∙ q) ])));
   linkage = λ e.
       let b = back is js a in
       let m = number_named G (codes "LinkageType") in
@@ -263,12 +267,9 @@ capable G is js a i j l closed k = record {
       (λ e c. covered G is js a e.capabilities c) k.entry);
   operands = closed (all_by Plain (IsCoveredOperand G is) (IsCoveredOperand G js) i.operands
       (covered_operand G is js a) k.operands);
-  widths = subst (λ cs. (cs ≡ []) ⊎ HasOneOf G js cs) (needs_nothing i j l) (needed (needs_of i) k.widths);
+  needs = subst (AllByRecursion (HasOneOf G js)) (needs_nothing i j l)
+      (all_by (List ℕ) (HasOneOf G is) (HasOneOf G js) (needs_of i) (one_of G is js a) k.needs);
 }
-  where
-    needed : (cs : List ℕ) → (cs ≡ []) ⊎ HasOneOf G is cs → (cs ≡ []) ⊎ HasOneOf G js cs
-    needed cs (inl e) = inl e
-    needed cs (inr h) = inr (one_of G is js a cs h)
 
 kept_by : (G : Table) (is js : List PlainInst) → Alike is js → (r : Rule) (n : ℕ) (i j : PlainInst) → Looks i j
     → (AllByRecursion (IsCoveredOperand G js) i.operands → AllByRecursion (IsCoveredOperand G js) j.operands)

@@ -11,6 +11,7 @@ use Rattle.spv_extended.specs.Opened.{opened_inst}
 use Rattle.spv_layout.specs.declared.form.Role.{Role}
 use Rattle.spv_layout.specs.declared.form.Role.TheVariants.{Label, Value}
 use Rattle.spv_ids.specs.Definition.{IsDefinedAt, IsUsedAt}
+use Rattle.spv_flow.specs.declared.branches.fork.Fork.{Fork}
 use Rattle.spv_flow.specs.branches.Broken.{Broken}
 use Rattle.spv_flow.specs.branches.Target.{is_opcode, is_branch, is_merge, IsOp, IsLabelOf, IsTarget, IsPredecessor}
 use Rattle.spv_flow.specs.branches.Target.{IsParentAt, HasParents, IsEntryLabel}
@@ -226,28 +227,29 @@ pair_missing G is js a n m = record {
   undefined = λ d. m.undefined (undefined js is (back is js a) m.value m.before d);
 }
 
-pub flow_broken : (G : Table) (sets : ℕ → Set) (is : List PlainInst) (r : Rule) (n : ℕ) → Broken G is r n
-    → Broken G (map (opened_inst sets) is) r n
-flow_broken G sets is _ _ (Broken.no_label n k x b u never) =
+pub flow_broken : (fork : Fork) (G : Table) (sets : ℕ → Set) (is : List PlainInst) (r : Rule) (n : ℕ)
+    → Broken fork G is r n
+    → Broken fork G (map (opened_inst sets) is) r n
+flow_broken fork G sets is _ _ (Broken.no_label n k x b u never) =
     let js = map (opened_inst sets) is in
     let a = alike_opened sets is in
     Broken.no_label n k x (branch_or_merge is js a n b) (labelled G is js a n k x b u)
     (λ m l. never m (label_of js is (back is js a) x m l))
-flow_broken G sets is _ _ (Broken.to_entry n x m t d e) =
+flow_broken fork G sets is _ _ (Broken.to_entry n x m t d e) =
     let js = map (opened_inst sets) is in
     let a = alike_opened sets is in
     Broken.to_entry n x m (target G is js a n x t) (defined is js a x m d) (entry_label is js a m e)
-flow_broken G sets is _ _ (Broken.parents n phi never) =
+flow_broken fork G sets is _ _ (Broken.parents n phi never) =
     let js = map (opened_inst sets) is in
     let a = alike_opened sets is in
     let phi' = op is js a n (is_opcode opcode.PHI) phi in
     Broken.parents n phi' (λ h. never (parents G js is (back is js a) n phi' h))
-flow_broken G sets is _ _ (Broken.same_labels n x c u v) =
+flow_broken fork G sets is _ _ (Broken.same_labels n x distinct c u v) =
     let js = map (opened_inst sets) is in
     let a = alike_opened sets is in
-    Broken.same_labels n x (op is js a n (is_opcode opcode.BRANCH_CONDITIONAL) c)
+    Broken.same_labels n x distinct (op is js a n (is_opcode opcode.BRANCH_CONDITIONAL) c)
     (used_by G is js a (is_opcode opcode.BRANCH_CONDITIONAL) refl n 1 x Label c u)
     (used_by G is js a (is_opcode opcode.BRANCH_CONDITIONAL) refl n 2 x Label c v)
-flow_broken G sets is _ _ (Broken.missing n m) = Broken.missing n (missing G sets is n m)
-flow_broken G sets is _ _ (Broken.pair_missing n m) =
+flow_broken fork G sets is _ _ (Broken.missing n m) = Broken.missing n (missing G sets is n m)
+flow_broken fork G sets is _ _ (Broken.pair_missing n m) =
     Broken.pair_missing n (pair_missing G is (map (opened_inst sets) is) (alike_opened sets is) n m)

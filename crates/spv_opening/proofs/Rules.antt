@@ -22,9 +22,7 @@ use Rattle.spv_type_forms.specs.Operands.{ids_in, after_head}
 use Rattle.spv_type_forms.specs.Parts.{id_in, AreParts}
 use Rattle.spv_type_forms.specs.Types.{IsData, IsSomeInt, scalar_in, class_in}
 use Rattle.spv_type_forms.specs.Values.{types_of}
-use Rattle.spv_ops.specs.Table.{lines, places_of}
 use Rattle.spv_ops.specs.Typed.{IsTyped}
-use Rattle.spv_ops.specs.declared.table.Places.TheVariants.{Free}
 use Rattle.spv_type_rules.specs.declared.constant.Constant.{Constant}
 use Rattle.spv_type_rules.specs.declared.constant.Constant.TheVariants as constant
 use Rattle.spv_type_rules.specs.declared.declaration.Declaration.{Declaration}
@@ -38,20 +36,27 @@ use Rattle.spv_type_rules.specs.Keeps.{Keeps, KeepsFunctions, KeepsReturns}
 use Rattle.spv_type_rules.specs.Repeat.{Repeats}
 use Rattle.spv_type_rules.specs.roles.Broken as roles
 use Rattle.spv_type_rules.specs.roles.Role.{Plays}
+use Rattle.spv_type_rules.specs.Declaration.{IsSampledType, IsSoundImage, IsSampled}
+use Rattle.spv_type_forms.specs.declared.objects.Image.{Image}
+use Rattle.spv_type_forms.specs.Objects.{image_in}
+use Rattle.spv_type_forms.specs.Null.{IsEarlier, LacksNull}
+use Rattle.spv_ids.specs.Definition.{IsDefinedAt}
+use Rattle.spv_ids.specs.Outcome.{IsOnly}
 use Rattle.spv_opening.proofs.Alike.{Alike, AlikeOption, Looks, alike_opened, back, definitions, looks_opened}
 use Rattle.spv_opening.proofs.Alike.{looks_same, other_at, same_at, told_same}
-use Rattle.spv_opening.proofs.Conditions.{on_some, all_by, is_data, typed}
+use Rattle.spv_opening.proofs.Conditions.{on_some, all_by, match_option, is_data, typed, typed_call}
 use Rattle.spv_opening.proofs.Flow.{there}
 use Rattle.spv_opening.proofs.Spots.{of_function}
 use Rattle.spv_opening.proofs.Types.{of_definition, opcode_of_definition, and_then, forms, types, types_of_all}
-use Rattle.spv_opening.proofs.Types.{array_lengths, are_parts, is_global}
-use Rattle.spv_opening.proofs.Uses.{used}
+use Rattle.spv_opening.proofs.Types.{array_lengths, are_parts, images, parts, is_global}
+use Rattle.spv_opening.proofs.Uses.{opened_by, used}
 
 -- Roles.
 
 plays : (is js : List PlainInst) → Alike is js → (r : Role) (x : ℕ) → Plays is r x → Plays js r x
 plays is js a role.OfType x h =
-    opcode_of_definition (λ code. (opcode.TYPE_VOID ≤ code) × (code ≤ opcode.TYPE_FUNCTION)) is js a x h
+    opcode_of_definition (λ code. ((opcode.TYPE_VOID ≤ code) × (code ≤ opcode.TYPE_PIPE))
+    ⊎ (code ≡ opcode.TYPE_PIPE_STORAGE) ⊎ (code ≡ opcode.TYPE_NAMED_BARRIER)) is js a x h
 plays is js a role.Value x h = by (definition_of is x) (definition_of js x) (definitions is js a x) h
   where
     by : (o q : Option PlainInst) → AlikeOption o q
@@ -74,11 +79,6 @@ roles_broken G sets is _ _ (roles.miscast n k x r u never) =
     (λ p. never (plays js is (back is js (alike_opened sets is)) r x p))
 
 -- Declarations.
-
-match_option : (A : Type 0) (N : Type 0) (P Q : A → Type 0) (o : Option A) → ((x : A) → P x → Q x) → MatchOption o N P
-    → MatchOption o N Q
-match_option A N P Q (Some x) f h = f x h
-match_option A N P Q None f h = h
 
 some_int : (is js : List PlainInst) → Alike is js → (t : ℕ) → IsSomeInt is t → IsSomeInt js t
 some_int is js a t (w, e) = (w, sym (forms is js a t) ∙ e)
@@ -107,6 +107,14 @@ data_or : (is js : List PlainInst) → Alike is js → (t : ℕ) (f : Form) → 
 data_or is js a t f (inl h) = inl (is_data is js a t h)
 data_or is js a t f (inr e) = inr (sym (forms is js a t) ∙ e)
 
+sampled_type : (is js : List PlainInst) → Alike is js → (t : ℕ) → IsSampledType is t → IsSampledType js t
+sampled_type is js a t (inl e) = inl (sym (forms is js a t) ∙ e)
+sampled_type is js a t (inr (inl (w, e))) = inr (inl (w, sym (forms is js a t) ∙ e))
+sampled_type is js a t (inr (inr (w, e))) = inr (inr (w, sym (forms is js a t) ∙ e))
+
+sound_image : (is js : List PlainInst) → Alike is js → (m : Image) → IsSoundImage is m → IsSoundImage js m
+sound_image is js a m h = (sampled_type is js a m.sampled_type h.0, h.1, h.2, h.3, h.4)
+
 declares : (is js : List PlainInst) → Alike is js → (n : ℕ) (d : Declaration) (os : List Plain)
     → DeclaresSoundly is n d os → DeclaresSoundly js n d os
 declares is js a n declaration.Int (Result t ∷ Word w ∷ Word s ∷ []) h = h
@@ -120,6 +128,10 @@ declares is js a n declaration.Pointer (Result t ∷ Value k class ∷ Id p ∷ 
 declares is js a n declaration.Function (Result t ∷ Id r ∷ os) (d, h) =
     (data_or is js a r form.Void d, all_by ℕ (IsData is) (IsData js) (ids_in os) (is_data is js a) h)
 declares is js a n declaration.Forward (Id p ∷ Value k class ∷ []) h = pointer_after is js a n p class h
+declares is js a n declaration.Image os h =
+    on_some Image (IsSoundImage is) (IsSoundImage js) (image_in os) (sound_image is js a) h
+declares is js a n declaration.SampledImage (Result t ∷ Id i ∷ []) h =
+    subst (λ o. IsSomeAnd o IsSampled) (images is js a i) h
 declares is js a n _ _ h = absurd h
 
 -- Constants.
@@ -137,13 +149,46 @@ constant_parts is js a spec r xs (p, t) = (
       (on_some (List ℕ) (AreParts is r) (AreParts js r) (types_of is xs) (are_parts is js a r) t),
 )
 
+-- Types without a null value.
+
+defined_alike : (is js : List PlainInst) → Alike is js → (x n : ℕ) → IsDefinedAt is x n → IsDefinedAt js x n
+defined_alike is js a x n d =
+    let o = other_at is js a n d.inst d.there in
+    record { inst = o.inst; there = o.there; result = sym o.looks.result ∙ d.result }
+
+one_alike : (is js : List PlainInst) → Alike is js → (x n : ℕ) → IsOnly is x n → IsOnly js x n
+one_alike is js a x n o = record {
+  there = defined_alike is js a x n o.there;
+  only = λ k d. o.only k (defined_alike js is (back is js a) x k d);
+}
+
+earlier_alike : (is js : List PlainInst) → Alike is js → (u t : ℕ) → IsEarlier is u t → IsEarlier js u t
+earlier_alike is js a u t e = record {
+  place = e.place;
+  later = e.later;
+  before = e.before;
+  one = one_alike is js a u e.place e.one;
+  next = one_alike is js a t e.later e.next;
+}
+
+lacks : (is js : List PlainInst) → Alike is js → (t : ℕ) → LacksNull is t → LacksNull js t
+lacks is js a _ (LacksNull.itself t o f y) = LacksNull.itself t o (sym (forms is js a t) ∙ f) y
+lacks is js a _ (LacksNull.element t e l f r h) =
+    LacksNull.element t e l (sym (forms is js a t) ∙ f) (earlier_alike is js a e t r) (lacks is js a e h)
+lacks is js a _ (LacksNull.member t k u f p r h) =
+    LacksNull.member t k u (sym (forms is js a t) ∙ f) (sym (parts is js a t k) ∙ p) (earlier_alike is js a u t r)
+    (lacks is js a u h)
+
 constitutes : (is js : List PlainInst) → Alike is js → (c : Constant) (r : ℕ) (os : List Plain) → Constitutes is c r os
     → Constitutes js c r os
 constitutes is js a constant.Bool r os h = sym (forms is js a r) ∙ h
 constitutes is js a constant.Number r (Number low high words ∷ []) h = fits_width is js a r low h
 constitutes is js a constant.Composite r os h = constant_parts is js a false r (ids_in os) h
 constitutes is js a constant.SpecComposite r os h = constant_parts is js a true r (ids_in os) h
-constitutes is js a constant.Null r os h = is_data is js a r h
+constitutes is js a constant.Null r os h = (is_data is js a r h.0, λ l. h.1 (lacks js is (back is js a) r l))
+constitutes is js a constant.Sampler r (Value c mode ∷ Word n ∷ Value f filter ∷ []) h =
+    (sym (forms is js a r) ∙ h.0, h.1)
+constitutes is js a constant.PipeStorage r os h = sym (forms is js a r) ∙ h
 constitutes is js a _ r _ h = absurd h
 
 -- Types that are declared twice.
@@ -310,48 +355,47 @@ keeps_same G is js a rule.Y8 n i never same k = λ e.
     (type_in i.operands) (λ r. calls_soundly is js a r (after_head i.operands)) (k e)
 keeps_same G is js a _ n i never same k = tt
 
-free : places_of opcode.EXT_INST ≡ Free
-unfolding lines
-free = refl
-
-keeps_call : (G : Table) (is : List PlainInst) (r : Rule) (n : ℕ) (i : PlainInst) → i.opcode ≡ opcode.EXT_INST
+keeps_call : (G : Table) (sets : ℕ → Set) (is : List PlainInst) (r : Rule) (n : ℕ) (i : PlainInst)
+    → i.opcode ≡ opcode.EXT_INST
+    → Keeps (IsTyped G (map (opened_inst sets) is)) (map (opened_inst sets) is) r n (opened_by sets i)
     → Keeps (IsTyped G is) is r n i
-keeps_call G is rule.Y2 n i call =
+keeps_call G sets is rule.Y2 n i call k =
     subst (λ code. MatchOption (declaration_of code) (Unit {0}) (λ d. DeclaresSoundly is n d i.operands)) (sym call) tt
-keeps_call G is rule.Y3 n i call = λ q.
+keeps_call G sets is rule.Y3 n i call k = λ q.
     let once : false ≡ true = subst (λ code. IsTrue
-    ((nat_le opcode.TYPE_VOID code && nat_le code opcode.TYPE_VECTOR) || nat_eq code opcode.TYPE_OPAQUE
-    || nat_eq code opcode.TYPE_FUNCTION)) call q.once in
+    ((nat_le opcode.TYPE_VOID code && nat_le code opcode.TYPE_SAMPLED_IMAGE) || nat_eq code opcode.TYPE_OPAQUE
+    || (nat_le opcode.TYPE_FUNCTION code && nat_le code opcode.TYPE_PIPE)
+    || nat_eq code opcode.TYPE_PIPE_STORAGE || nat_eq code opcode.TYPE_NAMED_BARRIER)) call q.once in
     cc
-keeps_call G is rule.Y4 n i call =
+keeps_call G sets is rule.Y4 n i call k =
     subst (λ code. MatchOption (constant_of code) (Unit {0})
     (λ c. IsSomeAnd (type_in i.operands) (λ r. Constitutes is c r (after_head i.operands)))) (sym call) tt
-keeps_call G is rule.Y5 n i call = inl (ap places_of call ∙ free)
-keeps_call G is rule.Y6 n i call = record {
+keeps_call G sets is rule.Y5 n i call k = typed_call G sets is n i call k
+keeps_call G sets is rule.Y6 n i call k = record {
   function = λ e. let never : opcode.FUNCTION ≡ opcode.EXT_INST = sym e ∙ call in absurd (let f : ⊥ = cc in f);
   parameter = λ e. let never : opcode.FUNCTION_PARAMETER ≡ opcode.EXT_INST = sym e ∙ call in
       absurd (let f : ⊥ = cc in f);
 }
-keeps_call G is rule.Y7 n i call = record {
+keeps_call G sets is rule.Y7 n i call k = record {
   nothing = λ e. let never : opcode.RETURN ≡ opcode.EXT_INST = sym e ∙ call in absurd (let f : ⊥ = cc in f);
   value = λ e. let never : opcode.RETURN_VALUE ≡ opcode.EXT_INST = sym e ∙ call in absurd (let f : ⊥ = cc in f);
 }
-keeps_call G is rule.Y8 n i call = λ e. let never : opcode.FUNCTION_CALL ≡ opcode.EXT_INST = sym e ∙ call in
+keeps_call G sets is rule.Y8 n i call k = λ e. let never : opcode.FUNCTION_CALL ≡ opcode.EXT_INST = sym e ∙ call in
     absurd (let f : ⊥ = cc in f)
-keeps_call G is _ n i call = tt
+keeps_call G sets is _ n i call k = tt
 
 pub rules_kept : (G : Table) (sets : ℕ → Set) (is : List PlainInst) (r : Rule) (n : ℕ) (i : PlainInst)
     → Keeps (IsTyped G (map (opened_inst sets) is)) (map (opened_inst sets) is) r n (opened_inst sets i)
     → Keeps (IsTyped G is) is r n i
-rules_kept G sets is r n i k = by (nat_eq i.opcode opcode.EXT_INST) refl
+rules_kept G sets is r n i = by (nat_eq i.opcode opcode.EXT_INST) refl
   where
-    by : (b : Bool) → nat_eq i.opcode opcode.EXT_INST ≡ b → Keeps (IsTyped G is) is r n i
-    by true e = keeps_call G is r n i (eqb-true i.opcode opcode.EXT_INST e)
-    by false e =
+    by : (b : Bool) → nat_eq i.opcode opcode.EXT_INST ≡ b
+        → Keeps (IsTyped G (map (opened_inst sets) is)) (map (opened_inst sets) is) r n
+        (if b then opened_by sets i else i)
+        → Keeps (IsTyped G is) is r n i
+    by true e k = keeps_call G sets is r n i (eqb-true i.opcode opcode.EXT_INST e) k
+    by false e k =
         let js = map (opened_inst sets) is in
         let never : i.opcode ≡ opcode.EXT_INST → ⊥ = λ call.
         let f : nat_eq i.opcode opcode.EXT_INST ≡ true = rw call refl in let g : true ≡ false = sym f ∙ e in cc in
-        let l = looks_opened sets i in
-        let same : opened_inst sets i ≡ i = sym (l.other never) in
-        keeps_same G js is (back is js (alike_opened sets is)) r n i never (looks_same i)
-        (subst (λ (x : PlainInst). Keeps (IsTyped G js) js r n x) same k)
+        keeps_same G js is (back is js (alike_opened sets is)) r n i never (looks_same i) k

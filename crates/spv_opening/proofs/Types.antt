@@ -10,6 +10,8 @@ use Rattle.spv_type_forms.specs.declared.form.Form.TheVariants as form
 use Rattle.spv_type_forms.specs.declared.form.Components.{Components}
 use Rattle.spv_type_forms.specs.Definitions.{IsConstant, IsGlobal}
 use Rattle.spv_type_forms.specs.Form.{form_in, form_of}
+use Rattle.spv_type_forms.specs.declared.objects.Image.{Image}
+use Rattle.spv_type_forms.specs.Objects.{enumerant_in, image_in, image_of, pipe_access_in, pipe_access_of, addressing_of}
 use Rattle.spv_type_forms.specs.Parts.{number_in, constant_of, length_of, after_result, members_of, id_in, part_in}
 use Rattle.spv_type_forms.specs.Parts.{part_of, count_in, count_of, ArePartsFrom, AreParts}
 use Rattle.spv_type_forms.specs.Reach.{AreWithin}
@@ -69,7 +71,7 @@ lengths = of_definition ℕ (λ i. if nat_eq i.opcode opcode.CONSTANT
 pub array_lengths : (is js : List PlainInst) → Alike is js → (x : ℕ) → length_of is x ≡ length_of js x
 array_lengths = lengths
 
-members : (is js : List PlainInst) → Alike is js → (t : ℕ) → members_of is t ≡ members_of js t
+pub members : (is js : List PlainInst) → Alike is js → (t : ℕ) → members_of is t ≡ members_of js t
 members is js a t = by (definition_of is t) (definition_of js t) (definitions is js a t)
   where
     by : (o q : Option PlainInst) → AlikeOption o q
@@ -133,13 +135,32 @@ components is js a t =
     ap (option_and_then (components_in is)) (forms is js a t)
     ∙ and_then Form Components (components_in is) (components_in js) (components_by is js a) (form_of js t)
 
+-- The words of image types and pipe types, and the addressing model.
+
+pub images : (is js : List PlainInst) → Alike is js → (t : ℕ) → image_of is t ≡ image_of js t
+images = of_definition Image (λ i. if nat_eq i.opcode opcode.TYPE_IMAGE then image_in i.operands else None)
+    (told_same (Option Image) (λ i. if nat_eq i.opcode opcode.TYPE_IMAGE then image_in i.operands else None) None
+    (λ k call. rw call refl))
+
+pub pipes : (is js : List PlainInst) → Alike is js → (t : ℕ) → pipe_access_of is t ≡ pipe_access_of js t
+pipes = of_definition ℕ (λ i. if nat_eq i.opcode opcode.TYPE_PIPE then pipe_access_in i.operands else None)
+    (told_same (Option ℕ) (λ i. if nat_eq i.opcode opcode.TYPE_PIPE then pipe_access_in i.operands else None) None
+    (λ k call. rw call refl))
+
+pub addressing : (is js : List PlainInst) → Alike is js → addressing_of is ≡ addressing_of js
+addressing _ _ Alike.none = refl
+addressing _ _ (Alike.more i j is js l a) =
+    told_same (Option ℕ) (λ k. if nat_eq k.opcode opcode.MEMORY_MODEL then enumerant_in k.operands else addressing_of is)
+    (addressing_of is) (λ k call. rw call refl) i j l
+    ∙ ap (λ o. if nat_eq j.opcode opcode.MEMORY_MODEL then enumerant_in j.operands else o) (addressing is js a)
+
 -- Definitions of initializers.
 
 pub is_constant : (is js : List PlainInst) → Alike is js → (x : ℕ) → IsConstant is x → IsConstant js x
 is_constant = opcode_of_definition (λ code.
-    IsTrue ((nat_le opcode.CONSTANT_TRUE code && nat_le code opcode.CONSTANT_COMPOSITE)
-    || nat_eq code opcode.CONSTANT_NULL
-    || (nat_le opcode.SPEC_CONSTANT_TRUE code && nat_le code opcode.SPEC_CONSTANT_COMPOSITE)))
+    IsTrue ((nat_le opcode.CONSTANT_TRUE code && nat_le code opcode.CONSTANT_NULL)
+    || (nat_le opcode.SPEC_CONSTANT_TRUE code && nat_le code opcode.SPEC_CONSTANT_COMPOSITE)
+    || nat_eq code opcode.CONSTANT_PIPE_STORAGE))
 
 pub is_global : (is js : List PlainInst) → Alike is js → (x : ℕ) → IsGlobal is x → IsGlobal js x
 is_global is js a x g = record {

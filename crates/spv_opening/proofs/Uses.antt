@@ -23,6 +23,7 @@ use Rattle.spv_layout.specs.inner.Row.{row}
 use Rattle.spv_layout.specs.Rows.{rows, row_of}
 use Rattle.spv_layout.specs.Shape.{is_of, AreOf, Ends, HasForms, FitsShape, IsUse, role_of}
 use Rattle.spv_ids.specs.Definition.{IsUsedAt, IsMentionedAt}
+use Rattle.spv_type_forms.specs.Values.{used_in, AreValues}
 use Rattle.spv_opening.proofs.Alike.{Alike, same_at}
 
 -- Instructions of the list that is opened.
@@ -41,7 +42,7 @@ heads = form.OfType ∷ form.Result ∷ form.Id role.Set ∷ form.Word ∷ []
 abbrev unseen : List Form
 unseen = form.Unseen ∷ []
 
-row_of_call : row_of EXT_INST ≡ Some (row 12 12 class.Body heads (repeated unseen))
+row_of_call : row_of EXT_INST ≡ Some (row 12 12 class.Extended heads (repeated unseen))
 unfolding rows
 row_of_call = refl
 
@@ -52,9 +53,9 @@ record Called (fs : List Form) : Type 0 where
 
 called : (G : Table) (i : PlainInst) (fs : List Form) → i.opcode ≡ EXT_INST → HasForms G i fs → Called fs
 called G i fs e h =
-    let known : row_of i.opcode ≡ Some (row 12 12 class.Body heads (repeated unseen)) = ap row_of e ∙ row_of_call in
-    let same : h.row ≡ row 12 12 class.Body heads (repeated unseen) = same_Some h.row
-    (row 12 12 class.Body heads (repeated unseen)) (sym h.known ∙ known) in
+    let known : row_of i.opcode ≡ Some (row 12 12 class.Extended heads (repeated unseen)) = ap row_of e ∙ row_of_call in
+    let same : h.row ≡ row 12 12 class.Extended heads (repeated unseen) = same_Some h.row
+    (row 12 12 class.Extended heads (repeated unseen)) (sym h.known ∙ known) in
     record {
       rest = h.rest;
       ending = subst (λ (r : PlainRow). Ends r.ending h.rest) same h.ending;
@@ -110,7 +111,7 @@ of_opened G sets fs (OfType t ∷ Result x ∷ Id s ∷ Word n ∷ os) en
     (AreOf.more _ _ _ _ k (AreOf.more _ _ _ _ l (of_from G (sets s) (signature_of (sets s) n) 0 fs os en a))))
 of_opened G sets fs os en a = a
 
-abbrev opened_by : (ℕ → Set) → PlainInst → PlainInst
+abbrev pub opened_by : (ℕ → Set) → PlainInst → PlainInst
 opened_by sets i = record { opcode = i.opcode; operands = opened_operands sets i.operands }
 
 has_opened : (G : Table) (sets : ℕ → Set) (i : PlainInst) (fs : List Form) → i.opcode ≡ EXT_INST → HasForms G i fs
@@ -140,6 +141,36 @@ has_closed G sets i fs e h =
       each = subst (λ gs. AreOf G gs i.operands) (sym c.same)
           (of_opened G sets c.rest i.operands c.ending
           (subst (λ gs. AreOf G gs (opened_operands sets i.operands)) c.same h.each));
+    }
+
+-- It takes no values, opened or not.
+
+none_behind : (fs : List Form) (os : List Plain) → Ends (repeated unseen) fs → used_in fs os ≡ []
+none_behind _ os (Ends.done _) = refl
+none_behind _ [] (Ends.again _ fs en) = refl
+none_behind _ (o ∷ os) (Ends.again _ fs en) = none_behind fs os en
+
+none_among : (fs : List Form) (os : List Plain) → Ends (repeated unseen) fs → used_in (heads ++ fs) os ≡ []
+none_among fs [] en = refl
+none_among fs (a ∷ []) en = refl
+none_among fs (a ∷ b ∷ []) en = refl
+none_among fs (a ∷ b ∷ c ∷ []) en = refl
+none_among fs (a ∷ b ∷ c ∷ d ∷ os) en = none_behind fs os en
+
+no_values : (G : Table) (i : PlainInst) (fs : List Form) → i.opcode ≡ EXT_INST → HasForms G i fs
+    → used_in fs i.operands ≡ []
+no_values G i fs e h =
+    let c = called G i fs e h in
+    subst (λ gs. used_in gs i.operands ≡ []) (sym c.same) (none_among c.rest i.operands c.ending)
+
+pub values_closed : (G : Table) (sets : ℕ → Set) (i : PlainInst) (xs : List ℕ) → i.opcode ≡ EXT_INST
+    → AreValues G (opened_by sets i) xs → AreValues G i xs
+values_closed G sets i xs e v =
+    let h = has_closed G sets i v.forms e v.has in
+    record {
+      forms = v.forms;
+      has = h;
+      values = no_values G i v.forms e h ∙ (sym (no_values G (opened_by sets i) v.forms e v.has) ∙ v.values);
     }
 
 pub fits : (G : Table) (sets : ℕ → Set) (i : PlainInst) → FitsShape G (opened_inst sets i) → FitsShape G i

@@ -1,8 +1,8 @@
 -- What stands beside a condition of Y5 that fails: operands and types. [own]
-use Rattle.std.specs.Prelude.{◌+◌, ◌++◌, ℕ, List, [], Option, Some, None, option_and_then}
-use Rattle.std.specs.Prelude.{option_map, option_to_list, slice_get, unwrap_or, ◌∷◌, ◌||◌, Bool, false, not}
+use Rattle.std.specs.Prelude.{◌+◌, ◌-◌, ◌++◌, ℕ, List, [], Option, Some, None, option_and_then}
+use Rattle.std.specs.Prelude.{option_map, option_to_list, slice_get, unwrap_or, ◌∷◌, ◌||◌, Bool, true, false, not}
 use Rattle.std.specs.Prelude.{if◌then◌else◌, nat_eq, nat_lt}
-use Rattle.spv_module.specs.Operand.{Plain, PlainInst, Word}
+use Rattle.spv_module.specs.Operand.{Plain, PlainInst, Mask, Word}
 use Rattle.spv_type_forms.specs.Operands.{ids_in, after_head, words_in}
 use Rattle.spv_type_forms.specs.Parts.{part_of}
 use Rattle.spv_evidence.specs.Reads.{inner_of, reads}
@@ -22,6 +22,7 @@ use Rattle.spv_evidence.specs.Values.{types_in}
 use Rattle.spv_conditions.specs.Path.{reached_by, stop_at}
 use Rattle.spv_evidence.specs.Path.{path_by}
 use Rattle.spv_conditions.specs.Rest.{both_sizes}
+use Rattle.spv_conditions.specs.Block.{after_block, function_type_of}
 
 -- the condition of Y5 by its name
 abbrev pub condition_of : Rest → Condition
@@ -42,6 +43,26 @@ condition_of (rest.Share k) = condition.Share
 condition_of rest.Filled = condition.Filled
 condition_of rest.Count = condition.Count
 condition_of (rest.Part k) = condition.Part
+condition_of rest.CastClass = condition.CastClass
+condition_of rest.Scan = condition.Scan
+condition_of rest.Cluster = condition.Cluster
+condition_of rest.ClusterSize = condition.ClusterSize
+condition_of (rest.Constant k) = condition.Constant
+condition_of rest.Packed = condition.Packed
+condition_of (rest.ImageMask k) = condition.ImageMask
+condition_of rest.ImageSample = condition.ImageSample
+condition_of (rest.ImageSign s) = condition.ImageSign
+condition_of (rest.ImageOperands k) = condition.ImageOperands
+condition_of rest.Extended = condition.Extended
+condition_of rest.ModeIds = condition.ModeIds
+condition_of rest.DecorationIds = condition.DecorationIds
+condition_of rest.Texts = condition.Texts
+condition_of rest.Group = condition.Group
+condition_of rest.NoMoreGroups = condition.NoMoreGroups
+condition_of rest.Members = condition.Members
+condition_of (rest.Block k) = condition.Block
+condition_of (rest.LocalSizes k) = condition.LocalSizes
+condition_of (rest.Locals k) = condition.Locals
 
 abbrev pub condition_in : Asked → Condition
 condition_in (asked.Operands result values) = condition.Operands
@@ -64,6 +85,23 @@ abbrev pub first_odd : ℕ → ℕ → List Plain → Option ℕ
 first_odd n j [] = None
 first_odd n j (o ∷ os) = if is_odd n o then Some j else first_odd n (j + 1) os
 
+-- whether an operand is a mask; the number of the first that is, from j on [3.14]
+abbrev pub is_mask_operand : Plain → Bool
+is_mask_operand (Mask k m) = true
+is_mask_operand o = false
+
+abbrev pub first_mask : ℕ → List Plain → Option ℕ
+first_mask j [] = None
+first_mask j (o ∷ os) = if is_mask_operand o then Some j else first_mask (j + 1) os
+
+-- the function of the block whose first value has that number: its operand is the one before the value's; its function
+-- type [3.49.21 OpEnqueueKernel]
+abbrev pub number_before : List Value → ℕ → Option ℕ
+number_before vs k = option_map (λ n. n - 1) (number_at vs (seat.Value k))
+
+abbrev pub function_type_at : List PlainInst → PlainInst → ℕ → Option ℕ
+function_type_at is i k = option_and_then (function_type_of is) (slice_get (ids_in (after_head i.operands)) k)
+
 -- the operand at which something else fails, where it is one
 abbrev pub operand_of : List PlainInst → PlainInst → List Value → Rest → Option ℕ
 operand_of is i vs rest.Weights = Some 3
@@ -83,6 +121,26 @@ operand_of is i vs (rest.Part k) = number_at vs (seat.Value k)
 operand_of is i vs rest.Several = Some 0
 operand_of is i vs rest.Filled = Some 0
 operand_of is i vs rest.Count = Some 0
+operand_of is i vs rest.CastClass = Some 3
+operand_of is i vs rest.Scan = Some 3
+operand_of is i vs rest.Cluster = Some 3
+operand_of is i vs rest.ClusterSize = number_at vs (seat.Value 2)
+operand_of is i vs (rest.Constant k) = number_at vs (seat.Value k)
+operand_of is i vs rest.Packed = number_at vs (seat.Value 0)
+operand_of is i vs (rest.ImageMask k) = first_mask 0 i.operands
+operand_of is i vs rest.ImageSample = number_at vs (seat.Value 0)
+operand_of is i vs (rest.ImageSign s) = number_at vs s
+operand_of is i vs (rest.ImageOperands k) = first_mask 0 i.operands
+operand_of is i vs rest.Extended = Some 2
+operand_of is i vs rest.ModeIds = None
+operand_of is i vs rest.DecorationIds = None
+operand_of is i vs rest.Texts = None
+operand_of is i vs rest.Group = Some 0
+operand_of is i vs rest.NoMoreGroups = None
+operand_of is i vs rest.Members = None
+operand_of is i vs (rest.Block k) = number_before vs k
+operand_of is i vs (rest.LocalSizes k) = None
+operand_of is i vs (rest.Locals k) = number_before vs k
 
 abbrev pub operand_in : List PlainInst → PlainInst → List Value → Asked → Option ℕ
 operand_in is i vs (asked.Operands result values) = None
@@ -92,23 +150,25 @@ operand_in is i vs (asked.Rest q) = operand_of is i vs q
 
 -- the type that is found, and the one that is wanted, where the condition compares two
 abbrev pub found_of : List PlainInst → PlainInst → Option ℕ → List ℕ → Rest → Option ℕ
-found_of is i r types rest.Weights = None
 found_of is i r types rest.StorageClass = r
-found_of is i r types rest.ClassHere = None
-found_of is i r types rest.Initializer = None
 found_of is i r types rest.InitializerType = slice_get types 0
 found_of is i r types (rest.Chosen element k) = led_by is element (ids_in (after_head i.operands)) types k
 found_of is i r types (rest.Leads element) = r
-found_of is i r types rest.Indexes = None
 found_of is i r types (rest.Within k) = option_map (reached_by is (words_in i.operands)) (slice_get types k)
 found_of is i r types (rest.Reached s k) = type_at r types s
 found_of is i r types rest.ComponentCount = r
-found_of is i r types rest.Component = None
 found_of is i r types (rest.Share k) = slice_get types k
 found_of is i r types (rest.Part k) = slice_get types k
 found_of is i r types rest.Several = r
 found_of is i r types rest.Filled = r
 found_of is i r types rest.Count = r
+found_of is i r types rest.CastClass = r
+found_of is i r types rest.ClusterSize = slice_get types 2
+found_of is i r types rest.Packed = slice_get types 0
+found_of is i r types rest.ImageSample = slice_get types 0
+found_of is i r types (rest.ImageSign s) = type_at r types s
+found_of is i r types rest.Extended = r
+found_of is i r types _ = None
 
 abbrev pub found_in : List PlainInst → PlainInst → Option ℕ → List ℕ → Asked → Option ℕ
 found_in is i r types (asked.Operands result values) = None
@@ -117,23 +177,12 @@ found_in is i r types (asked.Relation q s t) = type_at r types s
 found_in is i r types (asked.Rest q) = found_of is i r types q
 
 abbrev pub wanted_of : List PlainInst → PlainInst → Option ℕ → List ℕ → Rest → Option ℕ
-wanted_of is i r types rest.Weights = None
-wanted_of is i r types rest.StorageClass = None
-wanted_of is i r types rest.ClassHere = None
-wanted_of is i r types rest.Initializer = None
 wanted_of is i r types rest.InitializerType = inner_of is r
-wanted_of is i r types (rest.Chosen element k) = None
 wanted_of is i r types (rest.Leads element) = led_to is element (ids_in (after_head i.operands)) types
-wanted_of is i r types rest.Indexes = None
-wanted_of is i r types (rest.Within k) = None
 wanted_of is i r types (rest.Reached s k) = option_map (reached_by is (words_in i.operands)) (slice_get types k)
-wanted_of is i r types rest.ComponentCount = None
-wanted_of is i r types rest.Component = None
 wanted_of is i r types (rest.Share k) = inner_of is r
 wanted_of is i r types (rest.Part k) = option_and_then (λ t. part_of is t k) r
-wanted_of is i r types rest.Several = None
-wanted_of is i r types rest.Filled = None
-wanted_of is i r types rest.Count = None
+wanted_of is i r types _ = None
 
 abbrev pub wanted_in : List PlainInst → PlainInst → Option ℕ → List ℕ → Asked → Option ℕ
 wanted_in is i r types (asked.Operands result values) = None
@@ -154,10 +203,15 @@ read_of is i r types (rest.Within k) = path_from is i types k
 read_of is i r types (rest.Reached s k) = path_from is i types k ++ option_to_list (type_at r types s)
 read_of is i r types rest.Component = option_to_list r ++ types
 read_of is i r types rest.Filled = option_to_list r ++ types
+read_of is i r types (rest.ImageOperands k) = option_to_list r ++ types
+read_of is i r types rest.Packed = option_to_list r ++ reads is None (slice_get types 0)
 read_of is i r types (rest.Share k) = option_to_list r ++ option_to_list (slice_get types k)
     ++ option_to_list (inner_of is r)
 read_of is i r types (rest.Part k) = option_to_list r ++ option_to_list (slice_get types k)
     ++ option_to_list (option_and_then (λ t. part_of is t k) r)
+read_of is i r types (rest.Block k) = option_to_list (function_type_at is i k) ++ option_to_list (slice_get types k)
+read_of is i r types (rest.LocalSizes k) = after_block k types
+read_of is i r types (rest.Locals k) = option_to_list (function_type_at is i k)
 read_of is i r types q = reads is (wanted_of is i r types q) (found_of is i r types q)
 
 abbrev pub read_in : List PlainInst → PlainInst → Option ℕ → List ℕ → Asked → List ℕ

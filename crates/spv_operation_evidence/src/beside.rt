@@ -5,12 +5,12 @@ ghost use Rattle.spv_module.specs.Module.{plain_inst};
 ghost use Rattle.spv_operation_evidence.specs.Beside as spec;
 
 use crate::rest::{condition_of, found_of, operand_of, wanted_of};
-use spv_conditions::{Asked, Rest, Seat, part_of, type_at};
+use spv_conditions::{Asked, Rest, Seat, after_block, front_id, function_type, part_of, type_at};
 use spv_evidence::{
     Condition, Value, inner_of, path_by, read_chosen, read_led, reads, reads_within, with_type,
 };
 use spv_module::Inst;
-use spv_type_forms::Definitions;
+use spv_type_forms::{Definitions, after_head};
 use std::alloc::{AllocError, Global};
 
 /// The result type, if there is one, and the types of all values.
@@ -132,6 +132,32 @@ fn with_part(
     with_type(read, part)
 }
 
+/// The function type of the block whose first value has a number.
+fn function_type_at(definitions: &Definitions, inst: &Inst, k: u32) -> Option<u32>
+    ensures { result ≡ spec.function_type_at definitions.now (plain_inst inst.now) k }
+{
+    function_type(
+        definitions,
+        front_id(after_head(inst.operands.as_slice()), k)?,
+    )
+}
+
+/// That, and the type of the first value of the block.
+fn block_types(
+    alloc: Global,
+    definitions: &Definitions,
+    inst: &Inst,
+    types: &[u32],
+    k: u32,
+) -> Result<Vec<u32>, AllocError>
+    ensures { IfOk result (λ v. v.items
+        ≡ option_to_list (spec.function_type_at definitions.now (plain_inst inst.now) k)
+        ++ option_to_list (slice_get types.now k)) }
+{
+    let read = with_type(Vec::new(alloc), function_type_at(definitions, inst, k))?;
+    with_type(read, type_at(None, types, Seat::Value(k)))
+}
+
 /// The types that something else reads.
 fn read_of(
     alloc: Global,
@@ -156,7 +182,11 @@ fn read_of(
             read_chosen(alloc, definitions, inst, types, element, index as usize)
         }
         Rest::Leads { element } => read_led(alloc, definitions, inst, r, types, element),
-        Rest::Component | Rest::Filled => all_types(alloc, r, types),
+        Rest::Component | Rest::Filled | Rest::ImageOperands(_) => all_types(alloc, r, types),
+        Rest::Packed => {
+            let found = type_at(r, types, Seat::Value(0));
+            reads_within(alloc, definitions, r, None, found)
+        }
         Rest::Share(k) => with_part(alloc, r, types, k, inner_of(definitions, r)),
         Rest::Part(k) => with_part(alloc, r, types, k, part_of(definitions, r, k)),
         Rest::Within { from } => path_from(alloc, definitions, inst, types, from),
@@ -164,6 +194,9 @@ fn read_of(
             let read = path_from(alloc, definitions, inst, types, from)?;
             with_type(read, type_at(r, types, of))
         }
+        Rest::Block(k) => block_types(alloc, definitions, inst, types, k),
+        Rest::LocalSizes(k) => all_types(alloc, None, after_block(types, k)),
+        Rest::Locals(k) => with_type(Vec::new(alloc), function_type_at(definitions, inst, k)),
         _ => {
             let wanted = wanted_of(definitions, inst, r, types, rest);
             let found = found_of(definitions, inst, r, types, rest);

@@ -1,4 +1,4 @@
-//! The literals that are no numbers of components.
+//! Operands by what they are: literals that are no numbers of components, and masks.
 
 ghost use Rattle.std.specs.Prelude.{◌≡◌, ◌<◌, length};
 ghost use Rattle.spv_module.specs.Module.{plain_operand, plain_operands};
@@ -24,6 +24,31 @@ pub fn first_odd(n: u64, operands: &[Operand]) -> Option<u32>
     let mut number = 0;
     for operand in operands {
         if is_odd(n, *operand) {
+            return Some(number);
+        }
+        number += 1;
+    }
+    None
+}
+
+/// Whether an operand is a mask.
+fn is_mask_operand(operand: Operand<'_>) -> bool
+    ensures { result ≡ beside.is_mask_operand (plain_operand operand.entry) }
+{
+    match operand {
+        Operand::Mask { .. } => true,
+        _ => false,
+    }
+}
+
+/// The number of the first operand that is a mask.
+pub fn first_mask(operands: &[Operand]) -> Option<u32>
+    requires { length operands.now < 4294967296 }
+    ensures { result ≡ beside.first_mask 0 (plain_operands operands.now) }
+{
+    let mut number = 0;
+    for operand in operands {
+        if is_mask_operand(*operand) {
             return Some(number);
         }
         number += 1;

@@ -10,7 +10,7 @@ ghost use Rattle.spv_evidence.specs.Values.{types_in};
 ghost use Rattle.spv_operation_evidence.specs.Beside as spec;
 
 use crate::beside::number_at;
-use crate::components::first_odd;
+use crate::components::{first_mask, first_odd};
 use spv_conditions::{
     Rest, Seat, both_sizes, first_index, led_by, led_to, part_of, reached_in, stop_at, type_at,
 };
@@ -48,6 +48,26 @@ pub fn condition_of(rest: Rest) -> Condition
         Rest::Filled => Condition::Filled,
         Rest::Count => Condition::Count,
         Rest::Part(_) => Condition::Part,
+        Rest::CastClass => Condition::CastClass,
+        Rest::Scan => Condition::Scan,
+        Rest::Cluster => Condition::Cluster,
+        Rest::ClusterSize => Condition::ClusterSize,
+        Rest::Constant(_) => Condition::Constant,
+        Rest::Packed => Condition::Packed,
+        Rest::ImageMask(_) => Condition::ImageMask,
+        Rest::ImageSample => Condition::ImageSample,
+        Rest::ImageSign(_) => Condition::ImageSign,
+        Rest::ImageOperands(_) => Condition::ImageOperands,
+        Rest::Extended => Condition::Extended,
+        Rest::ModeIds => Condition::ModeIds,
+        Rest::DecorationIds => Condition::DecorationIds,
+        Rest::Texts => Condition::Texts,
+        Rest::Group => Condition::Group,
+        Rest::NoMoreGroups => Condition::NoMoreGroups,
+        Rest::Members => Condition::Members,
+        Rest::Block(_) => Condition::Block,
+        Rest::LocalSizes(_) => Condition::LocalSizes,
+        Rest::Locals(_) => Condition::Locals,
     }
 }
 
@@ -71,6 +91,16 @@ fn index_operand(values: &[Value], element: bool, index: u32) -> Option<u32>
     }
 }
 
+/// The number of the operand before a value.
+fn number_before(values: &[Value], k: u32) -> Option<u32>
+    ensures { result ≡ spec.number_before values.now k }
+{
+    match number_at(values, Seat::Value(k)) {
+        Some(number) => Some(number.saturating_sub(1)),
+        None => None,
+    }
+}
+
 /// The number of the operand at which it fails.
 pub fn operand_of(
     definitions: &Definitions,
@@ -82,14 +112,22 @@ pub fn operand_of(
 {
     match rest {
         Rest::Weights | Rest::Initializer | Rest::InitializerType => Some(3),
-        Rest::StorageClass | Rest::ClassHere => Some(2),
+        Rest::CastClass | Rest::Scan | Rest::Cluster => Some(3),
+        Rest::StorageClass | Rest::ClassHere | Rest::Extended => Some(2),
         Rest::Chosen { element, index } => index_operand(values, element, index),
-        Rest::Leads { .. } => Some(0),
+        Rest::Leads { .. } | Rest::Group => Some(0),
         Rest::Indexes => None,
         Rest::Within { from } => stop_in(definitions, inst, values, from),
         Rest::Reached { of, .. } => number_at(values, of),
         Rest::ComponentCount | Rest::Several | Rest::Filled | Rest::Count => Some(0),
-        Rest::Share(k) | Rest::Part(k) => number_at(values, Seat::Value(k)),
+        Rest::Share(k) | Rest::Part(k) | Rest::Constant(k) => number_at(values, Seat::Value(k)),
+        Rest::ClusterSize => number_at(values, Seat::Value(2)),
+        Rest::Packed | Rest::ImageSample => number_at(values, Seat::Value(0)),
+        Rest::ImageSign(of) => number_at(values, of),
+        Rest::ImageMask(_) | Rest::ImageOperands(_) => first_mask(inst.operands.as_slice()),
+        Rest::ModeIds | Rest::DecorationIds | Rest::Texts => None,
+        Rest::NoMoreGroups | Rest::Members | Rest::LocalSizes(_) => None,
+        Rest::Block(k) | Rest::Locals(k) => number_before(values, k),
         Rest::Component => first_odd(both_sizes_of(definitions, values), inst.operands.as_slice()),
     }
 }
@@ -105,18 +143,18 @@ pub fn found_of(
     ensures { result ≡ spec.found_of definitions.now (plain_inst inst.now) r types.now rest }
 {
     match rest {
-        Rest::Weights | Rest::ClassHere | Rest::Initializer => None,
-        Rest::StorageClass | Rest::Leads { .. } => r,
+        Rest::StorageClass | Rest::CastClass | Rest::Leads { .. } | Rest::Extended => r,
         Rest::InitializerType => type_at(r, types, Seat::Value(0)),
         Rest::Chosen { element, index } => {
             led_by(definitions, inst, types, element, index as usize)
         }
-        Rest::Indexes => None,
         Rest::Within { from } => reached_in(definitions, inst, types, from),
-        Rest::Reached { of, .. } => type_at(r, types, of),
+        Rest::Reached { of, .. } | Rest::ImageSign(of) => type_at(r, types, of),
         Rest::ComponentCount | Rest::Several | Rest::Filled | Rest::Count => r,
         Rest::Share(k) | Rest::Part(k) => type_at(r, types, Seat::Value(k)),
-        Rest::Component => None,
+        Rest::ClusterSize => type_at(r, types, Seat::Value(2)),
+        Rest::Packed | Rest::ImageSample => type_at(r, types, Seat::Value(0)),
+        _ => None,
     }
 }
 
@@ -131,15 +169,11 @@ pub fn wanted_of(
     ensures { result ≡ spec.wanted_of definitions.now (plain_inst inst.now) r types.now rest }
 {
     match rest {
-        Rest::Weights | Rest::StorageClass | Rest::ClassHere => None,
-        Rest::Initializer | Rest::Chosen { .. } => None,
         Rest::InitializerType => inner_of(definitions, r),
         Rest::Leads { element } => led_to(definitions, inst, types, element),
-        Rest::Indexes => None,
-        Rest::Within { .. } => None,
         Rest::Reached { from, .. } => reached_in(definitions, inst, types, from),
-        Rest::ComponentCount | Rest::Component | Rest::Several | Rest::Filled | Rest::Count => None,
         Rest::Share(_) => inner_of(definitions, r),
         Rest::Part(k) => part_of(definitions, r, k),
+        _ => None,
     }
 }

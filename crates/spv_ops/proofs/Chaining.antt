@@ -27,6 +27,8 @@ chosen_same is t x (Some (form.Array a b)) = refl
 chosen_same is t x (Some form.Opaque) = refl
 chosen_same is t x (Some (form.Pointer a b)) = refl
 chosen_same is t x (Some form.Function) = refl
+chosen_same is t x (Some (form.Object o)) = refl
+chosen_same is t x (Some (form.SampledImage i)) = refl
 
 led_same : (is : List PlainInst) (xs : List ℕ) (t : ℕ) → led_from is xs t ≡ choices is xs t
 led_same is [] t = refl

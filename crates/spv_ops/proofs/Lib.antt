@@ -1,11 +1,13 @@
 mod TagTests
 mod TwoTypes
 pub mod Rows
+pub mod Parting
 pub mod Chaining
 pub mod Pointing
 pub mod Constructed
 pub mod Parts
 pub mod ValuePlaces
+pub mod Enqueued
 pub mod Judged
 mod Worked
 mod CommonRows

@@ -1,6 +1,6 @@
 -- *Typed* by its parts, and the lines that the code decides in its own ways.
 use Rattle.std.proofs.Common.{◌≡◌, ◌∙◌, ◌↔◌, ◌≤◌, ◌<◌, ◌+◌, ◌⊎◌, inl, inr, ℕ, List, [], ◌∷◌, Option, Some, None, true}
-use Rattle.std.proofs.Common.{false, refl, length, arith}
+use Rattle.std.proofs.Common.{false, Bool, not, ◌&&◌, if◌then◌else◌, refl, length, arith}
 use Rattle.std.specs.Prelude.{IsSomeAnd}
 use Rattle.std.specs.List.{AllByRecursion}
 use Rattle.std.proofs.lemmas.Bool.{leb-true}
@@ -22,11 +22,17 @@ use Rattle.spv_conditions.specs.declared.condition.Relation.TheVariants as relat
 use Rattle.spv_conditions.specs.declared.seat.Seat.TheVariants as seat
 use Rattle.spv_conditions.specs.Variable.{initializers_in}
 use Rattle.spv_conditions.specs.Condition.{Holds}
+use Rattle.spv_conditions.specs.Group.{enumerant_in}
+use Rattle.spv_conditions.specs.declared.asked.Texels.{Texels}
+use Rattle.spv_conditions.specs.declared.asked.Texels.TheVariants as texels
+use Rattle.spv_conditions.specs.Texels.{mask_in, has_bit, count_if, is_known, fits_use, values_end, IsMasked}
+use Rattle.spv_type_forms.proofs.Opcodes.{both}
 use Rattle.spv_conditions.specs.Rest.{RestHolds}
 use Rattle.spv_conditions.specs.Asks.{HoldsOf, conditions_in}
 use Rattle.spv_ops.specs.declared.table.Places.{Places}
 use Rattle.spv_ops.specs.declared.table.Places.TheVariants as places
 use Rattle.spv_ops.specs.Table.{lines, places_of, asks_of}
+use Rattle.spv_ops.specs.Values.{others_from}
 use Rattle.spv_ops.specs.inner.Table.{first_of}
 use Rattle.spv_ops.specs.inner.Typed.{IsTypedIn, IsTypedBy}
 use Rattle.spv_ops.specs.inner.Common.{Combines, Loads, Stores, IsCondition}
@@ -35,6 +41,8 @@ use Rattle.spv_ops.specs.inner.Composite.{Constructs}
 use Rattle.spv_ops.specs.inner.Declares.{DeclaresVariable}
 use Rattle.spv_ops.specs.inner.Wide.{AreSame, IsWide, binary_of, is_counted}
 use Rattle.spv_ops.proofs.Rows.{asks_first, places_first, many_first, pairs_first, initializers_first}
+use Rattle.spv_ops.proofs.Rows.{enqueued_first}
+use Rattle.spv_ops.proofs.Enqueued.{enqueue_line, enqueue_holds, holds_enqueue}
 use Rattle.spv_ops.proofs.Chaining.{chain_chosen, chain_leads, element_chosen, element_leads}
 use Rattle.spv_ops.proofs.Pointing.{chain_line, element_line, phi_line, variable_line, construct_line, chains_hold}
 use Rattle.spv_ops.proofs.Pointing.{elements_hold, hold_chains, hold_elements, no_chain, no_elements, same_hold}
@@ -61,12 +69,58 @@ typed_by is n i p line r os e f g h = rw (e, f, g, h) (λ k. k, λ k. k)
 
 -- A line that says how many values there are holds of no other number of them.
 
+clusters_few : (o : Option ℕ) (n : ℕ)
+    → IsSomeAnd o (λ (g : ℕ). ((g ≤ 2) × (n ≡ 2)) ⊎ ((g ≡ 3) × (n ≡ 3))) → n ≤ 3
+clusters_few None n h = absurd h
+clusters_few (Some g) n (inl h) = let e : n ≡ 2 = h.1 in omega (arith, e)
+clusters_few (Some g) n (inr h) = let e : n ≡ 3 = h.1 in omega (arith, e)
+
+few_sampled : (a b c d : Bool) → ((if a then not b else b) && not d) ≡ true
+    → (((2 + count_if a 1) + count_if b 2) + count_if c 1) + count_if d 1 ≤ 6
+few_sampled true true c d h = cc
+few_sampled true false c true h = cc
+few_sampled true false true false h = omega arith
+few_sampled true false false false h = omega arith
+few_sampled false false c d h = cc
+few_sampled false true c true h = cc
+few_sampled false true true false h = omega arith
+few_sampled false true false false h = omega arith
+
+few_read : (n : ℕ) (a b c d : Bool) → n ≤ 3 → not b ≡ true
+    → (((n + count_if a 1) + count_if b 2) + count_if c 1) + count_if d 1 ≤ 6
+few_read n a true c d l h = cc
+few_read n true false true true l h = omega (arith, l)
+few_read n true false true false l h = omega (arith, l)
+few_read n true false false true l h = omega (arith, l)
+few_read n true false false false l h = omega (arith, l)
+few_read n false false true true l h = omega (arith, l)
+few_read n false false true false l h = omega (arith, l)
+few_read n false false false true l h = omega (arith, l)
+few_read n false false false false l h = omega (arith, l)
+
+few_by : (k : Texels) (m : ℕ) → fits_use k m ≡ true → values_end k m ≤ 6
+few_by texels.Sampled m h = few_sampled (has_bit m 2) (has_bit m 4) (has_bit m 8) (has_bit m 64) h
+few_by texels.Read m h = few_read 2 (has_bit m 2) (has_bit m 4) (has_bit m 8) (has_bit m 64) (omega arith) h
+few_by texels.Written m h = few_read 3 (has_bit m 2) (has_bit m 4) (has_bit m 8) (has_bit m 64) (omega arith) h
+
+masked_few : (k : Texels) (ts : List ℕ) (m : ℕ) → IsMasked k ts m → length ts ≤ 6
+masked_few k ts m h =
+    let fits = both (fits_use k m) (not (has_bit m 4096 && has_bit m 8192))
+    (both (is_known m) (fits_use k m && not (has_bit m 4096 && has_bit m 8192)) h.0).1 in
+    let few : values_end k m ≤ 6 = few_by k m fits.0 in
+    let all : length ts ≡ values_end k m = h.1 in
+    omega (arith, few, all)
+
 pub too_long : (is : List PlainInst) (n : ℕ) (i : PlainInst) (r : Option ℕ) (line : List Asks) (o : Option (List ℕ))
     → is_counted line ≡ true → ((ts : List ℕ) → o ≡ Some ts → 6 < length ts)
     → ¬ (IsSomeAnd o (λ ts. AllByRecursion (HoldsOf is n i r ts) (conditions_in line (length ts))))
 too_long is n i r line None c l = λ h. h
 too_long is n i r (asks.Once (asked.Operands b k) ∷ line) (Some ts) c l = λ h. let more = l ts refl in
     let few : k ≤ 6 = leb-true k 6 c in let same : length ts ≡ k = h.0.1 in absurd (omega (arith, more, few, same))
+too_long is n i r (asks.Once (asked.Rest beside.Cluster) ∷ line) (Some ts) c l = λ h. let more = l ts refl in
+    let few : length ts ≤ 3 = clusters_few (enumerant_in i.operands) (length ts) h.0 in absurd (omega (arith, more, few))
+too_long is n i r (asks.Once (asked.Rest (beside.ImageMask k)) ∷ line) (Some ts) c l = λ h. let more = l ts refl in
+    let few : length ts ≤ 6 = masked_few k ts (mask_in i.operands) h.0 in absurd (omega (arith, more, few))
 too_long is n i r line (Some ts) c l = absurd (let no : is_counted line ≡ true = c in cc)
 
 -- The lines that most instructions have.
@@ -233,17 +287,24 @@ construct_first : asks_of opcode.COMPOSITE_CONSTRUCT ≡ construct_line
 unfolding lines
 construct_first = refl
 
+enqueue_first : asks_of opcode.ENQUEUE_KERNEL ≡ enqueue_line
+unfolding lines
+enqueue_first = refl
+
 -- a place of values of any number
 abbrev pub IsWidePlace : Places → Type 0
 IsWidePlace places.Many = Unit {0}
 IsWidePlace places.Pairs = Unit {0}
 IsWidePlace places.Initializers = Unit {0}
+IsWidePlace places.Enqueued = Unit {0}
 IsWidePlace p = ⊥
 
-pub wide_place : (p : Places) → (p ≡ places.Many) ⊎ (p ≡ places.Pairs) ⊎ (p ≡ places.Initializers) → IsWidePlace p
+pub wide_place : (p : Places)
+    → (p ≡ places.Many) ⊎ (p ≡ places.Pairs) ⊎ (p ≡ places.Initializers) ⊎ (p ≡ places.Enqueued) → IsWidePlace p
 wide_place p (inl e) = rw e tt
 wide_place p (inr (inl e)) = rw e tt
-wide_place p (inr (inr e)) = rw e tt
+wide_place p (inr (inr (inl e))) = rw e tt
+wide_place p (inr (inr (inr e))) = rw e tt
 
 abbrev Told : List PlainInst → ℕ → PlainInst → ℕ → ℕ → Places → List Asks → Type 0
 Told is n i first r p line =
@@ -267,6 +328,12 @@ wide_told is n i first r places.Initializers e f w =
     (some_iff (DeclaresVariable is n r (after_head i.operands))
     (λ ts. AllByRecursion (HoldsOf is n i (Some r) ts) (conditions_in variable_line (length ts)))
     (variable_told is n i r) (types_of is (initializers_in (after_head i.operands))))
+wide_told is n i first r places.Enqueued e f w =
+    let g = enqueued_first i.opcode f in
+    let xs = ids_in (after_head i.operands) in
+    by_line is n i first opcode.ENQUEUE_KERNEL r places.Enqueued enqueue_line (e ∙ g)
+    (asks_first i.opcode opcode.ENQUEUE_KERNEL g ∙ enqueue_first)
+    (enqueue_holds is n i r xs refl, holds_enqueue is n i r xs refl)
 wide_told is n i first r places.Many e f w = elim (many_first i.opcode f) [
   | inl g ↦ by_line is n i first opcode.ACCESS_CHAIN r places.Many chain_line (e ∙ g)
       (asks_first i.opcode opcode.ACCESS_CHAIN g ∙ chain_first)
@@ -306,6 +373,10 @@ wide_result is n i places.Pairs f w =
 wide_result is n i places.Initializers f w =
     without is n i variable_line (types_of is (initializers_in (after_head i.operands))) (λ ts h. h.0)
     (asks_first i.opcode opcode.VARIABLE (initializers_first i.opcode f) ∙ variable_first)
+wide_result is n i places.Enqueued f w =
+    without is n i enqueue_line (types_of is (others_from 6 0 (ids_in (after_head i.operands))))
+    (λ ts h. h.1.1.1.1.1.1.1.1.1.1.1.1.0)
+    (asks_first i.opcode opcode.ENQUEUE_KERNEL (enqueued_first i.opcode f) ∙ enqueue_first)
 wide_result is n i places.Many f w = elim (many_first i.opcode f) [
   | inl g ↦ without is n i chain_line (types_of is (ids_in (after_head i.operands)))
       (λ ts. no_chain is (RestHolds is n i None ts) ts) (asks_first i.opcode opcode.ACCESS_CHAIN g ∙ chain_first)

@@ -236,3 +236,32 @@ pub no_same : (is : List PlainInst) (R : Rest → Type 0) (ts : List ℕ)
     → AllByRecursion (Holds is R None ts) (conditions_in phi_line (length ts)) → ⊥
 no_same is R ts h = (latter (Holds is R None ts) (each_from each.Same 0 (length ts))
     (asked.Kind kind.Data seat.Result ∷ []) h).0
+
+-- no ids are no chain
+
+pub none_chains : (is : List PlainInst) (r : ℕ) (xs : List ℕ) (o : Option (List ℕ)) → xs ≡ []
+    → IsSomeAnd o (λ types. Chains is r types xs) → ⊥
+none_chains is r [] None e h = h
+none_chains is r [] (Some []) e h = h
+none_chains is r [] (Some (t ∷ ts)) e h = h
+none_chains is r (x ∷ xs) o e h = cc
+
+pub none_elements : (is : List PlainInst) (r : ℕ) (xs : List ℕ) (o : Option (List ℕ)) → xs ≡ []
+    → IsSomeAnd o (λ types. ChainsByElement is r types xs) → ⊥
+none_elements is r [] None e h = h
+none_elements is r [] (Some []) e h = h
+none_elements is r [] (Some (t ∷ [])) e h = h
+none_elements is r [] (Some (t ∷ u ∷ ts)) e h = h
+none_elements is r (x ∷ xs) o e h = cc
+
+-- what holds beside of some list holds with it
+
+pub with_three : {A B C : Type 0} → (P : List ℕ → Type 0) (o : Option (List ℕ)) → A × B × C
+    → (IsSomeAnd o P → IsSomeAnd o (λ ts. A × B × C × P ts)) × (IsSomeAnd o (λ ts. A × B × C × P ts) → IsSomeAnd o P)
+with_three P None h = (λ k. k, λ k. k)
+with_three P (Some ts) h = (λ k. (h.0, h.1, h.2, k), λ k. k.3)
+
+pub not_three : {A B C : Type 0} → (P : List ℕ → Type 0) (o : Option (List ℕ))
+    → IsSomeAnd o (λ ts. A × B × C × P ts) → A × B × C
+not_three P None h = absurd h
+not_three P (Some ts) h = (h.0, h.1, h.2)

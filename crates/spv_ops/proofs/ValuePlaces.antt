@@ -1,15 +1,17 @@
 -- Where the code looks for value operands is where the rows of the table of shapes have them.
-use Rattle.std.proofs.Common.{◌≡◌, ◌≢◌, ◌++◌, ◌&&◌, ◌||◌, ℕ, not, List, [], ◌∷◌, Some, Bool, true, false, if◌then◌else◌}
-use Rattle.std.proofs.Common.{take, refl, sym, ap, ◌∙◌}
+use Rattle.std.proofs.Common.{◌≡◌, ◌≢◌, ◌+◌, ◌<◌, ◌++◌, ◌&&◌, ◌||◌, ℕ, zero, suc, nat_eq, not, List, [], ◌∷◌, Some, Bool, true, false, if◌then◌else◌}
+use Rattle.std.proofs.Common.{take, refl, sym, ap, ◌∙◌, arith}
+use Rattle.std.proofs.lemmas.Bool.{eq-eqb, eqb-true}
 use Rattle.spv_table.specs.Table.{Table}
 use Rattle.spv_module.specs.Operand.{Plain, PlainInst}
 use Rattle.spv_module.specs.Operand as operand
 use Rattle.spv_layout.specs.declared.form.Form.{Form}
 use Rattle.spv_layout.specs.declared.form.Form.TheVariants as form
+use Rattle.spv_layout.specs.declared.form.Role.{Role}
 use Rattle.spv_layout.specs.declared.form.Role.TheVariants as role
 use Rattle.spv_layout.specs.declared.form.Named.TheVariants as kind
 use Rattle.spv_layout.specs.Row.{PlainRow, RowEnding, closed, maybe, file_and_text, repeated, others, maybe_others}
-use Rattle.spv_layout.specs.Row.{row_in}
+use Rattle.spv_layout.specs.Row.{row_in, maybe_repeated}
 use Rattle.spv_layout.specs.Rows.{rows}
 use Rattle.spv_layout.specs.Shape.{is_of, AreOf, Ends, HasForms}
 use Rattle.spv_ops.specs.declared.table.Places.{Places}
@@ -19,7 +21,15 @@ use Rattle.spv_type_forms.specs.Operands.{ids_in, after_head}
 use Rattle.spv_type_forms.proofs.Opcodes.{both, and_yes, all_pass, one_passes}
 use Rattle.spv_type_forms.specs.Values.{value_in, used_in, paired_ids_in}
 use Rattle.spv_conditions.specs.Variable.{initializers_in}
-use Rattle.spv_ops.specs.Values.{value_ids, values_of}
+use Rattle.spv_conditions.specs.Group.{all_ids_in}
+use Rattle.spv_ops.specs.Values.{others_from, value_ids, values_of}
+
+differ_by : (b : Bool) (n m : ℕ) → nat_eq n m ≡ b → (n ≡ m → ⊥) → b ≡ false
+differ_by true n m e other = absurd (other (eqb-true n m e))
+differ_by false n m e other = refl
+
+differ : (n m : ℕ) → (n ≡ m → ⊥) → nat_eq n m ≡ false
+differ n m other = differ_by (nat_eq n m) n m refl other
 
 -- Tests of forms.
 abbrev is_value : Form → Bool
@@ -213,6 +223,7 @@ is_free_ending file_and_text = true
 is_free_ending (repeated fs) = have_no_value fs
 is_free_ending others = true
 is_free_ending (maybe_others f) = not (is_value f)
+is_free_ending (maybe_repeated f g) = not (is_value f) && not (is_value g)
 
 no_value_append : (fs gs : List Form) → have_no_value fs ≡ true → have_no_value gs ≡ true
     → have_no_value (fs ++ gs) ≡ true
@@ -239,6 +250,11 @@ free_ending others gs h e = free_others gs e
 free_ending (maybe_others f) gs h (Ends.no_kind _) = refl
 free_ending (maybe_others f) gs h (Ends.kind _ hs e) =
     and_yes (not (is_value f)) (have_no_value hs) h (free_others hs e)
+free_ending (maybe_repeated f g) gs h (Ends.no_first _ _) = refl
+free_ending (maybe_repeated f g) gs h (Ends.first _ _ hs e) =
+    let two = both (not (is_value f)) (not (is_value g)) h in
+    and_yes (not (is_value f)) (have_no_value hs) two.0
+    (free_ending (repeated (g ∷ [])) hs (and_yes (not (is_value g)) true two.1 refl) e)
 
 no_id_no_value : (f : Form) → is_no_id f ≡ true → is_value f ≡ false
 no_id_no_value form.OfType h = cc
@@ -274,11 +290,12 @@ is_plain_list (f ∷ g ∷ fs) = false
 
 abbrev is_plain_ending : RowEnding → Bool
 is_plain_ending closed = true
-is_plain_ending (maybe f) = is_value f
+is_plain_ending (maybe f) = is_value f || is_no_id f
 is_plain_ending file_and_text = false
 is_plain_ending (repeated fs) = is_plain_list fs
 is_plain_ending others = false
 is_plain_ending (maybe_others f) = is_no_id f
+is_plain_ending (maybe_repeated f g) = false
 
 one_more : (f : Form) (hs : List Form) (b : Bool) → is_value f ≡ b → b || is_no_id f ≡ true → are_front hs ≡ true
     → (is_value f ≡ false → have_no_value hs ≡ true) → are_front (f ∷ hs) ≡ true
@@ -298,7 +315,7 @@ plain_repeated f gs h (Ends.again _ hs e) =
 plain_ending : (e : RowEnding) (gs : List Form) → is_plain_ending e ≡ true → Ends e gs → are_front gs ≡ true
 plain_ending closed gs h Ends.nothing = refl
 plain_ending (maybe f) gs h (Ends.absent _) = refl
-plain_ending (maybe f) gs h (Ends.present _) = front_value f [] h refl
+plain_ending (maybe f) gs h (Ends.present _) = one_more f [] (is_value f) refl h refl (λ e. refl)
 plain_ending file_and_text gs h e = cc
 plain_ending (repeated []) gs h e = cc
 plain_ending (repeated (f ∷ [])) gs h e = plain_repeated f gs h e
@@ -306,6 +323,7 @@ plain_ending (repeated (f ∷ g ∷ fs)) gs h e = cc
 plain_ending others gs h e = cc
 plain_ending (maybe_others f) gs h (Ends.no_kind _) = refl
 plain_ending (maybe_others f) gs h (Ends.kind _ hs e) = front_other f hs h (free_others hs e)
+plain_ending (maybe_repeated f g) gs h e = cc
 
 abbrev is_plain : List Form → RowEnding → Bool
 is_plain [] e = is_plain_ending e
@@ -364,6 +382,14 @@ a_class (form.Kind kind.FunctionControl) h = cc
 a_class (form.Kind kind.MemoryAccess) h = cc
 a_class (form.Kind kind.LoopControl) h = cc
 a_class (form.Kind kind.SelectionControl) h = cc
+a_class (form.Kind kind.Dim) h = cc
+a_class (form.Kind kind.ImageFormat) h = cc
+a_class (form.Kind kind.AccessQualifier) h = cc
+a_class (form.Kind kind.SamplerAddressingMode) h = cc
+a_class (form.Kind kind.SamplerFilterMode) h = cc
+a_class (form.Kind kind.GroupOperation) h = cc
+a_class (form.Kind kind.PackedVectorFormat) h = cc
+a_class (form.Kind kind.ImageOperands) h = cc
 a_class form.Other h = cc
 
 a_value : (G : Table) (o : Plain) → is_of G (form.Kind kind.StorageClass) o ≡ true → (k x : ℕ) × (o ≡ operand.Value k x)
@@ -449,6 +475,7 @@ phi_used G [] gs (repeated (f ∷ g ∷ [])) os h n a =
 phi_used G [] gs (repeated (f ∷ g ∷ k ∷ fs)) os h n a = cc
 phi_used G [] gs others os h n a = cc
 phi_used G [] gs (maybe_others f) os h n a = cc
+phi_used G [] gs (maybe_repeated f g) os h n a = cc
 phi_used G (f ∷ fs) gs e os h n a = cc
 
 -- one value, and no other
@@ -468,6 +495,143 @@ one_used G (f ∷ fs) gs e (o ∷ os) h n (AreOf.more _ _ _ _ i a) =
     rw (same, x.1) (ap (λ xs. x.0 ∷ xs) (none_used G (fs ++ gs) os
     (no_value_append fs gs more.0 (free_ending e gs more.1 n))))
 
+-- values, and what is no id, in any order
+abbrev is_around : Form → Bool
+is_around f = is_value f || is_no_id f
+
+abbrev are_around : List Form → Bool
+are_around [] = true
+are_around (f ∷ fs) = is_around f && are_around fs
+
+abbrev is_around_ending : RowEnding → Bool
+is_around_ending closed = true
+is_around_ending (maybe f) = is_around f
+is_around_ending file_and_text = false
+is_around_ending (repeated fs) = are_around fs
+is_around_ending others = false
+is_around_ending (maybe_others f) = false
+is_around_ending (maybe_repeated f g) = is_around f && is_around g
+
+around_append : (fs gs : List Form) → are_around fs ≡ true → are_around gs ≡ true → are_around (fs ++ gs) ≡ true
+around_append [] gs h k = k
+around_append (f ∷ fs) gs h k =
+    let two = both (is_around f) (are_around fs) h in
+    and_yes (is_around f) (are_around (fs ++ gs)) two.0 (around_append fs gs two.1 k)
+
+around_ending : (e : RowEnding) (gs : List Form) → is_around_ending e ≡ true → Ends e gs → are_around gs ≡ true
+around_ending closed gs h Ends.nothing = refl
+around_ending (maybe f) gs h (Ends.absent _) = refl
+around_ending (maybe f) gs h (Ends.present _) = and_yes (is_around f) true h refl
+around_ending file_and_text gs h e = cc
+around_ending (repeated fs) gs h (Ends.done _) = refl
+around_ending (repeated fs) gs h (Ends.again _ hs e) = around_append fs hs h (around_ending (repeated fs) hs h e)
+around_ending others gs h e = cc
+around_ending (maybe_others f) gs h e = cc
+around_ending (maybe_repeated f g) gs h (Ends.no_first _ _) = refl
+around_ending (maybe_repeated f g) gs h (Ends.first _ _ hs e) =
+    let two = both (is_around f) (is_around g) h in
+    and_yes (is_around f) (are_around hs) two.0
+    (around_ending (repeated (g ∷ [])) hs (and_yes (is_around g) true two.1 refl) e)
+
+other_ids : (o : Plain) (os : List Plain) → ids_in (o ∷ os) ≡ [] → all_ids_in (o ∷ os) ≡ all_ids_in os
+other_ids (operand.OfType a) os h = refl
+other_ids (operand.Result a) os h = refl
+other_ids (operand.Id a) os h = cc
+other_ids (operand.Word a) os h = refl
+other_ids (operand.Argument a) os h = refl
+other_ids (operand.Mention a) os h = refl
+other_ids (operand.Number a b w) os h = refl
+other_ids (operand.Text a) os h = refl
+other_ids (operand.Value a b) os h = refl
+other_ids (operand.Mask a b) os h = refl
+
+around_more : (G : Table) (f : Form) (fs : List Form) (o : Plain) (os : List Plain) (b : Bool) → is_value f ≡ b
+    → b || is_no_id f ≡ true → is_of G f o ≡ true → used_in fs os ≡ all_ids_in os
+    → used_in (f ∷ fs) (o ∷ os) ≡ all_ids_in (o ∷ os)
+around_more G f fs o os true e h i rest =
+    let same : f ≡ form.Id role.Value = is_it f e in
+    let x = an_id G o (rw (← same) i) in
+    rw (same, x.1) (ap (λ xs. x.0 ∷ xs) rest)
+around_more G f fs o os false e h i rest =
+    let none : value_in f o ≡ [] = no_value f o e in
+    rw none (rest ∙ sym (other_ids o os (not_an_id G f o os h i)))
+
+around_used : (G : Table) (fs : List Form) (os : List Plain) → are_around fs ≡ true → AreOf G fs os
+    → used_in fs os ≡ all_ids_in os
+around_used G [] [] h AreOf.none = refl
+around_used G [] (o ∷ os) h a = elim a [ ]
+around_used G (f ∷ fs) [] h a = elim a [ ]
+around_used G (f ∷ fs) (o ∷ os) h (AreOf.more _ _ _ _ i a) =
+    let two = both (is_around f) (are_around fs) h in
+    around_more G f fs o os (is_value f) refl two.0 i (around_used G fs os two.1 a)
+
+-- values, a function after so many of them, and values
+abbrev is_function : Form → Bool
+is_function (form.Id role.Function) = true
+is_function _ = false
+
+its_function : (f : Form) → is_function f ≡ true → f ≡ form.Id role.Function
+its_function form.OfType h = cc
+its_function form.Result h = cc
+its_function form.Word h = cc
+its_function form.Number h = cc
+its_function form.Text h = cc
+its_function (form.Id role.OfType) h = cc
+its_function (form.Id role.Value) h = cc
+its_function (form.Id role.Function) h = refl
+its_function (form.Id role.Text) h = cc
+its_function (form.Id role.Set) h = cc
+its_function (form.Id role.Label) h = cc
+its_function (form.Id role.Global) h = cc
+its_function (form.Id role.Any) h = cc
+its_function form.Unseen h = cc
+its_function (form.Kind k) h = cc
+its_function form.Other h = cc
+
+a_function : (G : Table) (o : Plain) → is_of G (form.Id role.Function) o ≡ true → (x : ℕ) × (o ≡ operand.Id x)
+a_function G (operand.OfType a) h = cc
+a_function G (operand.Result a) h = cc
+a_function G (operand.Id a) h = (a, refl)
+a_function G (operand.Word a) h = cc
+a_function G (operand.Argument a) h = cc
+a_function G (operand.Mention a) h = cc
+a_function G (operand.Number a b w) h = cc
+a_function G (operand.Text a) h = cc
+a_function G (operand.Value a b) h = cc
+a_function G (operand.Mask a b) h = cc
+
+abbrev is_beside : ℕ → List Form → RowEnding → Bool
+is_beside k [] e = false
+is_beside zero (f ∷ fs) e = is_function f && is_plain fs e
+is_beside (suc k) (f ∷ fs) e = is_value f && is_beside k fs e
+
+-- ids past the one that is left out
+pub past : (k n : ℕ) (xs : List ℕ) → k < n → others_from k n xs ≡ xs
+past k n [] l = refl
+past k n (x ∷ xs) l =
+    let other : nat_eq n k ≡ false = differ n k (λ e. omega (arith, e, l)) in
+    rw other (ap (λ ys. x ∷ ys) (past k (n + 1) xs (omega (arith, l))))
+
+beside_used : (G : Table) (j k n : ℕ) (fs gs : List Form) (e : RowEnding) (os : List Plain) → k ≡ n + j
+    → is_beside j fs e ≡ true → Ends e gs → AreOf G (fs ++ gs) os
+    → used_in (fs ++ gs) os ≡ others_from k n (ids_in os)
+beside_used G j k n [] gs e os q h m a = cc
+beside_used G j k n (f ∷ fs) gs e [] q h m a = elim a [ ]
+beside_used G zero k n (f ∷ fs) gs e (o ∷ os) q h m (AreOf.more _ _ _ _ i a) =
+    let two = both (is_function f) (is_plain fs e) h in
+    let same : f ≡ form.Id role.Function = its_function f two.0 in
+    let x = a_function G o (rw (← same) i) in
+    let here : nat_eq n k ≡ true = eq-eqb n k (omega (arith, q)) in
+    rw (same, x.1) (rw here (plain_used G fs gs e os two.1 m a
+    ∙ sym (past k (n + 1) (ids_in os) (omega (arith, q)))))
+beside_used G (suc j) k n (f ∷ fs) gs e (o ∷ os) q h m (AreOf.more _ _ _ _ i a) =
+    let two = both (is_value f) (is_beside j fs e) h in
+    let same : f ≡ form.Id role.Value = is_it f two.0 in
+    let x = an_id G o (rw (← same) i) in
+    let other : nat_eq n k ≡ false = differ n k (λ p. omega (arith, p, q)) in
+    rw (same, x.1) (rw other (ap (λ xs. x.0 ∷ xs)
+    (beside_used G j k (n + 1) fs gs e os (omega (arith, q)) two.1 m a)))
+
 -- Whether a row of types looks for its values where forms and an ending, without the type and the result, have them.
 abbrev agrees : Places → List Form → RowEnding → Bool
 agrees places.Free fs e = false
@@ -477,6 +641,9 @@ agrees places.Pairs fs e = is_phi fs e
 agrees places.One fs e = is_one fs e
 agrees places.Ids fs e = is_plain fs e
 agrees places.Many fs e = is_plain fs e
+agrees places.Around fs e = are_around fs && is_around_ending e
+agrees (places.Beside k) fs e = is_beside k fs e
+agrees places.Enqueued fs e = is_beside 6 fs e
 
 agreed : (G : Table) (r : Places) (fs gs : List Form) (e : RowEnding) (os : List Plain) → agrees r fs e ≡ true
     → Ends e gs → AreOf G (fs ++ gs) os
@@ -490,6 +657,11 @@ agreed G places.Pairs fs gs e os h n a = phi_used G fs gs e os h n a
 agreed G places.One fs gs e os h n a = one_used G fs gs e os h n a
 agreed G places.Ids fs gs e os h n a = plain_used G fs gs e os h n a
 agreed G places.Many fs gs e os h n a = plain_used G fs gs e os h n a
+agreed G places.Around fs gs e os h n a =
+    let two = both (are_around fs) (is_around_ending e) h in
+    around_used G (fs ++ gs) os (around_append fs gs two.0 (around_ending e gs two.1 n)) a
+agreed G (places.Beside k) fs gs e os h n a = beside_used G k k 0 fs gs e os (omega arith) h n a
+agreed G places.Enqueued fs gs e os h n a = beside_used G 6 6 0 fs gs e os (omega arith) h n a
 
 -- The forms without the type and the result: where a row has these first, or has a value first.
 abbrev is_type : Form → Bool
@@ -536,6 +708,34 @@ its_result form.Unseen h = cc
 its_result (form.Kind k) h = cc
 its_result form.Other h = cc
 
+-- an id in any role
+abbrev is_use : Form → Bool
+is_use (form.Id r) = true
+is_use _ = false
+
+an_any : (G : Table) (r : Role) (o : Plain) → is_of G (form.Id r) o ≡ true → (x : ℕ) × (o ≡ operand.Id x)
+an_any G r (operand.OfType a) h = cc
+an_any G r (operand.Result a) h = cc
+an_any G r (operand.Id a) h = (a, refl)
+an_any G r (operand.Word a) h = cc
+an_any G r (operand.Argument a) h = cc
+an_any G r (operand.Mention a) h = cc
+an_any G r (operand.Number a b w) h = cc
+an_any G r (operand.Text a) h = cc
+an_any G r (operand.Value a b) h = cc
+an_any G r (operand.Mask a b) h = cc
+
+a_use : (G : Table) (f : Form) (o : Plain) → is_use f ≡ true → is_of G f o ≡ true → (x : ℕ) × (o ≡ operand.Id x)
+a_use G form.OfType o e h = cc
+a_use G form.Result o e h = cc
+a_use G form.Word o e h = cc
+a_use G form.Number o e h = cc
+a_use G form.Text o e h = cc
+a_use G (form.Id r) o e h = an_any G r o h
+a_use G form.Unseen o e h = cc
+a_use G (form.Kind k) o e h = cc
+a_use G form.Other o e h = cc
+
 -- a test of a row of types against forms and an ending
 abbrev is_free : Places → Bool
 is_free places.Free = true
@@ -543,17 +743,16 @@ is_free _ = false
 
 abbrev agrees_whole : Places → List Form → RowEnding → Bool
 agrees_whole r [] e = false
-agrees_whole r (f ∷ []) e = is_value f && agrees r (f ∷ []) e
-agrees_whole r (f ∷ g ∷ fs) e = (is_type f && (is_result g && agrees r fs e)) || (is_value f && agrees r (f ∷ g ∷ fs) e)
+agrees_whole r (f ∷ []) e = is_use f && agrees r (f ∷ []) e
+agrees_whole r (f ∷ g ∷ fs) e = (is_type f && (is_result g && agrees r fs e)) || (is_use f && agrees r (f ∷ g ∷ fs) e)
 
 value_first : (G : Table) (r : Places) (f : Form) (fs gs : List Form) (e : RowEnding) (os : List Plain)
-    → is_value f && agrees r (f ∷ fs) e ≡ true → Ends e gs → AreOf G (f ∷ (fs ++ gs)) os
+    → is_use f && agrees r (f ∷ fs) e ≡ true → Ends e gs → AreOf G (f ∷ (fs ++ gs)) os
     → used_in (f ∷ (fs ++ gs)) os ≡ value_ids r (after_head os)
 value_first G r f fs gs e [] h n a = elim a [ ]
 value_first G r f fs gs e (o ∷ os) h n (AreOf.more _ _ _ _ i a) =
-    let two = both (is_value f) (agrees r (f ∷ fs) e) h in
-    let same : f ≡ form.Id role.Value = is_it f two.0 in
-    let x = an_id G o (rw (← same) i) in
+    let two = both (is_use f) (agrees r (f ∷ fs) e) h in
+    let x = a_use G f o two.0 i in
     let front : after_head (o ∷ os) ≡ o ∷ os = rw x.1 refl in
     agreed G r (f ∷ fs) gs e (o ∷ os) two.1 n (AreOf.more f o (fs ++ gs) os i a) ∙ ap (value_ids r) (sym front)
 
@@ -573,7 +772,7 @@ head_first G r f g fs gs e (o ∷ p ∷ os) h n (AreOf.more _ _ _ _ i (AreOf.mor
 
 whole_two : (G : Table) (r : Places) (f g : Form) (fs gs : List Form) (e : RowEnding) (os : List Plain) (b : Bool)
     → is_type f && (is_result g && agrees r fs e) ≡ b
-    → b || (is_value f && agrees r (f ∷ g ∷ fs) e) ≡ true → Ends e gs → AreOf G (f ∷ g ∷ (fs ++ gs)) os
+    → b || (is_use f && agrees r (f ∷ g ∷ fs) e) ≡ true → Ends e gs → AreOf G (f ∷ g ∷ (fs ++ gs)) os
     → used_in (f ∷ g ∷ (fs ++ gs)) os ≡ value_ids r (after_head os)
 whole_two G r f g fs gs e os true y h n a = head_first G r f g fs gs e os y n a
 whole_two G r f g fs gs e os false y h n a = value_first G r f (g ∷ fs) gs e os h n a
@@ -602,6 +801,9 @@ freed places.Pairs b h n = h
 freed places.One b h n = h
 freed places.Ids b h n = h
 freed places.Many b h n = h
+freed places.Around b h n = h
+freed (places.Beside k) b h n = h
+freed places.Enqueued b h n = h
 
 -- The code's places of value operands are those of the instruction's forms.
 pub values_agree : (G : Table) (i : PlainInst) (fs : List Form) → HasForms G i fs → places_of i.opcode ≢ places.Free

@@ -1,11 +1,11 @@
 -- The table of types: what an opcode asks, where there is a line for it. [own: Y5]
-use Rattle.std.specs.Prelude.{ℕ, List, [], ◌∷◌, Bool, false, nat_le, ◌&&◌, ◌||◌, if◌then◌else◌}
+use Rattle.std.specs.Prelude.{◌++◌, ℕ, List, [], ◌∷◌, Bool, false, nat_le, ◌&&◌, ◌||◌, if◌then◌else◌}
 use Rattle.spv_conditions.specs.declared.asked.Asks.{Asks}
 use Rattle.spv_conditions.specs.declared.asked.Asked.{Asked}
 use Rattle.spv_conditions.specs.Asks.{conditions_in}
 use Rattle.spv_ops.specs.declared.table.Places.{Places}
 use Rattle.spv_ops.specs.declared.table.Places.TheVariants.{Free}
-use Rattle.spv_ops.specs.declared.table.TheConstants.{TABLE}
+use Rattle.spv_ops.specs.declared.table.TheConstants.{TABLE, FURTHER, OBJECTS}
 
 -- a line: its opcodes, each from one to another, where their value operands stand, and what is asked
 abbrev pub Line : Type 0
@@ -20,9 +20,9 @@ abbrev pub line_in : List Line → ℕ → Line
 line_in [] n = (record { now = [] }, Free, record { now = [] })
 line_in (l ∷ ls) n = if is_among l.0.now n then l else line_in ls n
 
--- the table of src/table.rt
+-- the table of src/table.rt, with its further parts
 unfoldable pub lines : List Line
-lines = TABLE
+lines = TABLE ++ (FURTHER ++ OBJECTS)
 
 abbrev pub line_of : ℕ → Line
 line_of n = line_in lines n

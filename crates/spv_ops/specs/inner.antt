@@ -7,3 +7,4 @@ pub mod Composite
 pub mod Chain
 pub mod Declares
 pub mod Wide
+pub mod Enqueue

@@ -2,7 +2,7 @@
 
 ghost use Rattle.std.specs.Prelude.{◌≡◌, ◌≢◌, ◌↔◌, ℕ, List, [], ◌∷◌, Some, None, slice_get};
 ghost use Rattle.spv_table.specs.Table.{Table};
-ghost use Rattle.spv_module.specs.Operand.{PlainInst, Word};
+ghost use Rattle.spv_module.specs.Operand.{Id, PlainInst, Word};
 ghost use Rattle.spv_module.specs.Example.{small as table};
 ghost use Rattle.spv_module.specs.declared.opcode.TheConstants as opcode;
 ghost use Rattle.spv_layout.specs.Shape.{FitsShape};
@@ -12,9 +12,10 @@ ghost use Rattle.spv_type_forms.specs.Operands.{ids_in, after_head};
 ghost use Rattle.spv_type_forms.specs.Values.{AreValues, types_of};
 ghost use Rattle.spv_ops.specs.declared.table.Places.TheVariants as places;
 ghost use Rattle.spv_ops.specs.Example.{add, add_floats, by_element, label, pointed_variable, to_member, variable};
-ghost use Rattle.spv_ops.specs.Example.{with_double};
+ghost use Rattle.spv_ops.specs.Example.{cast, clusters, packed, scan, swap, with_double, with_images, with_objects};
+ghost use Rattle.spv_ops.specs.Example.{count_groups, enqueue, mode_id, no_mode_id, sample, with_blocks, work_size};
 ghost use Rattle.spv_ops.specs.Table.{places_of};
-ghost use Rattle.spv_ops.specs.Values.{values_of};
+ghost use Rattle.spv_ops.specs.Values.{value_ids, values_of};
 ghost use Rattle.spv_ops.specs.Typed.{LineHolds, Typed, IsTyped, IsTypedAt};
 ghost use Rattle.spv_ops.specs.inner.Chain.{Chains, ChainsByElement};
 ghost use Rattle.spv_ops.specs.inner.Composite.{Constructs};
@@ -195,8 +196,207 @@ pub fn wide_examples()
     ensures no_choice { ¬ (LineHolds small 8 label opcode.SWITCH None (12 ∷ [])) }
 {}
 
-/// Value operands: those of an access chain are all its ids.
+/// What conversions, arithmetic and bits ask that OpenCL has besides. `%21` is a struct of two `%1`, `%22` a vector of
+/// four floats.
+#[tactic(auto, unfolding(crate::specs::Table::lines))]
+pub fn further_calculation_examples()
+    ensures quantize { LineHolds small 8 label opcode.QUANTIZE_TO_F16 (Some 2) (2 ∷ []) }
+    ensures wide_quantize { ¬ (LineHolds with_double 8 label opcode.QUANTIZE_TO_F16 (Some 21) (21 ∷ [])) }
+    ensures saturate { LineHolds small 8 label opcode.SAT_CONVERT_S_TO_U (Some 14) (1 ∷ []) }
+    ensures other_count { ¬ (LineHolds small 8 label opcode.SAT_CONVERT_S_TO_U (Some 15) (3 ∷ [])) }
+    ensures cast { LineHolds small 8 cast opcode.GENERIC_CAST_TO_PTR_EXPLICIT (Some 4) (16 ∷ []) }
+    // Without a storage class.
+    ensures no_cast { ¬ (LineHolds small 8 label opcode.GENERIC_CAST_TO_PTR_EXPLICIT (Some 4) (16 ∷ [])) }
+    ensures scale { LineHolds with_objects 8 label opcode.VECTOR_TIMES_SCALAR (Some 22) (22 ∷ 2 ∷ []) }
+    ensures no_vector { ¬ (LineHolds with_objects 8 label opcode.VECTOR_TIMES_SCALAR (Some 2) (2 ∷ 2 ∷ [])) }
+    ensures dot { LineHolds with_objects 8 label opcode.DOT (Some 2) (22 ∷ 22 ∷ []) }
+    ensures int_dot { ¬ (LineHolds small 8 label opcode.DOT (Some 1) (3 ∷ 3 ∷ [])) }
+    ensures carry { LineHolds with_objects 8 label opcode.I_ADD_CARRY (Some 21) (1 ∷ 1 ∷ []) }
+    ensures other_pair { ¬ (LineHolds with_objects 8 label opcode.I_ADD_CARRY (Some 6) (1 ∷ 1 ∷ [])) }
+    ensures any { LineHolds small 8 label opcode.ANY (Some 12) (13 ∷ []) }
+    ensures any_int { ¬ (LineHolds small 8 label opcode.ANY (Some 12) (3 ∷ [])) }
+    ensures nan { LineHolds with_objects 8 label opcode.IS_NAN (Some 13) (22 ∷ []) }
+    ensures int_nan { ¬ (LineHolds with_objects 8 label opcode.IS_NAN (Some 13) (3 ∷ [])) }
+    ensures field { LineHolds small 8 label opcode.BIT_FIELD_INSERT (Some 3) (3 ∷ 3 ∷ 1 ∷ 14 ∷ []) }
+    ensures float_offset { ¬ (LineHolds small 8 label opcode.BIT_FIELD_INSERT (Some 3) (3 ∷ 3 ∷ 1 ∷ 2 ∷ [])) }
+    ensures extract { LineHolds small 8 label opcode.BIT_FIELD_S_EXTRACT (Some 3) (3 ∷ 1 ∷ 14 ∷ []) }
+    ensures other_field { ¬ (LineHolds small 8 label opcode.BIT_FIELD_S_EXTRACT (Some 3) (15 ∷ 1 ∷ 14 ∷ [])) }
+    // A vector of ints, or an int with a format.
+    ensures dot_ints { LineHolds small 8 label opcode.S_DOT (Some 14) (3 ∷ 3 ∷ []) }
+    ensures packed { LineHolds small 8 packed opcode.S_DOT (Some 1) (1 ∷ 1 ∷ []) }
+    ensures no_format { ¬ (LineHolds small 8 label opcode.S_DOT (Some 1) (1 ∷ 1 ∷ [])) }
+    ensures added { LineHolds small 8 label opcode.S_DOT_ACC_SAT (Some 14) (3 ∷ 3 ∷ 14 ∷ []) }
+    ensures other_sum { ¬ (LineHolds small 8 label opcode.S_DOT_ACC_SAT (Some 14) (3 ∷ 3 ∷ 1 ∷ [])) }
+{}
+
+/// What pointers, flags and groups ask.
+#[tactic(auto, unfolding(crate::specs::Table::lines))]
+pub fn group_examples()
+    ensures semantics { LineHolds small 8 label opcode.GENERIC_PTR_MEM_SEMANTICS (Some 1) (16 ∷ []) }
+    ensures named { ¬ (LineHolds small 8 label opcode.GENERIC_PTR_MEM_SEMANTICS (Some 1) (4 ∷ [])) }
+    ensures same { LineHolds small 8 label opcode.PTR_EQUAL (Some 12) (4 ∷ 4 ∷ []) }
+    ensures other_class { ¬ (LineHolds small 8 label opcode.PTR_EQUAL (Some 12) (4 ∷ 16 ∷ [])) }
+    ensures difference { LineHolds small 8 label opcode.PTR_DIFF (Some 14) (4 ∷ 4 ∷ []) }
+    ensures no_difference { ¬ (LineHolds small 8 label opcode.PTR_DIFF (Some 12) (4 ∷ 4 ∷ [])) }
+    ensures flag { LineHolds small 8 label opcode.ATOMIC_FLAG_TEST_AND_SET (Some 12) (17 ∷ 1 ∷ 1 ∷ []) }
+    ensures float_flag { ¬ (LineHolds small 8 label opcode.ATOMIC_FLAG_TEST_AND_SET (Some 12) (4 ∷ 1 ∷ 1 ∷ [])) }
+    ensures clear { LineHolds small 8 label opcode.ATOMIC_FLAG_CLEAR None (17 ∷ 1 ∷ 1 ∷ []) }
+    ensures float_clear { ¬ (LineHolds small 8 label opcode.ATOMIC_FLAG_CLEAR None (4 ∷ 1 ∷ 1 ∷ [])) }
+    ensures size { LineHolds with_objects 8 label opcode.SIZE_OF (Some 1) (4 ∷ []) }
+    ensures no_size { ¬ (LineHolds with_objects 8 label opcode.SIZE_OF (Some 1) (24 ∷ [])) }
+    ensures all { LineHolds small 8 label opcode.GROUP_ALL (Some 12) (1 ∷ 12 ∷ []) }
+    ensures all_ints { ¬ (LineHolds small 8 label opcode.GROUP_ALL (Some 1) (1 ∷ 1 ∷ [])) }
+    ensures broadcast { LineHolds small 8 label opcode.GROUP_BROADCAST (Some 13) (1 ∷ 13 ∷ 15 ∷ []) }
+    ensures wide_place { ¬ (LineHolds small 8 label opcode.GROUP_BROADCAST (Some 13) (1 ∷ 13 ∷ 3 ∷ [])) }
+    ensures scan { LineHolds small 8 scan opcode.GROUP_I_ADD (Some 1) (1 ∷ 1 ∷ []) }
+    ensures cluster_scan { ¬ (LineHolds small 8 clusters opcode.GROUP_I_ADD (Some 1) (1 ∷ 1 ∷ [])) }
+    ensures scan_floats { LineHolds small 8 scan opcode.GROUP_F_ADD (Some 2) (1 ∷ 2 ∷ []) }
+    ensures scan_ints { ¬ (LineHolds small 8 scan opcode.GROUP_F_ADD (Some 1) (1 ∷ 1 ∷ [])) }
+    ensures elect { LineHolds small 8 label opcode.GROUP_NON_UNIFORM_ELECT (Some 12) (1 ∷ []) }
+    ensures wide_scope { ¬ (LineHolds small 8 label opcode.GROUP_NON_UNIFORM_ELECT (Some 12) (14 ∷ [])) }
+    ensures equal { LineHolds small 8 label opcode.GROUP_NON_UNIFORM_ALL_EQUAL (Some 12) (1 ∷ 3 ∷ []) }
+    ensures equal_struct { ¬ (LineHolds small 8 label opcode.GROUP_NON_UNIFORM_ALL_EQUAL (Some 12) (1 ∷ 6 ∷ [])) }
+    ensures sent { LineHolds small 8 label opcode.GROUP_NON_UNIFORM_BROADCAST (Some 3) (1 ∷ 3 ∷ 14 ∷ []) }
+    ensures float_place { ¬ (LineHolds small 8 label opcode.GROUP_NON_UNIFORM_BROADCAST (Some 3) (1 ∷ 3 ∷ 2 ∷ [])) }
+    ensures first { LineHolds small 8 label opcode.GROUP_NON_UNIFORM_BROADCAST_FIRST (Some 3) (1 ∷ 3 ∷ []) }
+    ensures other { ¬ (LineHolds small 8 label opcode.GROUP_NON_UNIFORM_BROADCAST_FIRST (Some 3) (1 ∷ 15 ∷ [])) }
+{}
+
+/// What ballots and clusters ask: `%5` is a constant, `%8` none.
+#[tactic(auto, unfolding(crate::specs::Table::lines))]
+pub fn cluster_examples()
+    ensures ballot { LineHolds small 8 label opcode.GROUP_NON_UNIFORM_BALLOT (Some 3) (1 ∷ 12 ∷ []) }
+    ensures two { ¬ (LineHolds small 8 label opcode.GROUP_NON_UNIFORM_BALLOT (Some 15) (1 ∷ 12 ∷ [])) }
+    ensures inverse { LineHolds small 8 label opcode.GROUP_NON_UNIFORM_INVERSE_BALLOT (Some 12) (1 ∷ 3 ∷ []) }
+    ensures no_ballot { ¬ (LineHolds small 8 label opcode.GROUP_NON_UNIFORM_INVERSE_BALLOT (Some 12) (1 ∷ 15 ∷ [])) }
+    ensures bit { LineHolds small 8 label opcode.GROUP_NON_UNIFORM_BALLOT_BIT_EXTRACT (Some 12) (1 ∷ 3 ∷ 14 ∷ []) }
+    ensures float_bit { ¬ (LineHolds small 8 label
+        opcode.GROUP_NON_UNIFORM_BALLOT_BIT_EXTRACT (Some 12) (1 ∷ 3 ∷ 2 ∷ [])) }
+    ensures count { LineHolds small 8 scan opcode.GROUP_NON_UNIFORM_BALLOT_BIT_COUNT (Some 1) (1 ∷ 3 ∷ []) }
+    ensures no_count { ¬ (LineHolds small 8 clusters opcode.GROUP_NON_UNIFORM_BALLOT_BIT_COUNT (Some 1) (1 ∷ 3 ∷ [])) }
+    ensures find { LineHolds small 8 label opcode.GROUP_NON_UNIFORM_BALLOT_FIND_LSB (Some 14) (1 ∷ 3 ∷ []) }
+    ensures find_bool { ¬ (LineHolds small 8 label opcode.GROUP_NON_UNIFORM_BALLOT_FIND_LSB (Some 12) (1 ∷ 3 ∷ [])) }
+    ensures clusters { LineHolds small 8 clusters opcode.GROUP_NON_UNIFORM_I_ADD (Some 1) (1 ∷ 1 ∷ 1 ∷ []) }
+    ensures no_size { ¬ (LineHolds small 8 clusters opcode.GROUP_NON_UNIFORM_I_ADD (Some 1) (1 ∷ 1 ∷ [])) }
+    ensures whole { LineHolds small 8 scan opcode.GROUP_NON_UNIFORM_F_ADD (Some 2) (1 ∷ 2 ∷ []) }
+    ensures size { ¬ (LineHolds small 8 scan opcode.GROUP_NON_UNIFORM_F_ADD (Some 2) (1 ∷ 2 ∷ 1 ∷ [])) }
+    ensures logical { LineHolds small 8 scan opcode.GROUP_NON_UNIFORM_LOGICAL_AND (Some 13) (1 ∷ 13 ∷ []) }
+    ensures int_logical { ¬ (LineHolds small 8 scan opcode.GROUP_NON_UNIFORM_LOGICAL_AND (Some 3) (1 ∷ 3 ∷ [])) }
+    ensures swap { LineHolds small 8 (swap 5) opcode.GROUP_NON_UNIFORM_QUAD_SWAP (Some 1) (1 ∷ 1 ∷ 1 ∷ []) }
+    ensures no_constant { ¬ (LineHolds small 8 (swap 8) opcode.GROUP_NON_UNIFORM_QUAD_SWAP (Some 1) (1 ∷ 1 ∷ 1 ∷ [])) }
+{}
+
+/// What events, queues, pipes and named barriers ask: `%23` is an event type and `%24` a pointer to it, `%25` a device
+/// event type and `%32` a pointer to it, `%26` a reserve id type, `%27` a queue type, `%28` and `%29` types of pipes
+/// that are read and written, `%30` a pipe storage type, `%31` a named barrier type.
+#[tactic(auto, unfolding(crate::specs::Table::lines))]
+pub fn object_examples()
+    ensures wait { LineHolds with_objects 8 label opcode.GROUP_WAIT_EVENTS None (1 ∷ 1 ∷ 24 ∷ []) }
+    ensures no_events { ¬ (LineHolds with_objects 8 label opcode.GROUP_WAIT_EVENTS None (1 ∷ 1 ∷ 32 ∷ [])) }
+    ensures read { LineHolds with_objects 8 label opcode.READ_PIPE (Some 1) (28 ∷ 16 ∷ 1 ∷ 1 ∷ []) }
+    ensures read_written { ¬ (LineHolds with_objects 8 label opcode.READ_PIPE (Some 1) (29 ∷ 16 ∷ 1 ∷ 1 ∷ [])) }
+    ensures write { LineHolds with_objects 8 label opcode.WRITE_PIPE (Some 1) (29 ∷ 16 ∷ 1 ∷ 1 ∷ []) }
+    ensures write_read { ¬ (LineHolds with_objects 8 label opcode.WRITE_PIPE (Some 1) (28 ∷ 16 ∷ 1 ∷ 1 ∷ [])) }
+    ensures reserved { LineHolds with_objects 8 label
+        opcode.RESERVED_READ_PIPE (Some 1) (28 ∷ 26 ∷ 1 ∷ 16 ∷ 1 ∷ 1 ∷ []) }
+    ensures no_reserve { ¬ (LineHolds with_objects 8 label
+        opcode.RESERVED_READ_PIPE (Some 1) (28 ∷ 1 ∷ 1 ∷ 16 ∷ 1 ∷ 1 ∷ [])) }
+    ensures reserve { LineHolds with_objects 8 label
+        opcode.RESERVE_WRITE_PIPE_PACKETS (Some 26) (29 ∷ 1 ∷ 1 ∷ 1 ∷ []) }
+    ensures int_reserve { ¬ (LineHolds with_objects 8 label
+        opcode.RESERVE_WRITE_PIPE_PACKETS (Some 1) (29 ∷ 1 ∷ 1 ∷ 1 ∷ [])) }
+    ensures commit { LineHolds with_objects 8 label opcode.COMMIT_READ_PIPE None (28 ∷ 26 ∷ 1 ∷ 1 ∷ []) }
+    ensures no_commit { ¬ (LineHolds with_objects 8 label opcode.COMMIT_READ_PIPE None (28 ∷ 1 ∷ 1 ∷ 1 ∷ [])) }
+    ensures packets { LineHolds with_objects 8 label opcode.GET_NUM_PIPE_PACKETS (Some 1) (29 ∷ 1 ∷ 1 ∷ []) }
+    ensures no_packets { ¬ (LineHolds with_objects 8 label opcode.GET_NUM_PIPE_PACKETS (Some 1) (30 ∷ 1 ∷ 1 ∷ [])) }
+    ensures marker { LineHolds with_objects 8 label opcode.ENQUEUE_MARKER (Some 1) (27 ∷ 1 ∷ 32 ∷ 32 ∷ []) }
+    ensures no_marker { ¬ (LineHolds with_objects 8 label opcode.ENQUEUE_MARKER (Some 1) (27 ∷ 1 ∷ 32 ∷ 24 ∷ [])) }
+    ensures retain { LineHolds with_objects 8 label opcode.RETAIN_EVENT None (25 ∷ []) }
+    ensures retain_event { ¬ (LineHolds with_objects 8 label opcode.RETAIN_EVENT None (23 ∷ [])) }
+    ensures create { LineHolds with_objects 8 label opcode.CREATE_USER_EVENT (Some 25) [] }
+    ensures create_event { ¬ (LineHolds with_objects 8 label opcode.CREATE_USER_EVENT (Some 23) []) }
+    ensures profile { LineHolds with_objects 8 label opcode.CAPTURE_EVENT_PROFILING_INFO None (25 ∷ 1 ∷ 4 ∷ []) }
+    ensures no_profile { ¬ (LineHolds with_objects 8 label
+        opcode.CAPTURE_EVENT_PROFILING_INFO None (25 ∷ 1 ∷ 16 ∷ [])) }
+    ensures pipe { LineHolds with_objects 8 label opcode.CREATE_PIPE_FROM_PIPE_STORAGE (Some 28) (30 ∷ []) }
+    ensures no_pipe { ¬ (LineHolds with_objects 8 label opcode.CREATE_PIPE_FROM_PIPE_STORAGE (Some 28) (28 ∷ [])) }
+    ensures barrier { LineHolds with_objects 8 label opcode.MEMORY_NAMED_BARRIER None (31 ∷ 1 ∷ 1 ∷ []) }
+    ensures no_barrier { ¬ (LineHolds with_objects 8 label opcode.MEMORY_NAMED_BARRIER None (1 ∷ 1 ∷ 1 ∷ [])) }
+    // A queue is data, and is not selected.
+    ensures queue { LineHolds with_objects 8 label opcode.COPY_OBJECT (Some 27) (27 ∷ []) }
+    ensures no_choice { ¬ (LineHolds with_objects 8 label opcode.SELECT (Some 27) (12 ∷ 27 ∷ 27 ∷ [])) }
+{}
+
+/// What images ask, of types of the module `objects` of spv_type_forms, and more: `%4` is a type of images of two
+/// dimensions and `%5` its sampled image type, `%24` a sampler type; `%21` and `%23` are vectors of four and two floats,
+/// `%22` one of two ints; `%26` is a pointer to `%4`, `%25` one of the class Image to `%3`, a float.
+#[tactic(auto, unfolding(crate::specs::Table::lines))]
+pub fn image_examples()
+    ensures sampled { LineHolds with_images 8 label opcode.SAMPLED_IMAGE (Some 5) (4 ∷ 24 ∷ []) }
+    ensures no_image { ¬ (LineHolds with_images 8 label opcode.SAMPLED_IMAGE (Some 5) (6 ∷ 24 ∷ [])) }
+    ensures sample { LineHolds with_images 8 sample opcode.IMAGE_SAMPLE_EXPLICIT_LOD (Some 21) (5 ∷ 23 ∷ 3 ∷ []) }
+    ensures no_lod { ¬ (LineHolds with_images 8 label opcode.IMAGE_SAMPLE_EXPLICIT_LOD (Some 21) (5 ∷ 23 ∷ [])) }
+    ensures read { LineHolds with_images 8 label opcode.IMAGE_READ (Some 21) (4 ∷ 22 ∷ []) }
+    ensures float_place { ¬ (LineHolds with_images 8 label opcode.IMAGE_READ (Some 21) (4 ∷ 23 ∷ [])) }
+    ensures fetch { ¬ (LineHolds with_images 8 label opcode.IMAGE_FETCH (Some 21) (4 ∷ 22 ∷ [])) }
+    ensures write { LineHolds with_images 8 label opcode.IMAGE_WRITE None (4 ∷ 22 ∷ 21 ∷ []) }
+    ensures int_texel { ¬ (LineHolds with_images 8 label opcode.IMAGE_WRITE None (4 ∷ 22 ∷ 22 ∷ [])) }
+    ensures image { LineHolds with_images 8 label opcode.IMAGE (Some 4) (5 ∷ []) }
+    ensures other_image { ¬ (LineHolds with_images 8 label opcode.IMAGE (Some 6) (5 ∷ [])) }
+    ensures format { LineHolds with_images 8 label opcode.IMAGE_QUERY_FORMAT (Some 1) (4 ∷ []) }
+    ensures no_format { ¬ (LineHolds with_images 8 label opcode.IMAGE_QUERY_FORMAT (Some 1) (5 ∷ [])) }
+    ensures level_size { LineHolds with_images 8 label opcode.IMAGE_QUERY_SIZE_LOD (Some 22) (4 ∷ 1 ∷ []) }
+    ensures one_size { ¬ (LineHolds with_images 8 label opcode.IMAGE_QUERY_SIZE_LOD (Some 1) (4 ∷ 1 ∷ [])) }
+    ensures size { LineHolds with_images 8 label opcode.IMAGE_QUERY_SIZE (Some 22) (4 ∷ []) }
+    ensures no_size { ¬ (LineHolds with_images 8 label opcode.IMAGE_QUERY_SIZE (Some 22) (6 ∷ [])) }
+    ensures levels { LineHolds with_images 8 label opcode.IMAGE_QUERY_LEVELS (Some 1) (4 ∷ []) }
+    ensures no_levels { ¬ (LineHolds with_images 8 label opcode.IMAGE_QUERY_LEVELS (Some 1) (6 ∷ [])) }
+    ensures one_sample { ¬ (LineHolds with_images 8 label opcode.IMAGE_QUERY_SAMPLES (Some 1) (4 ∷ [])) }
+    ensures texel { LineHolds with_images 8 label opcode.IMAGE_TEXEL_POINTER (Some 25) (26 ∷ 22 ∷ 1 ∷ []) }
+    ensures no_texel { ¬ (LineHolds with_images 8 label opcode.IMAGE_TEXEL_POINTER (Some 26) (26 ∷ 22 ∷ 1 ∷ [])) }
+{}
+
+/// What copies of groups, ranges, and instructions outside blocks ask: `%28` and `%29` are pointers of Workgroup and
+/// CrossWorkgroup to `%3`, `%27` is an event type; `%2` is a size and `%10` the struct of a range; `%8` is a constant.
+#[tactic(auto, unfolding(crate::specs::Table::lines))]
+pub fn range_examples()
+    ensures copy { LineHolds with_images 8 label
+        opcode.GROUP_ASYNC_COPY (Some 27) (1 ∷ 28 ∷ 29 ∷ 2 ∷ 2 ∷ 27 ∷ []) }
+    ensures one_class { ¬ (LineHolds with_images 8 label
+        opcode.GROUP_ASYNC_COPY (Some 27) (1 ∷ 28 ∷ 28 ∷ 2 ∷ 2 ∷ 27 ∷ [])) }
+    ensures range { LineHolds with_images 8 label opcode.BUILD_ND_RANGE (Some 10) (2 ∷ 2 ∷ 2 ∷ []) }
+    ensures no_sizes { ¬ (LineHolds with_images 8 label opcode.BUILD_ND_RANGE (Some 10) (1 ∷ 1 ∷ 1 ∷ [])) }
+    ensures mode { LineHolds with_images 8 mode_id opcode.EXECUTION_MODE_ID None [] }
+    ensures no_id { ¬ (LineHolds with_images 8 no_mode_id opcode.EXECUTION_MODE_ID None []) }
+{}
+
+/// What the instructions of device enqueue ask: `%45` and `%50` are functions of blocks, with a size of local memory
+/// and without; `%42` is a pointer to bytes and `%43` one of Workgroup, `%46` a queue type, `%48` a pointer to device
+/// events, `%10` the struct of a range, and `%1` an int.
+#[tactic(auto, unfolding(crate::specs::Table::lines))]
+pub fn enqueue_examples()
+    ensures enqueue { LineHolds with_blocks 8 enqueue opcode.ENQUEUE_KERNEL (Some 1)
+        (46 ∷ 1 ∷ 10 ∷ 1 ∷ 48 ∷ 48 ∷ 42 ∷ 1 ∷ 1 ∷ 2 ∷ []) }
+    ensures no_size { ¬ (LineHolds with_blocks 8 enqueue opcode.ENQUEUE_KERNEL (Some 1)
+        (46 ∷ 1 ∷ 10 ∷ 1 ∷ 48 ∷ 48 ∷ 42 ∷ 1 ∷ 1 ∷ [])) }
+    ensures groups { LineHolds with_blocks 8 count_groups opcode.GET_KERNEL_ND_RANGE_SUB_GROUP_COUNT (Some 1)
+        (10 ∷ 42 ∷ 1 ∷ 1 ∷ []) }
+    ensures no_range { ¬ (LineHolds with_blocks 8 count_groups opcode.GET_KERNEL_ND_RANGE_SUB_GROUP_COUNT (Some 1)
+        (1 ∷ 42 ∷ 1 ∷ 1 ∷ [])) }
+    ensures size { LineHolds with_blocks 8 (work_size 50) opcode.GET_KERNEL_WORK_GROUP_SIZE (Some 1)
+        (42 ∷ 1 ∷ 1 ∷ []) }
+    ensures no_function { ¬ (LineHolds with_blocks 8 (work_size 46) opcode.GET_KERNEL_WORK_GROUP_SIZE (Some 1)
+        (42 ∷ 1 ∷ 1 ∷ [])) }
+    ensures for_count { LineHolds with_blocks 8 count_groups opcode.GET_KERNEL_LOCAL_SIZE_FOR_SUBGROUP_COUNT (Some 1)
+        (1 ∷ 42 ∷ 1 ∷ 1 ∷ []) }
+    ensures local_data { ¬ (LineHolds with_blocks 8 count_groups
+        opcode.GET_KERNEL_LOCAL_SIZE_FOR_SUBGROUP_COUNT (Some 1) (1 ∷ 43 ∷ 1 ∷ 1 ∷ [])) }
+{}
+
+/// Value operands: those of an access chain are all its ids; a function among them is none.
 pub fn value_examples()
+    ensures beside { value_ids (places.Beside 1) (Id 61 ∷ Id 50 ∷ Id 62 ∷ []) ≡ 61 ∷ 62 ∷ [] }
+    ensures not_beside { ¬ (value_ids (places.Beside 1) (Id 61 ∷ Id 50 ∷ []) ≡ 61 ∷ 50 ∷ []) }
     ensures chain { AreValues table to_member (8 ∷ 5 ∷ []) }
     ensures not_first { ¬ (AreValues table to_member (5 ∷ [])) }
 {}

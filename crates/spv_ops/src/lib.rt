@@ -1,9 +1,11 @@
 //! Which types an instruction asks for: the table of types.
 #![tactic(auto)]
 
+mod around;
 mod chain;
 mod common;
 mod construct;
+mod enqueue;
 mod laws;
 mod table;
 mod typed;

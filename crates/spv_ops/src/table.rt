@@ -4,11 +4,15 @@ ghost use Rattle.std.specs.Prelude.{◌≡◌, ◌<◌, ◌↔◌, IsTrue, lengt
 ghost use Rattle.spv_module.specs.Module.{plain_inst};
 ghost use Rattle.spv_ops.specs.Table as spec;
 ghost use Rattle.spv_ops.specs.Typed.{LineHolds};
-ghost use Rattle.spv_ops.specs.inner.Table.{asked_in, first_of, found_in, line};
+ghost use Rattle.spv_ops.specs.inner.Table.{asked_by, first_from, first_of, found_by, line, line_number};
+ghost use Rattle.spv_ops.specs.inner.Table.{number_among, numbered_at};
+ghost use Rattle.spv_ops.specs.declared.table.TheConstants.{FURTHER, OBJECTS, TABLE};
 
-use spv_conditions::{Asked, Asks, Each, Kind, Relation, Rest, Seat, first_failing, holds};
+use spv_conditions::{
+    Asked, Asks, Each, Images, Kind, Relation, Rest, Seat, Texels, first_failing, holds,
+};
 use spv_module::{Inst, opcode};
-use spv_type_forms::Definitions;
+use spv_type_forms::{Definitions, Object};
 
 /// Where the value operands of an instruction stand, in what follows the result type and the result.
 #[derive(Clone, Copy)]
@@ -27,6 +31,12 @@ pub enum Places {
     Pairs,
     /// They are the ids after the storage class of a variable.
     Initializers,
+    /// They are all ids, of which the opcode has six at most, whatever stands between them.
+    Around,
+    /// They are the ids at the front but for the one of that number, a function's; the opcode has a number of its own.
+    Beside(u32),
+    /// They are the ids at the front but for the seventh, a function's, any number.
+    Enqueued,
 }
 
 /// A line of the table as the code reads it: opcodes, each from one to another, where their value operands stand, and
@@ -59,11 +69,24 @@ macro_rules! seat {
 macro_rules! condition {
     (gives $n:literal) => { Asked::Operands { result: true, values: $n } };
     (takes $n:literal) => { Asked::Operands { result: false, values: $n } };
+    (mask $texels:ident) => { Asked::Rest(Rest::ImageMask(Texels::$texels)) };
+    (sign of $s:tt) => { Asked::Rest(Rest::ImageSign(seat!($s))) };
+    (operands $texels:ident) => { Asked::Rest(Rest::ImageOperands(Texels::$texels)) };
+    (block of $k:tt) => { Asked::Rest(Rest::Block(number!($k))) };
+    (sizes after block of $k:tt) => { Asked::Rest(Rest::LocalSizes(number!($k))) };
+    (locals of block of $k:tt) => { Asked::Rest(Rest::Locals(number!($k))) };
+    (constant $k:tt) => { Asked::Rest(Rest::Constant(number!($k))) };
     (within $k:tt) => { Asked::Rest(Rest::Within { from: number!($k) }) };
     ($s:tt reached from $k:tt) => { Asked::Rest(Rest::Reached { of: seat!($s), from: number!($k) }) };
     (leads) => { Asked::Rest(Rest::Leads { element: false }) };
     (leads after element) => { Asked::Rest(Rest::Leads { element: true }) };
     ($s:tt is $kind:ident) => { Asked::Kind { kind: Kind::$kind, of: seat!($s) } };
+    ($s:tt is of $object:ident) => { Asked::Kind { kind: Kind::Object(Object::$object), of: seat!($s) } };
+    ($s:tt points to $object:ident) => {
+        Asked::Kind { kind: Kind::ObjectPointer(Object::$object), of: seat!($s) }
+    };
+    ($s:tt is image $images:ident) => { Asked::Kind { kind: Kind::Image(Images::$images), of: seat!($s) } };
+    ($s:tt is pipe $access:literal) => { Asked::Kind { kind: Kind::Pipe($access), of: seat!($s) } };
     ($s:tt $relation:ident $t:tt) => {
         Asked::Relation { relation: Relation::$relation, of: seat!($s), to: seat!($t) }
     };
@@ -86,6 +109,9 @@ macro_rules! places {
     (one) => { Places::One };
     (pairs) => { Places::Pairs };
     (initializers) => { Places::Initializers };
+    (around) => { Places::Around };
+    (beside $k:tt) => { Places::Beside(number!($k)) };
+    (enqueued) => { Places::Enqueued };
 }
 
 /// The last opcode of some.
@@ -97,7 +123,7 @@ macro_rules! last {
 /// The table of types (own: Y5; the opcodes of SPIR-V Specification 1.6, section 3.49): opcodes, or the first and the
 /// last of some, where their value operands stand, if not at the ids at the front, and the conditions that they ask, in
 /// the order in which they are looked at. First stand the opcodes that have a number of values of their own. An opcode
-/// that is nowhere in it asks nothing.
+/// that is nowhere in it, nor in the two parts below, asks nothing.
 macro_rules! table {
     ($what:ident $($name:ident)*) => {
         $what! {
@@ -124,16 +150,16 @@ macro_rules! table {
                 PTR_CAST_TO_GENERIC: [gives 1] [o is NamedPointer] [r is GenericPointer] [o SamePointee r];
                 GENERIC_CAST_TO_PTR: [gives 1] [o is GenericPointer] [r is NamedPointer] [o SamePointee r];
                 BITCAST: [gives 1] [o SameBits r];
-                S_NEGATE, NOT: [gives 1] [r is Ints] [o Same r];
+                S_NEGATE, NOT, BIT_REVERSE: [gives 1] [r is Ints] [o Same r];
                 F_NEGATE: [gives 1] [r is Floats] [o Same r];
                 LOGICAL_NOT: [gives 1] [r is Bools] [o Same r];
                 I_ADD, I_SUB, I_MUL, U_DIV to S_DIV, U_MOD to S_MOD, BITWISE_OR to BITWISE_AND:
                     [gives 2] [r is Ints] [o Same r] [p Same r];
                 F_ADD, F_SUB, F_MUL, F_DIV, F_REM to F_MOD: [gives 2] [r is Floats] [o Same r] [p Same r];
                 LOGICAL_EQUAL to LOGICAL_AND: [gives 2] [r is Bools] [o Same r] [p Same r];
-                SELECT: [gives 3] [r is Data] [p Same r] [q Same r] [o Chooses r];
+                SELECT: [gives 3] [r is Data] [p Same r] [q Same r] [o Chooses r] [r is Plain];
                 I_EQUAL to S_LESS_THAN_EQUAL: [gives 2] [o is Ints] [p Same o] [r is Bools] [o SameCount r];
-                F_ORD_EQUAL to F_UNORD_GREATER_THAN_EQUAL:
+                F_ORD_EQUAL to F_UNORD_GREATER_THAN_EQUAL, LESS_OR_GREATER to UNORDERED:
                     [gives 2] [o is Floats] [p Same o] [r is Bools] [o SameCount r];
                 SHIFT_RIGHT_LOGICAL to SHIFT_LEFT_LOGICAL: [gives 2] [r is Ints] [o Same r] [p is Ints] [p SameCount r];
                 CONTROL_BARRIER: [takes 3] [o is Int32] [p is Int32] [q is Int32];
@@ -141,7 +167,7 @@ macro_rules! table {
                 ATOMIC_LOAD: [gives 3] [o PointsTo r] [p is Int32] [q is Int32] [r is Number];
                 ATOMIC_STORE: [takes 4] [o PointsTo 3] [p is Int32] [q is Int32] [3 is Number];
                 ATOMIC_EXCHANGE: [gives 4] [o PointsTo r] [p is Int32] [q is Int32] [3 Same r] [r is Number];
-                ATOMIC_COMPARE_EXCHANGE:
+                ATOMIC_COMPARE_EXCHANGE to ATOMIC_COMPARE_EXCHANGE_WEAK:
                     [gives 6] [o PointsTo r] [p is Int32] [q is Int32] [3 is Int32] [4 Same r] [5 Same r] [r is Int];
                 ATOMIC_I_INCREMENT to ATOMIC_I_DECREMENT: [gives 3] [o PointsTo r] [p is Int32] [q is Int32] [r is Int];
                 ATOMIC_I_ADD to ATOMIC_XOR: [gives 4] [o PointsTo r] [p is Int32] [q is Int32] [3 Same r] [r is Int];
@@ -163,15 +189,166 @@ macro_rules! table {
     };
 }
 
+/// What OpenCL has besides: arithmetic, pointers and groups.
+macro_rules! further {
+    ($what:ident) => {
+        $what! {
+            ()
+            {
+                GENERIC_PTR_MEM_SEMANTICS: [gives 1] [o is GenericPointer] [r is Int32];
+                QUANTIZE_TO_F16: [gives 1] [r is Floats32] [o Same r];
+                SAT_CONVERT_S_TO_U to SAT_CONVERT_U_TO_S, BIT_COUNT:
+                    [gives 1] [o is Ints] [r is Ints] [o SameCount r];
+                GENERIC_CAST_TO_PTR_EXPLICIT:
+                    [gives 1] [o is GenericPointer] [r is NamedPointer] [CastClass] [o SamePointee r];
+                VECTOR_TIMES_SCALAR: [gives 2] [r is Floats] [o Same r] [p ComponentOf r];
+                DOT: [gives 2] [o is Floats] [o VectorOf r] [p Same o];
+                I_ADD_CARRY to S_MUL_EXTENDED: [gives 2] [o is Ints] [p Same o] [r PairOf o];
+                ANY to ALL: [gives 1] [r is Bool] [o VectorOf r];
+                IS_NAN to SIGN_BIT_SET: [gives 1] [o is Floats] [r is Bools] [o SameCount r];
+                BIT_FIELD_INSERT: [gives 4] [r is Ints] [o Same r] [p Same r] [q is Int] [3 is Int];
+                BIT_FIELD_S_EXTRACT to BIT_FIELD_U_EXTRACT: [gives 3] [r is Ints] [o Same r] [p is Int] [q is Int];
+                GROUP_ALL to GROUP_ANY, GROUP_NON_UNIFORM_ALL to GROUP_NON_UNIFORM_ANY:
+                    [gives 2] [o is Int32] [r is Bool] [p Same r];
+                GROUP_BROADCAST: [gives 3] [o is Int32] [r is Scalars] [p Same r] [q is FewInts];
+                GROUP_I_ADD, GROUP_U_MIN to GROUP_S_MIN, GROUP_U_MAX to GROUP_S_MAX by around:
+                    [gives 2] [o is Int32] [Scan] [r is Ints] [p Same r];
+                GROUP_F_ADD to GROUP_F_MIN, GROUP_F_MAX by around:
+                    [gives 2] [o is Int32] [Scan] [r is Floats] [p Same r];
+                ATOMIC_FLAG_TEST_AND_SET: [gives 3] [o is Int32Pointer] [p is Int32] [q is Int32] [r is Bool];
+                ATOMIC_FLAG_CLEAR: [takes 3] [o is Int32Pointer] [p is Int32] [q is Int32];
+                SIZE_OF: [gives 1] [o is PlainPointer] [r is Int32];
+                GROUP_NON_UNIFORM_ELECT: [gives 1] [o is Int32] [r is Bool];
+                GROUP_NON_UNIFORM_ALL_EQUAL: [gives 2] [o is Int32] [p is Scalars] [r is Bool];
+                GROUP_NON_UNIFORM_BROADCAST, GROUP_NON_UNIFORM_SHUFFLE to GROUP_NON_UNIFORM_SHUFFLE_DOWN,
+                GROUP_NON_UNIFORM_QUAD_BROADCAST:
+                    [gives 3] [o is Int32] [r is Scalars] [p Same r] [q is Int];
+                GROUP_NON_UNIFORM_BROADCAST_FIRST: [gives 2] [o is Int32] [r is Scalars] [p Same r];
+                GROUP_NON_UNIFORM_BALLOT: [gives 2] [o is Int32] [p is Bool] [r is Ballot];
+                GROUP_NON_UNIFORM_INVERSE_BALLOT: [gives 2] [o is Int32] [p is Ballot] [r is Bool];
+                GROUP_NON_UNIFORM_BALLOT_BIT_EXTRACT: [gives 3] [o is Int32] [p is Ballot] [q is Int] [r is Bool];
+                GROUP_NON_UNIFORM_BALLOT_BIT_COUNT by around: [gives 2] [o is Int32] [Scan] [p is Ballot] [r is Int];
+                GROUP_NON_UNIFORM_BALLOT_FIND_LSB to GROUP_NON_UNIFORM_BALLOT_FIND_MSB:
+                    [gives 2] [o is Int32] [p is Ballot] [r is Int];
+                GROUP_NON_UNIFORM_I_ADD, GROUP_NON_UNIFORM_I_MUL, GROUP_NON_UNIFORM_S_MIN to GROUP_NON_UNIFORM_U_MIN,
+                GROUP_NON_UNIFORM_S_MAX to GROUP_NON_UNIFORM_U_MAX,
+                GROUP_NON_UNIFORM_BITWISE_AND to GROUP_NON_UNIFORM_BITWISE_XOR by around:
+                    [Cluster] [o is Int32] [r is Ints] [p Same r] [ClusterSize];
+                GROUP_NON_UNIFORM_F_ADD, GROUP_NON_UNIFORM_F_MUL, GROUP_NON_UNIFORM_F_MIN,
+                GROUP_NON_UNIFORM_F_MAX by around:
+                    [Cluster] [o is Int32] [r is Floats] [p Same r] [ClusterSize];
+                GROUP_NON_UNIFORM_LOGICAL_AND to GROUP_NON_UNIFORM_LOGICAL_XOR by around:
+                    [Cluster] [o is Int32] [r is Bools] [p Same r] [ClusterSize];
+                GROUP_NON_UNIFORM_QUAD_SWAP: [gives 3] [o is Int32] [r is Scalars] [p Same r] [q is Int] [constant q];
+                PTR_EQUAL to PTR_NOT_EQUAL: [gives 2] [o is Pointer] [p Same o] [r is Bool];
+                PTR_DIFF: [gives 2] [o is Pointer] [p Same o] [r is Int];
+                S_DOT to SU_DOT: [gives 2] [r is Int] [p Same o] [Packed];
+                S_DOT_ACC_SAT to SU_DOT_ACC_SAT: [gives 3] [r is Int] [p Same o] [Packed] [q Same r];
+            }
+        }
+    };
+}
+
+/// What it has besides of images, pipes, events and queues, and outside blocks.
+macro_rules! objects {
+    ($what:ident) => {
+        $what! {
+            ()
+            {
+                EXT_INST by nothing: [Extended];
+                IMAGE_TEXEL_POINTER:
+                    [gives 3] [o points to Image] [r TexelPointer o] [p Place o] [q is Int];
+                GROUP_DECORATE by nothing: [Group] [NoMoreGroups];
+                GROUP_MEMBER_DECORATE by nothing: [Group] [Members];
+                SAMPLED_IMAGE: [gives 2] [o is image Sampled] [p is of Sampler] [r SampledImageOf o];
+                IMAGE_SAMPLE_EXPLICIT_LOD by around:
+                    [mask Sampled] [o is SampledImage] [p Coordinate o] [r is Four] [r Texel o] [sign of r]
+                    [operands Sampled];
+                IMAGE_FETCH by around:
+                    [mask Read] [o is image Fetched] [p IntCoordinate o] [r is Four] [r Texel o] [ImageSample]
+                    [sign of r] [operands Read];
+                IMAGE_READ by around:
+                    [mask Read] [o is image Stored] [p IntCoordinate o] [r Texel o] [ImageSample] [sign of r]
+                    [operands Read];
+                IMAGE_WRITE by around:
+                    [mask Written] [o is image Stored] [p IntCoordinate o] [q Texel o] [ImageSample] [sign of q]
+                    [operands Written];
+                IMAGE: [gives 1] [o SampledImageOf r];
+                IMAGE_QUERY_FORMAT to IMAGE_QUERY_ORDER: [gives 1] [o is of Image] [r is Int];
+                IMAGE_QUERY_SIZE_LOD: [gives 2] [o is image Sized] [p is Int] [r Extent o];
+                IMAGE_QUERY_SIZE: [gives 1] [o is image Flat] [r Extent o];
+                IMAGE_QUERY_LEVELS: [gives 1] [o is image Leveled] [r is Int];
+                IMAGE_QUERY_SAMPLES: [gives 1] [o is image Multisampled] [r is Int];
+                GROUP_ASYNC_COPY:
+                    [gives 6] [o is Int32] [p is NumbersPointer] [q SamePointee p] [q Across p] [3 is Size] [4 is Size]
+                    [r is of Event] [5 Same r];
+                GROUP_WAIT_EVENTS: [takes 3] [o is Int32] [p is Int32] [q points to Event];
+                READ_PIPE: [gives 4] [o is pipe 0] [p is GenericPointer] [q is Int32] [3 is Int32] [r is Int32];
+                WRITE_PIPE: [gives 4] [o is pipe 1] [p is GenericPointer] [q is Int32] [3 is Int32] [r is Int32];
+                RESERVED_READ_PIPE:
+                    [gives 6] [o is pipe 0] [p is of ReserveId] [q is Int32] [3 is GenericPointer] [4 is Int32]
+                    [5 is Int32] [r is Int32];
+                RESERVED_WRITE_PIPE:
+                    [gives 6] [o is pipe 1] [p is of ReserveId] [q is Int32] [3 is GenericPointer] [4 is Int32]
+                    [5 is Int32] [r is Int32];
+                RESERVE_READ_PIPE_PACKETS:
+                    [gives 4] [o is pipe 0] [p is Int32] [q is Int32] [3 is Int32] [r is of ReserveId];
+                RESERVE_WRITE_PIPE_PACKETS:
+                    [gives 4] [o is pipe 1] [p is Int32] [q is Int32] [3 is Int32] [r is of ReserveId];
+                COMMIT_READ_PIPE: [takes 4] [o is pipe 0] [p is of ReserveId] [q is Int32] [3 is Int32];
+                COMMIT_WRITE_PIPE: [takes 4] [o is pipe 1] [p is of ReserveId] [q is Int32] [3 is Int32];
+                IS_VALID_RESERVE_ID: [gives 1] [o is of ReserveId] [r is Bool];
+                GET_NUM_PIPE_PACKETS to GET_MAX_PIPE_PACKETS:
+                    [gives 3] [o is of Pipe] [p is Int32] [q is Int32] [r is Int32];
+                GROUP_RESERVE_READ_PIPE_PACKETS:
+                    [gives 5] [o is Int32] [p is pipe 0] [q is Int32] [3 is Int32] [4 is Int32] [r is of ReserveId];
+                GROUP_RESERVE_WRITE_PIPE_PACKETS:
+                    [gives 5] [o is Int32] [p is pipe 1] [q is Int32] [3 is Int32] [4 is Int32] [r is of ReserveId];
+                GROUP_COMMIT_READ_PIPE:
+                    [takes 5] [o is Int32] [p is pipe 0] [q is of ReserveId] [3 is Int32] [4 is Int32];
+                GROUP_COMMIT_WRITE_PIPE:
+                    [takes 5] [o is Int32] [p is pipe 1] [q is of ReserveId] [3 is Int32] [4 is Int32];
+                ENQUEUE_MARKER:
+                    [gives 4] [o is of Queue] [p is Int32] [q points to DeviceEvent] [3 points to DeviceEvent]
+                    [r is Int32];
+                ENQUEUE_KERNEL by enqueued:
+                    [o is of Queue] [p is Int32] [q is Range] [3 is Int32] [4 points to DeviceEvent]
+                    [5 points to DeviceEvent] [6 is Int8Pointer] [7 is Int32] [8 is Int32] [block of 6]
+                    [sizes after block of 6] [locals of block of 6] [r is Int32];
+                GET_KERNEL_ND_RANGE_SUB_GROUP_COUNT to GET_KERNEL_ND_RANGE_MAX_SUB_GROUP_SIZE by beside p:
+                    [gives 4] [o is Range] [p is Int8Pointer] [q is Int32] [3 is Int32] [block of p] [r is Int32];
+                GET_KERNEL_WORK_GROUP_SIZE to GET_KERNEL_PREFERRED_WORK_GROUP_SIZE_MULTIPLE,
+                GET_KERNEL_MAX_NUM_SUBGROUPS by beside o:
+                    [gives 3] [o is Int8Pointer] [p is Int32] [q is Int32] [block of o] [r is Int32];
+                RETAIN_EVENT to RELEASE_EVENT: [takes 1] [o is of DeviceEvent];
+                CREATE_USER_EVENT by nothing: [r is of DeviceEvent];
+                IS_VALID_EVENT: [gives 1] [o is of DeviceEvent] [r is Bool];
+                SET_USER_EVENT_STATUS: [takes 2] [o is of DeviceEvent] [p is Int32];
+                CAPTURE_EVENT_PROFILING_INFO: [takes 3] [o is of DeviceEvent] [p is Int32] [q is GlobalPointer];
+                GET_DEFAULT_QUEUE by nothing: [r is of Queue];
+                BUILD_ND_RANGE: [gives 3] [r is RangeStruct] [o is Sizes] [p Same o] [q Same o];
+                CREATE_PIPE_FROM_PIPE_STORAGE: [gives 1] [o is of PipeStorage] [r is of Pipe];
+                GET_KERNEL_LOCAL_SIZE_FOR_SUBGROUP_COUNT by beside p:
+                    [gives 4] [o is Int32] [p is Int8Pointer] [q is Int32] [3 is Int32] [block of p] [r is Int32];
+                NAMED_BARRIER_INITIALIZE: [gives 1] [o is Int32] [r is of NamedBarrier];
+                MEMORY_NAMED_BARRIER: [takes 3] [o is of NamedBarrier] [p is Int32] [q is Int32];
+                EXECUTION_MODE_ID by nothing: [ModeIds];
+                DECORATE_ID by nothing: [DecorationIds];
+                DECORATE_STRING to MEMBER_DECORATE_STRING by nothing: [Texts];
+            }
+        }
+    };
+}
+
 /// Lines, as definitions read them.
 macro_rules! lines {
     (() $({ $(
-        $first:ident $(to $last:ident)? $(, $more:ident $(to $end:ident)?)* $(by $places:ident)?:
+        $first:ident $(to $last:ident)? $(, $more:ident $(to $end:ident)?)* $(by $places:ident $($place:ident)?)?:
             $([$($ask:tt)+])+;
     )+ })+) => {
         [$($((
             &[(opcode::$first, last!($first $($last)?)) $(, (opcode::$more, last!($more $($end)?)))*],
-            places!($($places)?),
+            places!($($places $($place)?)?),
             &[$(asks!($($ask)+)),+],
         )),+),+]
     };
@@ -180,39 +357,54 @@ macro_rules! lines {
 /// Lines, as the code reads them.
 macro_rules! entries {
     (() $({ $(
-        $first:ident $(to $last:ident)? $(, $more:ident $(to $end:ident)?)* $(by $places:ident)?:
+        $first:ident $(to $last:ident)? $(, $more:ident $(to $end:ident)?)* $(by $places:ident $($place:ident)?)?:
             $([$($ask:tt)+])+;
     )+ })+) => {
         [$($(Entry {
             opcodes: &[(opcode::$first, last!($first $($last)?)) $(, (opcode::$more, last!($more $($end)?)))*],
-            places: places!($($places)?),
+            places: places!($($places $($place)?)?),
             asks: &[$(asks!($($ask)+)),+],
         }),+),+]
     };
 }
 
-/// The table as definitions read it.
+/// The table as definitions read it, and its two further parts.
 pub static TABLE: [Line; 46] = table!(lines);
 
-/// The table as the code reads it.
+pub static FURTHER: [Line; 35] = further!(lines);
+
+pub static OBJECTS: [Line; 49] = objects!(lines);
+
+/// The same as the code reads them.
 static ENTRIES: [Entry; 46] = table!(entries);
 
-/// For each opcode up to the last one the number of its line, from 0, or 255 where it has none. Written by
-/// `tests/rows-of-opcodes`.
-static NUMBERS: [u8; 258] = [
-    255, 0, 255, 255, 255, 255, 255, 255, 255, 255, 255, 255, 255, 255, 255, 255, 255, 255, 255,
+static FURTHER_ENTRIES: [Entry; 35] = further!(entries);
+
+static OBJECT_ENTRIES: [Entry; 49] = objects!(entries);
+
+/// For each opcode up to 403, and then for 4450 to 4455, 5632 and 5633, the number of its line, from 0, or 255 where it
+/// has none. Written by `tests/rows-of-opcodes`.
+static NUMBERS: [u8; 412] = [
+    255, 0, 255, 255, 255, 255, 255, 255, 255, 255, 255, 255, 81, 255, 255, 255, 255, 255, 255,
     255, 255, 255, 255, 255, 255, 255, 255, 255, 255, 255, 255, 255, 255, 255, 255, 255, 255, 255,
     255, 255, 255, 255, 255, 255, 255, 255, 255, 255, 255, 255, 255, 255, 255, 255, 255, 255, 255,
-    255, 255, 41, 255, 1, 2, 3, 4, 42, 42, 43, 255, 255, 43, 255, 255, 255, 255, 255, 255, 5, 6, 7,
-    44, 8, 9, 10, 255, 255, 255, 255, 255, 255, 255, 255, 255, 255, 255, 255, 255, 255, 255, 255,
-    255, 255, 255, 255, 255, 255, 255, 255, 255, 11, 11, 12, 12, 13, 13, 14, 255, 15, 255, 255, 16,
-    17, 18, 255, 19, 255, 20, 21, 23, 24, 23, 24, 23, 24, 23, 23, 24, 23, 23, 23, 24, 24, 255, 255,
+    255, 255, 41, 82, 1, 2, 3, 4, 42, 42, 43, 255, 46, 43, 255, 255, 255, 83, 84, 255, 5, 6, 7, 44,
+    8, 9, 10, 255, 255, 85, 255, 86, 255, 255, 255, 255, 255, 255, 87, 255, 255, 88, 89, 90, 91,
+    91, 92, 93, 255, 94, 95, 255, 11, 11, 12, 12, 13, 13, 14, 47, 15, 48, 48, 16, 17, 18, 49, 19,
+    255, 20, 21, 23, 24, 23, 24, 23, 24, 23, 23, 24, 23, 23, 23, 24, 24, 50, 255, 255, 255, 255,
+    255, 51, 52, 52, 52, 52, 255, 53, 53, 54, 54, 54, 54, 54, 28, 28, 28, 25, 25, 25, 25, 22, 26,
+    27, 27, 27, 27, 27, 27, 27, 27, 27, 27, 28, 28, 28, 28, 28, 28, 28, 28, 28, 28, 28, 28, 255,
+    255, 29, 29, 29, 23, 23, 23, 20, 55, 56, 56, 20, 48, 255, 255, 255, 255, 255, 255, 255, 255,
+    255, 255, 255, 255, 255, 255, 255, 255, 255, 255, 30, 31, 255, 32, 33, 34, 35, 35, 36, 36, 37,
+    37, 37, 37, 37, 37, 37, 37, 37, 255, 255, 45, 255, 255, 255, 255, 38, 39, 255, 255, 255, 255,
+    40, 40, 255, 96, 97, 57, 57, 58, 59, 60, 60, 59, 59, 60, 59, 59, 255, 255, 98, 99, 100, 101,
+    102, 103, 104, 105, 106, 107, 107, 108, 109, 110, 111, 255, 255, 112, 113, 114, 114, 115, 115,
+    116, 116, 117, 118, 119, 120, 121, 122, 255, 255, 255, 255, 255, 255, 255, 255, 255, 255, 255,
+    255, 255, 61, 62, 255, 63, 255, 255, 123, 124, 115, 255, 125, 126, 255, 127, 128, 64, 57, 57,
+    65, 66, 67, 68, 69, 70, 71, 72, 72, 66, 66, 66, 66, 73, 74, 73, 74, 73, 73, 74, 73, 73, 74, 73,
+    73, 73, 75, 75, 75, 66, 76, 255, 255, 255, 255, 255, 255, 255, 255, 255, 255, 255, 255, 255,
     255, 255, 255, 255, 255, 255, 255, 255, 255, 255, 255, 255, 255, 255, 255, 255, 255, 255, 255,
-    255, 25, 25, 25, 25, 22, 26, 27, 27, 27, 27, 27, 27, 27, 27, 27, 27, 28, 28, 28, 28, 28, 28,
-    28, 28, 28, 28, 28, 28, 255, 255, 29, 29, 29, 23, 23, 23, 20, 255, 255, 255, 255, 255, 255,
-    255, 255, 255, 255, 255, 255, 255, 255, 255, 255, 255, 255, 255, 255, 255, 255, 255, 30, 31,
-    255, 32, 33, 34, 35, 255, 36, 36, 37, 37, 37, 37, 37, 37, 37, 37, 37, 255, 255, 45, 255, 255,
-    255, 255, 38, 39, 255, 255, 255, 255, 40, 40,
+    255, 255, 77, 77, 78, 79, 79, 79, 80, 80, 80, 129, 129,
 ];
 
 /// What the table tells of an opcode.
@@ -223,29 +415,103 @@ pub struct Found {
     pub places: Places,
 }
 
-/// What the line tells that a list of numbers names for an opcode.
+/// Where the number of the line of an opcode stands in the list of numbers: past its end, where it has none.
 #[inline(always)]
-fn look_up_at(numbers: &'static [u8], entries: &'static [Entry], opcode: u16) -> Found
-    ensures { result ≡ found_in (map line entries.now) (slice_get numbers.now opcode) }
+fn place_of(opcode: u16) -> usize
+    ensures { result ≡ numbered_at opcode }
 {
-    match numbers.get(usize::from(opcode)) {
-        Some(number) => match entries.get(usize::from(*number)) {
-            Some(entry) => Found {
-                first: match entry.opcodes {
-                    [first, ..] => first.0,
-                    [] => 0,
-                },
-                places: entry.places,
-            },
-            None => Found {
-                first: 0,
-                places: Places::Free,
-            },
+    let number = usize::from(opcode);
+    if number <= 403 {
+        number
+    } else if 4450 <= number && number <= 4455 {
+        number - 4046
+    } else if 5632 <= number && number <= 5633 {
+        number - 5222
+    } else {
+        412
+    }
+}
+
+/// The number of the line of an opcode among all lines, from 0, or 255.
+#[inline(always)]
+fn number_in(numbers: &'static [u8], opcode: u16) -> usize
+    ensures { result ≡ number_among numbers.now opcode }
+{
+    match numbers.get(place_of(opcode)) {
+        Some(number) => usize::from(*number),
+        None => 255,
+    }
+}
+
+/// The number of the line of an opcode.
+#[inline(always)]
+fn number_of(opcode: u16) -> usize
+    ensures { result ≡ line_number opcode }
+{
+    number_in(&NUMBERS, opcode)
+}
+
+/// What the first of some opcodes is, or 0.
+#[inline(always)]
+fn first_in(opcodes: &[(u16, u16)]) -> u16
+    ensures { result ≡ first_from opcodes.now }
+{
+    match opcodes {
+        [first, ..] => first.0,
+        [] => 0,
+    }
+}
+
+/// What the line of a number tells.
+#[inline(always)]
+fn found_in(entries: &'static [Entry], number: usize) -> Found
+    ensures { result ≡ found_by (slice_get (map line entries.now) number) }
+{
+    match entries.get(number) {
+        Some(entry) => Found {
+            first: first_in(entry.opcodes),
+            places: entry.places,
         },
         None => Found {
             first: 0,
             places: Places::Free,
         },
+    }
+}
+
+/// What the line of a number in the first part tells.
+#[inline(always)]
+fn found_first(number: usize) -> Found
+    ensures { result ≡ found_by (slice_get TABLE number) }
+{
+    found_in(&ENTRIES, number)
+}
+
+/// The same in the second part.
+fn found_further(number: usize) -> Found
+    ensures { result ≡ found_by (slice_get FURTHER number) }
+{
+    found_in(&FURTHER_ENTRIES, number)
+}
+
+/// The same in the last part.
+fn found_object(number: usize) -> Found
+    ensures { result ≡ found_by (slice_get OBJECTS number) }
+{
+    found_in(&OBJECT_ENTRIES, number)
+}
+
+/// What the line of a number among all lines tells.
+#[inline(always)]
+fn found_at(number: usize) -> Found
+    ensures { result ≡ found_by (slice_get spec.lines number) }
+{
+    if number < 46 {
+        found_first(number)
+    } else if number < 81 {
+        found_further(number - 46)
+    } else {
+        found_object(number - 81)
     }
 }
 
@@ -255,33 +521,59 @@ pub fn look_up(opcode: u16) -> Found
     ensures first { result.first ≡ first_of opcode }
     ensures places { result.places ≡ spec.places_of opcode }
 {
-    look_up_at(&NUMBERS, &ENTRIES, opcode)
+    found_at(number_of(opcode))
 }
 
-/// What the line asks that a list of numbers names for an opcode.
+/// What the line of a number asks.
 #[inline(always)]
-fn asked_at(numbers: &'static [u8], entries: &'static [Entry], opcode: u16) -> &'static [Asks]
-    ensures { result.now ≡ asked_in (map line entries.now) (slice_get numbers.now opcode) }
+fn asked_in(entries: &'static [Entry], number: usize) -> &'static [Asks]
+    ensures { result.now ≡ asked_by (slice_get (map line entries.now) number) }
 {
-    match numbers.get(usize::from(opcode)) {
-        Some(number) => {
-            let place = usize::from(*number);
-            if place < entries.len() {
-                entries[place].asks
-            } else {
-                &[]
-            }
-        }
+    match entries.get(number) {
+        Some(entry) => entry.asks,
         None => &[],
     }
 }
 
+/// What the line of a number in the first part asks.
+fn asked_first(number: usize) -> &'static [Asks]
+    ensures { result.now ≡ asked_by (slice_get TABLE number) }
+{
+    asked_in(&ENTRIES, number)
+}
+
+/// The same in the second part.
+fn asked_further(number: usize) -> &'static [Asks]
+    ensures { result.now ≡ asked_by (slice_get FURTHER number) }
+{
+    asked_in(&FURTHER_ENTRIES, number)
+}
+
+/// The same in the last part.
+fn asked_object(number: usize) -> &'static [Asks]
+    ensures { result.now ≡ asked_by (slice_get OBJECTS number) }
+{
+    asked_in(&OBJECT_ENTRIES, number)
+}
+
+/// What the line of a number among all lines asks.
+fn asked_at(number: usize) -> &'static [Asks]
+    ensures { result.now ≡ asked_by (slice_get spec.lines number) }
+{
+    if number < 46 {
+        asked_first(number)
+    } else if number < 81 {
+        asked_further(number - 46)
+    } else {
+        asked_object(number - 81)
+    }
+}
+
 /// What an opcode asks.
-#[inline(always)]
 pub fn asks_of(opcode: u16) -> &'static [Asks]
     ensures { result.now ≡ spec.asks_of opcode }
 {
-    asked_at(&NUMBERS, &ENTRIES, opcode)
+    asked_at(number_of(opcode))
 }
 
 /// Whether what an opcode asks holds, one condition after another.
@@ -303,13 +595,13 @@ fn all_hold(
     }
 }
 
-/// The lines of the table as code. The first opcode of a line is decided at once; others, and those that take any
-/// number of values, one condition after another.
+/// The lines of the table as code. The first opcode of a line of the first part is decided at once; others one
+/// condition after another.
 macro_rules! decided {
     (($opcode:ident $definitions:ident $number:ident $inst:ident $r:ident $types:ident) { $(
-        $first:ident $(to $last:ident)? $(, $more:ident $(to $end:ident)?)* $(by $places:ident)?:
+        $first:ident $(to $last:ident)? $(, $more:ident $(to $end:ident)?)* $(by $places:ident $($place:ident)?)?:
             $([$($ask:tt)+])+;
-    )+ } { $($many:tt)+ }) => {
+    )+ } $({ $($slow:tt)+ })+) => {
         match $opcode {
             $(opcode::$first => true
                 $(&& holds($definitions, $number, $inst, $r, $types, condition!($($ask)+)))+,)+

@@ -7,15 +7,17 @@ ghost use Rattle.spv_type_forms.specs.Values.{types_of, paired_ids_in};
 ghost use Rattle.spv_ops.specs.inner.Table.{first_of};
 ghost use Rattle.spv_ops.specs.inner.Typed.{IsTypedBy, IsTypedIn};
 ghost use Rattle.spv_ops.specs.inner.Wide.{AreSame, IsWide, binary_of, is_counted};
-ghost use Rattle.spv_ops.specs.declared.table.Places.TheVariants.{Ids, One};
+ghost use Rattle.spv_ops.specs.declared.table.Places.TheVariants.{Around, Beside, Ids, One};
 ghost use Rattle.spv_ops.specs.Table.{asks_of, places_of};
 
+use crate::around::{gather_all, gather_beside};
 use crate::chain::{access_chain, element_chain};
 use crate::common::{
     binary_holds, binary_in, condition_in, load_holds, load_in, stands_for_bool, store_holds,
     store_in,
 };
 use crate::construct::constructs;
+use crate::enqueue::enqueues;
 use crate::table::{Found, Places, line_holds, look_up};
 use crate::variable::variable_holds;
 use spv_module::{Inst, Operand, opcode};
@@ -40,6 +42,49 @@ fn gathered_holds(
 {
     let mut types = [0; MOST];
     match gather(definitions, operands, &mut types) {
+        Some(count) => line_holds(definitions, number, inst, opcode, r, &types[..count]),
+        None => false,
+    }
+}
+
+/// The same of all ids among the operands.
+fn around_holds(
+    definitions: &Definitions,
+    number: u32,
+    inst: &Inst,
+    opcode: u16,
+    r: Option<u32>,
+    operands: &[Operand],
+) -> bool
+    requires number { number < length definitions.now }
+    requires counted { is_counted (asks_of opcode) ≡ true }
+    ensures { IsTrue result ↔ IsTypedBy definitions.now number (plain_inst inst.now) Around (asks_of opcode) r
+        (plain_operands operands.now) }
+{
+    let mut types = [0; MOST];
+    match gather_all(definitions, operands, &mut types) {
+        Some(count) => line_holds(definitions, number, inst, opcode, r, &types[..count]),
+        None => false,
+    }
+}
+
+/// The same of the ids at the front of the operands but for the one of a number.
+fn beside_holds(
+    definitions: &Definitions,
+    number: u32,
+    inst: &Inst,
+    opcode: u16,
+    r: Option<u32>,
+    operands: &[Operand],
+    skip: u32,
+) -> bool
+    requires number { number < length definitions.now }
+    requires counted { is_counted (asks_of opcode) ≡ true }
+    ensures { IsTrue result ↔ IsTypedBy definitions.now number (plain_inst inst.now) (Beside skip) (asks_of opcode) r
+        (plain_operands operands.now) }
+{
+    let mut types = [0; MOST];
+    match gather_beside(definitions, operands, skip, &mut types) {
         Some(count) => line_holds(definitions, number, inst, opcode, r, &types[..count]),
         None => false,
     }
@@ -100,6 +145,7 @@ fn wide_holds(
         opcode::VARIABLE => variable_holds(definitions, number, r, operands),
         opcode::ACCESS_CHAIN => access_chain(definitions, r, operands),
         opcode::PTR_ACCESS_CHAIN => element_chain(definitions, r, operands),
+        opcode::ENQUEUE_KERNEL => enqueues(definitions, r, operands),
         _ => constructs(definitions, r, operands),
     }
 }
@@ -120,8 +166,12 @@ fn row_holds(definitions: &Definitions, number: u32, inst: &Inst, found: Found) 
         Places::Free => true,
         Places::Nothing => line_holds(definitions, number, inst, found.first, r, &[]),
         Places::Ids => gathered_holds(definitions, number, inst, found.first, r, rest),
+        Places::Around => around_holds(definitions, number, inst, found.first, r, rest),
+        Places::Beside(skip) => {
+            beside_holds(definitions, number, inst, found.first, r, rest, skip)
+        }
         Places::One => one_holds(definitions, number, inst, found.first, r, rest),
-        Places::Many | Places::Pairs | Places::Initializers => match r {
+        Places::Many | Places::Pairs | Places::Initializers | Places::Enqueued => match r {
             Some(r) => wide_holds(definitions, number, found.first, r, rest),
             None => false,
         },

@@ -6,7 +6,7 @@ ghost use Rattle.spv_module.specs.Module.{plain_operands};
 ghost use Rattle.spv_type_forms.specs.Values.{types_of};
 ghost use Rattle.spv_conditions.specs.Variable.{MayHave, MayInitialize, initializers_in};
 ghost use Rattle.spv_type_forms.specs.Operands.{ids_in};
-ghost use Rattle.spv_type_forms.specs.Types.{class_in};
+ghost use Rattle.spv_type_forms.specs.Types.{class_in, PointsTo};
 ghost use Rattle.spv_type_forms.specs.Form.{form_of};
 ghost use Rattle.spv_ops.specs.inner.Declares.{DeclaresVariable};
 
@@ -35,6 +35,23 @@ fn may_declare(
     }
 }
 
+/// Whether it may be declared so, and r points to the declared types of the ids.
+fn declares(
+    definitions: &Definitions,
+    number: u32,
+    r: u32,
+    class: u32,
+    operands: &[Operand],
+) -> bool
+    requires { number < length definitions.now }
+    ensures { IsTrue result ↔ IsSomeAnd (types_of definitions.now (ids_in (plain_operands operands.now)))
+        (λ types. (class_in (form_of definitions.now r) ≡ Some class) × MayHave definitions.now number class
+        × AllByRecursion (MayInitialize definitions.now) (ids_in (plain_operands operands.now))
+        × AllByRecursion (PointsTo definitions.now r) types) }
+{
+    may_declare(definitions, number, r, class, operands) && all_pointees(definitions, r, operands)
+}
+
 /// Whether what OpVariable asks holds at the instruction of a number: of the result type and the declared types of the
 /// initializers.
 pub fn variable_holds(definitions: &Definitions, number: u32, r: u32, operands: &[Operand]) -> bool
@@ -43,13 +60,9 @@ pub fn variable_holds(definitions: &Definitions, number: u32, r: u32, operands: 
         (λ types. DeclaresVariable definitions.now number r (plain_operands operands.now) types) }
 {
     match operands {
-        [Operand::Value { value: class, .. }, rest @ ..] => may_declare(
-            definitions,
-            number,
-            r,
-            *class,
-            rest,
-        ) && all_pointees(definitions, r, rest),
+        [Operand::Value { value: class, .. }, rest @ ..] => {
+            declares(definitions, number, r, *class, rest)
+        }
         _ => false,
     }
 }

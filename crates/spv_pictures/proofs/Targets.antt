@@ -216,6 +216,8 @@ only_words G _ _ os x q Ends.no_other m = agree_nil os x
 only_words G _ _ os x q (Ends.other gs more) m = cc
 only_words G _ _ os x q (Ends.no_kind f) m = agree_nil os x
 only_words G _ _ os x q (Ends.kind f gs more) m = cc
+only_words G _ _ os x q (Ends.no_first f g) m = agree_nil os x
+only_words G _ _ os x q (Ends.first f g gs more) m = cc
 
 -- the cases of an OpSwitch
 cases : (G : Table) (e : RowEnding) (fs : List Form) (os : List Plain) (x : ℕ)
@@ -246,6 +248,8 @@ cases G _ _ os x q Ends.no_other m = cc
 cases G _ _ os x q (Ends.other gs more) m = cc
 cases G _ _ os x q (Ends.no_kind f) m = cc
 cases G _ _ os x q (Ends.kind f gs more) m = cc
+cases G _ _ os x q (Ends.no_first f g) m = cc
+cases G _ _ os x q (Ends.first f g gs more) m = cc
 
 closed_end : (e : RowEnding) (fs : List Form) → e ≡ closed → Ends e fs → fs ≡ []
 closed_end _ _ q Ends.nothing = refl
@@ -261,11 +265,14 @@ closed_end _ _ q Ends.no_other = refl
 closed_end _ _ q (Ends.other gs more) = cc
 closed_end _ _ q (Ends.no_kind f) = refl
 closed_end _ _ q (Ends.kind f gs more) = cc
+closed_end _ _ q (Ends.no_first f g) = refl
+closed_end _ _ q (Ends.first f g gs more) = cc
 
 -- the rows of the three
 row_branch : row_of BRANCH ≡ Some (record {
   from = 249;
   to = 249;
+  profile = Rattle.spv_module.specs.declared.profile.Profile.TheVariants.Own;
   class = Rattle.spv_layout.specs.declared.class.Class.TheVariants.Branch;
   fixed = form.Id role.Label ∷ [];
   ending =
@@ -278,6 +285,7 @@ row_conditional : row_of BRANCH_CONDITIONAL ≡ Some
     (record {
       from = 250;
       to = 250;
+      profile = Rattle.spv_module.specs.declared.profile.Profile.TheVariants.Own;
       class = Rattle.spv_layout.specs.declared.class.Class.TheVariants.BranchConditional;
       fixed = form.Id role.Value ∷ form.Id role.Label ∷ form.Id role.Label ∷ [];
       ending = repeated (form.Word ∷ []);
@@ -288,6 +296,7 @@ row_conditional = refl
 row_switch : row_of SWITCH ≡ Some (record {
   from = 251;
   to = 251;
+  profile = Rattle.spv_module.specs.declared.profile.Profile.TheVariants.Own;
   class = Rattle.spv_layout.specs.declared.class.Class.TheVariants.Switch;
   fixed =
       form.Id role.Value ∷ form.Id role.Label ∷ [];

@@ -1,12 +1,12 @@
 //! Functions in a list of instructions, by opcodes alone.
 ghost use Rattle.std.specs.Prelude.{◌≡◌, ◌<◌, ◌≤◌, ◌+◌, length, map};
-ghost use Rattle.std.specs.List.{before_first, list_any};
-ghost use Rattle.spv_module.specs.Module.{plain_inst, plain_insts};
+ghost use Rattle.std.specs.List.{before_first};
+ghost use Rattle.spv_module.specs.Module.{plain_inst};
 ghost use Rattle.spv_pictures.specs.Function as function;
 ghost use Rattle.spv_pictures.specs.Function.{ends_function};
 ghost use Rattle.spv_pictures.specs.inner.Rows.{function_at};
 
-use spv_module::{Inst, Module, opcode};
+use spv_module::{Inst, opcode};
 
 /// Whether a function ends before an instruction of that opcode.
 pub fn ends_before(code: u16) -> bool
@@ -51,16 +51,4 @@ pub fn function_from<'m, 'a>(insts: &'m [Inst<'a>], place: usize) -> &'m [Inst<'
 {
     let count = 1 + body_of(&insts[place + 1..]).len();
     &insts[place..place + count]
-}
-
-/// Whether a module has a function with that id.
-pub fn has_function(module: &Module<'_>, id: u32) -> bool
-    ensures { result ≡ list_any (function.is_function id) (plain_insts «module».now) }
-{
-    for inst in &module.insts {
-        if is_function(id, inst) {
-            return true;
-        }
-    }
-    false
 }

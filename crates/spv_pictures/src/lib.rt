@@ -13,5 +13,4 @@ mod rows;
 
 pub use blocks::block_graph;
 pub use calls::call_graph;
-pub use function::has_function;
 pub use marks::Finding;

@@ -1,6 +1,6 @@
 //! The answer to one row.
 use anyhow::bail;
-use spv_commands::{Command, Trouble, UseError, Versioned, arguments, report};
+use spv_commands::{Command, Trouble, UseError, arguments, report};
 use spv_streams::run;
 use spv_words::{FromRead, FromWrite};
 use std::alloc::Global;
@@ -51,7 +51,7 @@ impl Answer {
 
     /// The answer to a command.
     fn of_command(alloc: Global, command: &Command, grammar: &[u8], input: &[u8]) -> Answer {
-        let mut file = Versioned::new(FromRead::new(input));
+        let mut file = FromRead::new(input);
         let grammar = if names_grammar(command) {
             Some(grammar)
         } else {

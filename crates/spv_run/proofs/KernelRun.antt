@@ -19,6 +19,8 @@ use Rattle.spv_check.specs.Kernel.{grammar, entry_point, label, return_op, kerne
 use Rattle.spv_check.proofs.Kernel.{kept}
 use Rattle.spv_check.proofs.KernelRules.{fits, is_layout, ids_kept, capabilities_kept, types_kept, flow_kept}
 use Rattle.spv_check.proofs.KernelRules.{calls_kept, defined_3, defined_4, definition, not_local, used_below}
+use Rattle.spv_extended.specs.declared.reach.Reach.TheVariants.{Profile}
+use Rattle.spv_flow.specs.declared.branches.fork.Fork.TheVariants.{Free}
 use Rattle.spv_run.specs.Sound.{KeepsRules}
 use Rattle.spv_run.specs.Tracing.{IsRunOf, IsTraceOf}
 
@@ -70,8 +72,8 @@ sound = record {
   ids = λ r n s b. ids_kept r n b;
   capabilities = capabilities_kept;
   types = types_kept;
-  branches = λ r n s b. flow_kept r n b;
-  values = λ r n s b. flow_kept r n b;
+  branches = λ r n s b. flow_kept Free r n b;
+  values = λ r n s b. flow_kept Free r n b;
   calls = λ r n s b. calls_kept r n b;
 }
 
@@ -106,4 +108,4 @@ run_of t steps ending =
 
 pub trace_of : (t : Trace) → t.steps.items ≡ step_at 0 7 ∷ step_at 0 8 ∷ [] → ending_of t.ending ≡ Finished
     → IsTraceOf kernel_program 3 [] 9 t
-trace_of t steps ending = record { table = grammar; kept = kept; traced = run_of t steps ending }
+trace_of t steps ending = record { table = grammar; reach = Profile; kept = kept; traced = run_of t steps ending }

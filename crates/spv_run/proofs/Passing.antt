@@ -8,7 +8,7 @@ use Rattle.spv_module.specs.Operand.{PlainInst}
 use Rattle.spv_layout.specs.declared.class.Class.{Class}
 use Rattle.spv_layout.specs.declared.class.Class.TheVariants.{Capability, Variable, Undef, Function, Parameter}
 use Rattle.spv_layout.specs.declared.class.Class.TheVariants.{FunctionEnd, Label, Phi, Body, Branch, BranchConditional}
-use Rattle.spv_layout.specs.declared.class.Class.TheVariants.{Switch, Return, LoopMerge, SelectionMerge, Line}
+use Rattle.spv_layout.specs.declared.class.Class.TheVariants.{Switch, Return, LoopMerge, SelectionMerge, Line, Extended}
 use Rattle.spv_layout.specs.declared.state.State.{State}
 use Rattle.spv_layout.specs.declared.state.State.TheVariants as at
 use Rattle.spv_layout.specs.Class.{is_among}
@@ -73,7 +73,7 @@ a_terminator c = is_among c (Branch ∷ BranchConditional ∷ Switch ∷ Return 
 -- what may stand in a block after its label
 abbrev pub of_block : Class → Bool
 of_block c = is_among c (Variable ∷ Undef ∷ Phi ∷ Body ∷ Branch ∷ BranchConditional ∷ Switch ∷ Return ∷ LoopMerge
-    ∷ SelectionMerge ∷ Line ∷ [])
+    ∷ SelectionMerge ∷ Line ∷ Extended ∷ [])
 
 abbrev pub implies : Bool → Bool → Bool
 implies true b = b

@@ -2,6 +2,9 @@
 use Rattle.std.proofs.Common.{◌≡◌, ◌≢◌, ℕ, List, Result, Ok, Err, IfOk, refl, subst}
 use Rattle.spv_table.specs.Table.{Table}
 use Rattle.spv_module.specs.Operand.{PlainInst}
+use Rattle.spv_extended.specs.declared.reach.Reach.{Reach}
+use Rattle.spv_extended.specs.Reach.{profile_of}
+use Rattle.spv_flow.proofs.lemmas.walks.Staged.{unasked}
 use Rattle.spv_ids.specs.declared.ids.Ids.{Ids}
 use Rattle.spv_ids.specs.Outcome.{AreIds}
 use Rattle.spv_ids.specs.Outcome.{AreNumbered}
@@ -19,20 +22,23 @@ use Rattle.spv_run.specs.declared.parts.TraceError.{TraceError}
 use Rattle.spv_run.proofs.Sound.{checked}
 use Rattle.spv_run.proofs.Theorem.{never_gets_stuck}
 use Rattle.spv_run.proofs.Entries.{entry_defined, entry_function}
+use Rattle.spv_layout.proofs.Seen.{seen_layout}
+use Rattle.spv_layout.specs.Stage.{of_branches, of_values}
 use Rattle.spv_check.specs.Checked.{IsKept}
+use Rattle.spv_check.specs.Fork.{fork_of}
 use Rattle.spv_check.specs.Program.{Program}
 use Rattle.spv_run.specs.Tracing.{IsRunOf, IsTraceOf}
 
 -- what a run rests on is kept
-pub sound_run : (G : Table) (p : Program) → IsKept G p → KeepsRules G p.bound p.insts
-sound_run G p k = record {
-  fits = k.fits;
-  layout = k.layout;
+pub sound_run : (G : Table) (reach : Reach) (p : Program) → IsKept G reach p → KeepsRules G p.bound p.insts
+sound_run G reach p k = record {
+  fits = λ n i h. (k.laid_out.fits n i h).shape;
+  layout = seen_layout (profile_of reach) p.insts k.laid_out.layout;
   ids = k.ids;
   capabilities = k.capabilities;
   types = k.rules;
-  branches = k.branches;
-  values = k.values;
+  branches = unasked (fork_of reach) G p.insts of_branches k.branches;
+  values = unasked (fork_of reach) G p.insts of_values k.values;
   calls = k.calls;
 }
 
@@ -40,11 +46,11 @@ pub numbered : (G : Table) (bound : ℕ) (is : List PlainInst) (ids : Ids) → A
 numbered G bound is ids a = record { each = a.each }
 
 -- a trace of a list on which no rule is broken is of a run from its start
-pub of_run : (G : Table) (p : Program) (ids : Ids) (x : ℕ) (choices : List ℕ) (limit : ℕ) (t : Trace) → IsKept G p
-    → AreNumbered p.insts ids → IsTraced p.insts ids x choices limit t
+pub of_run : (G : Table) (reach : Reach) (p : Program) (ids : Ids) (x : ℕ) (choices : List ℕ) (limit : ℕ) (t : Trace)
+    → IsKept G reach p → AreNumbered p.insts ids → IsTraced p.insts ids x choices limit t
     → IsRunOf G p x choices limit t
-of_run G p ids x choices limit t k num told =
-    let sound = sound_run G p k in
+of_run G reach p ids x choices limit t k num told =
+    let sound = sound_run G reach p k in
     let d = entry_defined G p.bound p.insts x sound told.entry in
     let function = entry_function p.insts x d.0 told.entry d.1 in
     let start = (never_gets_stuck G p.insts (checked G p.bound p.insts sound) d.0 function choices).starts in
@@ -57,17 +63,17 @@ of_run G p ids x choices limit t k num told =
       run = told.run G p.bound d.0 start.0 sound num d.1 start.1;
     }
 
-pub each_run : (G : Table) (p : Program) (ids : Ids) (x : ℕ) (choices : List ℕ) (limit : ℕ)
-    (r : Result Trace TraceError) → IsKept G p → AreNumbered p.insts ids
+pub each_run : (G : Table) (reach : Reach) (p : Program) (ids : Ids) (x : ℕ) (choices : List ℕ) (limit : ℕ)
+    (r : Result Trace TraceError) → IsKept G reach p → AreNumbered p.insts ids
     → IfOk r (λ t. IsTraced p.insts ids x choices limit t) → IfOk r (λ t. IsRunOf G p x choices limit t)
-each_run G p ids x choices limit (Ok t) k num told = of_run G p ids x choices limit t k num told
-each_run G p ids x choices limit (Err e) k num told = tt
+each_run G reach p ids x choices limit (Ok t) k num told = of_run G reach p ids x choices limit t k num told
+each_run G reach p ids x choices limit (Err e) k num told = tt
 
-pub some_run : (G : Table) (p : Program) (x : ℕ) (choices : List ℕ) (limit : ℕ) (r : Result Trace TraceError)
-    → IsKept G p
+pub some_run : (G : Table) (reach : Reach) (p : Program) (x : ℕ) (choices : List ℕ) (limit : ℕ)
+    (r : Result Trace TraceError) → IsKept G reach p
     → IfOk r (λ t. IsRunOf G p x choices limit t) → IfOk r (λ t. IsTraceOf p x choices limit t)
-some_run G p x choices limit (Ok t) k told = record { table = G; kept = k; traced = told }
-some_run G p x choices limit (Err e) k told = tt
+some_run G reach p x choices limit (Ok t) k told = record { table = G; reach = reach; kept = k; traced = told }
+some_run G reach p x choices limit (Err e) k told = tt
 
 -- One trace.
 
@@ -111,7 +117,7 @@ pub one_trace : (p : Program) (x : ℕ) (choices : List ℕ) (limit : ℕ) (t u 
 one_trace p x choices limit t u a b =
     let r = a.traced in
     let q = b.traced in
-    let ok = checked a.table p.bound p.insts (sound_run a.table p a.kept) in
+    let ok = checked a.table p.bound p.insts (sound_run a.table a.reach p a.kept) in
     let function : q.function ≡ r.function = ok.once q.function r.function x (result_of p.insts q.function x q.defined)
     (result_of p.insts r.function x r.defined) in
     let start : IsStart p.insts r.function choices q.state = subst

@@ -23,6 +23,7 @@ use Rattle.spv_ids.specs.Definition as local_ids
 use Rattle.spv_ids.specs.Definition.{IsUsedAt}
 use Rattle.spv_ids.specs.Order.{IsInScope}
 use Rattle.spv_flow.specs.branches.Broken as branches
+use Rattle.spv_flow.specs.declared.branches.fork.Fork.TheVariants.{Free}
 use Rattle.spv_flow.specs.branches.Target as target
 use Rattle.spv_flow.specs.branches.inner.Target as opcodes
 use Rattle.spv_flow.specs.branches.Target.{IsOp, IsLabelOf}
@@ -120,7 +121,7 @@ phi_op : (G : Table) (i : PlainInst) (ps : List Pair) (is : List PlainInst) (n :
 phi_op G i ps is n fits at k = let p = phi_forms G i ps (fits n i at) k in let e = p.opcode in rw (at, e) refl
 
 pub has_parents : (G : Table) (is : List PlainInst) → AllFit G is → IsLayout (classes is) → IsLaidOut is
-    → HasOneDefinition is → IsUnbroken (branches.Broken G is) stages.of_branches → HasParents is
+    → HasOneDefinition is → IsUnbroken (branches.Broken Free G is) stages.of_branches → HasParents is
 has_parents G is fits laying laid once u =
     λ b n p y ps o h q r. by_value b n p y ps o h q r (value_from ps y) refl where
       by_value : (b n p y : ℕ) (ps : List Pair) → IsIn is b n → act_at is n ≡ Some (Phi ps) → IsPredecessor is p b
@@ -310,7 +311,8 @@ type_there is (y ∷ xs) (t ∷ ts) x h (suc k, l, e) = type_there is xs ts x h.
 
 -- A1
 missing : (G : Table) (is : List PlainInst) → AllFit G is → IsLaidOut is → HasLabelsInScope is
-    → IsUnbroken (branches.Broken G is) stages.of_values → (f n k x : ℕ) (past : List ℕ) (r : Role) → Walk is f past n
+    → IsUnbroken (branches.Broken Free G is) stages.of_values → (f n k x : ℕ) (past : List ℕ) (r : Role)
+    → Walk is f past n
     → n < length is
     → ¬ (IsOp is n target.is_phi) → IsUsedAt G is n k x r → IsLocalValue is x → Defined is past x
 missing G is fits laid scope u f n k x past r w l other used local = elim (defined_or is past x) [
@@ -434,7 +436,8 @@ before_or G is fits (h ∷ past) n e = elim (cases_Bool (is_label is h)) [
 
 -- A2
 phi_ready : (G : Table) (is : List PlainInst) → AllFit G is → IsLaidOut is → HasLabelsInScope is → IsTyped is
-    → IsUnbroken (branches.Broken G is) stages.of_values → (f n : ℕ) (past : List ℕ) (i : PlainInst) (ps : List Pair)
+    → IsUnbroken (branches.Broken Free G is) stages.of_values
+    → (f n : ℕ) (past : List ℕ) (i : PlainInst) (ps : List Pair)
     → Walk is f past n → slice_get is n ≡ Some i → act_of i ≡ Phi ps → (b y v : ℕ)
     → last_label is (before_label is past n) ≡ Some b → result_at is b ≡ Some y → value_from ps y ≡ Some v
     → IsLocal is v → Defined is (before_label is past n) v
@@ -506,7 +509,7 @@ phi_on is past n i act.Misfit h g = g refl
 phi_on is past n i act.Other h g = g refl
 
 pub all_ready : (G : Table) (is : List PlainInst) → AllFit G is → IsLaidOut is → HasLabelsInScope is → IsTyped is
-    → IsUnbroken (branches.Broken G is) stages.of_values → IsReady is
+    → IsUnbroken (branches.Broken Free G is) stages.of_values → IsReady is
 all_ready G is fits laid scope typed u = λ f n past i w at.
     let l = slice_get_within is n i at in
     phi_on is past n i (act_of i)
@@ -520,7 +523,7 @@ all_ready G is fits laid scope typed u = λ f n past i w at.
     (local_value G is fits laid x of_type.0 local of_type.1))
 
 pub others_ready : (G : Table) (is : List PlainInst) → AllFit G is → IsLaidOut is → HasLabelsInScope is
-    → IsUnbroken (branches.Broken G is) stages.of_values → AreOthersReady G is
+    → IsUnbroken (branches.Broken Free G is) stages.of_values → AreOthersReady G is
 others_ready G is fits laid scope u = λ f n k x past w used local.
     let i = used.inst in
     let at = used.there in

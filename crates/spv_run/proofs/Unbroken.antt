@@ -12,6 +12,7 @@ use Rattle.spv_layout.specs.First.{IsUnbroken}
 use Rattle.spv_layout.specs.Stage as stages
 use Rattle.spv_ids.specs.Broken as ids
 use Rattle.spv_flow.specs.branches.Broken as branches
+use Rattle.spv_flow.specs.declared.branches.fork.Fork.TheVariants.{Free}
 use Rattle.spv_flow.specs.branches.Target as target
 use Rattle.spv_flow.specs.branches.Target.{IsTarget}
 use Rattle.spv_flow.specs.calls.Broken as calls
@@ -131,7 +132,8 @@ target_of G is fits n x a h c =
     record { branch = rw (i.1, test) refl; operand = used.0; used = used.1 }
 
 -- F1
-pub has_labels : (G : Table) (is : List PlainInst) → AllFit G is → IsUnbroken (branches.Broken G is) stages.of_branches
+pub has_labels : (G : Table) (is : List PlainInst) → AllFit G is
+    → IsUnbroken (branches.Broken Free G is) stages.of_branches
     → HasLabels is
 has_labels G is fits u = λ n x a h c. elim (find_label is x) [
   | inl found ↦ found

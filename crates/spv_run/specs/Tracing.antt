@@ -1,6 +1,7 @@
 -- The trace of a checked module from an entry point. [3.49.5; own]
 use Rattle.std.specs.Prelude.{ℕ, List}
 use Rattle.spv_table.specs.Table.{Table}
+use Rattle.spv_extended.specs.declared.reach.Reach.{Reach}
 use Rattle.spv_ids.specs.Definition.{IsDefinedAt}
 use Rattle.spv_run.specs.Entry.{IsEntryId, IsOfRun}
 use Rattle.spv_run.specs.Run.{IsStart}
@@ -19,8 +20,9 @@ pub record IsRunOf (G : Table) (p : Program) (x : ℕ) (choices : List ℕ) (lim
   pub start : IsStart p.insts function choices state
   pub run : IsOfRun G p.insts limit state t
 
--- The same, under some table under which the module keeps all that the layers demand. [own]
+-- The same, under some table under which the module keeps all that the layers demand, as far as it was looked at. [own]
 pub record IsTraceOf (p : Program) (x : ℕ) (choices : List ℕ) (limit : ℕ) (t : Trace) : Type 0 where
   pub table : Table
-  pub kept : IsKept table p
+  pub reach : Reach
+  pub kept : IsKept table reach p
   pub traced : IsRunOf table p x choices limit t

@@ -1,7 +1,7 @@
 //! The run of a checked module from an entry point.
 ghost use Rattle.std.specs.Prelude.{ℕ, List, IfOk, IfErr};
 ghost use Rattle.spv_table.specs.Table.{Table};
-ghost use Rattle.spv_extended.specs.declared.reach.Reach.TheVariants.{Profile};
+ghost use Rattle.spv_extended.specs.declared.reach.Reach.{Reach};
 ghost use Rattle.spv_flow.specs.calls.Calls.{IsEntryFunction};
 ghost use Rattle.spv_run.specs.Entry.{RefusesEntry};
 ghost use Rattle.spv_run.specs.Promise.{NeverGetsStuck};
@@ -34,16 +34,16 @@ pub fn trace(
     choices: &[u32],
     limit: u32,
 ) -> Result<Trace, TraceError>
-    // It is of the run under some table by which the module is valid, and under each.
+    // It is of the run under some table by which the module is valid, and under each, however far it is looked at.
     ensures trace { IfOk result (λ t. IsTraceOf checked.now function choices.now limit t) }
-    ensures each { (G : Table) → IsSound G Profile checked.now.bound checked.now.insts
+    ensures each { (G : Table) (reach : Reach) → IsSound G reach checked.now.bound checked.now.insts
         → IfOk result (λ t. IsRunOf G checked.now function choices.now limit t) }
     ensures refused { IfErr result (λ e. RefusesEntry checked.now.insts function e) }
-    // Whatever is answered, the module is valid under some table. Under each by which it is, from each entry point's
-    // function, for all choices and numbers of steps, the run does not get stuck, and bound ids have their declared
-    // types.
-    ensures sound { (G : Table) × IsSound G Profile checked.now.bound checked.now.insts }
-    ensures free { (G : Table) → IsSound G Profile checked.now.bound checked.now.insts → (g : ℕ)
+    // Whatever is answered, the module is valid under some table, as far as it was looked at. Under each by which it
+    // is, however far, from each entry point's function, for all choices and numbers of steps, the run does not get
+    // stuck, and bound ids have their declared types.
+    ensures sound { (G : Table) × (reach : Reach) × IsSound G reach checked.now.bound checked.now.insts }
+    ensures free { (G : Table) (reach : Reach) → IsSound G reach checked.now.bound checked.now.insts → (g : ℕ)
         → IsEntryFunction checked.now.insts g → (xs : List ℕ) → NeverGetsStuck G checked.now.insts g xs }
 {
     kept_exactly();

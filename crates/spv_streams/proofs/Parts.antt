@@ -11,14 +11,14 @@ use Rattle.std.specs.Global.{Global}
 use Rattle.spv_builtin.specs.Source.{IsTableOf, breaks}
 use Rattle.spv_grammar.specs.declared.error.GrammarError.{GrammarError}
 use Rattle.spv_grammar.specs.declared.error.GrammarError.TheVariants.{J1, J2, J3, J4, J5, J6, J7, J8}
-use Rattle.spv_commands.specs.Trouble.{Writes, file_line, grammar_text, trouble_text, unread_trouble}
+use Rattle.spv_commands.specs.Trouble.{Writes, file_line, grammar_text, trouble_text}
 use Rattle.spv_commands.specs.declared.judging.Judging.{Judging}
 use Rattle.spv_commands.specs.Part.{IsPart, IsUnread, Known, told_line, unread_text}
 use Rattle.spv_commands.specs.Name.{label}
 use Rattle.spv_commands.specs.inner.Progress.{HasGot, WritesOn}
 use Rattle.spv_commands.specs.declared.judging.Part.{Part}
-use Rattle.spv_explain.specs.declared.answers.Unread.{Unread}
-use Rattle.spv_explain.specs.declared.answers.Unread.TheVariants.{File, Memory}
+use Rattle.spv_commands.specs.declared.trouble.Trouble.{Trouble}
+use Rattle.spv_commands.specs.declared.trouble.Trouble.TheVariants.{File, Memory}
 use Rattle.spv_commands.proofs.Parts.{got_nothing, never}
 use Rattle.spv_streams.specs.Each.{AreParts, Ends}
 use Rattle.spv_streams.specs.Each.{more, none}
@@ -113,21 +113,23 @@ cut_on text G how known all at word any status own told heard last part line old
     (v (g.lines ++ line) old_err before_err (u g.lines old_err before_err g.err_got)).writes refl
 
 -- what is written of a file that was not judged is its part
-unread_by : (G : Table) (how : Judging) (name : List ℕ) (known : Known) (why : Unread) (out : List ℕ)
-    → (why ≡ File → IfSome known (λ file. file ≡ None))
-    → out ≡ unread_text how.telling name why → IsPart G how name known out (label name ++ trouble_text (unread_trouble why)) 2
-unread_by G how name known File out h o = IsPart.unread (h refl) o refl refl
-unread_by G how name known Memory out h o = IsPart.starved (inl o) refl refl
+unread_by : (G : Table) (how : Judging) (name : List ℕ) (known : Known) (t : Trouble) (out : List ℕ)
+    → (t ≡ File → IfSome known (λ file. file ≡ None)) → (t ≡ File) ⊎ (t ≡ Memory)
+    → out ≡ unread_text how.telling name t → IsPart G how name known out (label name ++ trouble_text t) 2
+unread_by G how name known t out h (inl e) o =
+    rw e (IsPart.unread (h e) (rw e at o) refl refl)
+unread_by G how name known t out h (inr e) o =
+    rw e (IsPart.starved (inl (rw e at o)) refl refl)
 
-pub part_unread : (G : Table) (how : Judging) (name : List ℕ) (known : Known) (why : Unread) (part : Part)
-    → (why ≡ File → IfSome known (λ file. file ≡ None)) → part.status ≡ 2
-    → (((part.unread ≡ Some why) × (part.text.items ≡ unread_text how.telling name why))
-    ⊎ ((part.unread ≡ Some Memory) × (part.text.items ≡ [])))
-    → IsPart G how name known part.text.items (told_line name part.unread) part.status
-part_unread G how name known why part h s (inl t) =
-    rw (t.0, s) (unread_by G how name known why part.text.items h t.1)
-part_unread G how name known why part h s (inr t) =
-    rw (t.0, s) (IsPart.starved (inr t.1) refl refl)
+pub part_unread : (G : Table) (how : Judging) (name : List ℕ) (known : Known) (t : Trouble) (part : Part)
+    → (t ≡ File → IfSome known (λ file. file ≡ None)) → (t ≡ File) ⊎ (t ≡ Memory) → part.status ≡ 2
+    → (((part.trouble ≡ Some t) × (part.text.items ≡ unread_text how.telling name t))
+    ⊎ ((part.trouble ≡ Some Memory) × (part.text.items ≡ [])))
+    → IsPart G how name known part.text.items (told_line name part.trouble) part.status
+part_unread G how name known t part h o s (inl w) =
+    rw (w.0, s) (unread_by G how name known t part.text.items h o w.1)
+part_unread G how name known t part h o s (inr w) =
+    rw (w.0, s) (IsPart.starved (inr w.1) refl refl)
 
 -- what is written of a file that is known to have the bytes that were read
 of_bytes : (G : Table) (how : Judging) (name bytes : List ℕ) (known : Known) (out err : List ℕ) (status : ℕ)
@@ -139,17 +141,17 @@ of_bytes G how name bytes known out err status h (IsPart.unread k o e s) = cc
 of_bytes G how name bytes known out err status h (IsPart.starved o e s) = IsPart.starved o e s
 
 -- or of what its reading gave
-pub known_part : (G : Table) (how : Judging) (name : List ℕ) (known : Known) (file : Result (Vec ℕ Global) Unread)
+pub known_part : (G : Table) (how : Judging) (name : List ℕ) (known : Known) (file : Result (Vec ℕ Global) Trouble)
     (part : Part)
     → IfOk file (λ v. IfSome known (λ file. file ≡ Some v.items))
-    → (IsErrOf file File → IfSome known (λ file. file ≡ None))
-    → IfOk file (λ v. IsPart G how name (Some (Some v.items)) part.text.items (told_line name part.unread) part.status)
-    → IfErr file (λ why. IsUnread how name why part)
-    → IsPart G how name known part.text.items (told_line name part.unread) part.status
-known_part G how name known (Ok v) part given unread judged refused =
-    of_bytes G how name v.items known part.text.items (told_line name part.unread) part.status given judged
-known_part G how name known (Err why) part given unread judged refused =
-    part_unread G how name known why part (λ q. unread (ap Err q)) refused.0 refused.1
+    → (IsErrOf file File → IfSome known (λ file. file ≡ None)) → IfErr file (λ t. (t ≡ File) ⊎ (t ≡ Memory))
+    → IfOk file (λ v. IsPart G how name (Some (Some v.items)) part.text.items (told_line name part.trouble) part.status)
+    → IfErr file (λ t. IsUnread how name t part)
+    → IsPart G how name known part.text.items (told_line name part.trouble) part.status
+known_part G how name known (Ok v) part given unread only judged refused =
+    of_bytes G how name v.items known part.text.items (told_line name part.trouble) part.status given judged
+known_part G how name known (Err t) part given unread only judged refused =
+    part_unread G how name known t part (λ q. unread (ap Err q)) only refused.0 refused.1
 
 -- all files had their turn
 pub ends_on : (text : Option (List ℕ)) (G : Table) (how : Judging) (known : ℕ → Known) (all : List (Bor (List ℕ)))

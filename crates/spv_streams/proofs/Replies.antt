@@ -1,5 +1,5 @@
 -- What a command answers of what its file gives.
-use Rattle.std.proofs.Common.{◌≡◌, ◌≢◌, ◌⊎◌, ◌↔◌, ◌∙◌, ◌<◌, ℕ, List, Option, Some, None, Result, Ok, Err, IfSome}
+use Rattle.std.proofs.Common.{◌≡◌, ◌≢◌, ◌⊎◌, ◌↔◌, ◌∙◌, ◌<◌, ℕ, Bool, List, Option, Some, None, Result, Ok, Err, IfSome}
 use Rattle.std.proofs.Common.{IfOk, IfErr, IsErrOf, IsUtf8, length, ap, arith, subst, refl, inl, inr}
 use Rattle.std.specs.Prelude.{Vec}
 use Rattle.std.specs.Global.{Global}
@@ -12,7 +12,9 @@ use Rattle.spv_names.specs.declared.chosen.Chosen.{Chosen}
 use Rattle.spv_command_line.specs.declared.command_line.Command.{Command}
 use Rattle.spv_command_line.specs.declared.command_line.Command.TheVariants.{Judge, Show, Asm, Trace, Rules, Grammar}
 use Rattle.spv_command_line.specs.declared.command_line.Command.TheVariants.{Annotate, Graph}
-use Rattle.spv_commands.specs.Task.{Does, IsAmbiguous, IsNoText, LacksAsked, LacksEntry, ReadsNoFile, reach_of}
+use Rattle.spv_commands.specs.Task.{Does, IsAmbiguous, IsNoText, LacksAsked, LacksEntry, ReadsNoFile}
+use Rattle.spv_commands.specs.Assemble.{text_read}
+use Rattle.spv_scope.specs.Scope.{reach_of, taken}
 use Rattle.spv_commands.specs.Trace.{HasNoEntry, HasSeveral}
 use Rattle.spv_views.specs.View.{LacksFunction, NamesSeveral}
 use Rattle.spv_commands.specs.inner.Answered.{IsAnswerBy, WhyNot}
@@ -90,36 +92,36 @@ code_count P t r q (inr e) h = (λ p. let f = h.0 p in cc, λ w. let m : word.W9
 -- ---- what a command reads
 
 pub reads_nothing : (c : Command) → ReadsNoFile c → reads_of c ≡ Nothing
-reads_nothing (Judge task g fs v e p q j) n = absurd n
-reads_nothing (Show g f v) n = absurd n
-reads_nothing (Asm g f out b x) n = absurd n
-reads_nothing (Trace g f id choices limit v e) n = absurd n
-reads_nothing (Annotate g f v id form color) n = absurd n
-reads_nothing (Graph g f v id) n = absurd n
+reads_nothing (Judge task g fs s p q j) n = absurd n
+reads_nothing (Show g f s) n = absurd n
+reads_nothing (Asm g f out b x o) n = absurd n
+reads_nothing (Trace g f id choices limit s) n = absurd n
+reads_nothing (Annotate g f s id form color) n = absurd n
+reads_nothing (Graph g f s id) n = absurd n
 reads_nothing (Rules code j) n = refl
 reads_nothing (Grammar file) n = refl
 
 -- a command that reads something has got the bytes of its file
 same_content : (c : Command) (bytes : List ℕ) (v : Vec ℕ Global) → IsContent (reads_of c) bytes (Some v)
     → ReadsNoFile c ⊎ (v.items ≡ bytes)
-same_content (Judge task g fs v e p q j) bytes w k = inr k
-same_content (Show g f v) bytes w k = inr k
-same_content (Asm g f out b x) bytes w k = inr k
-same_content (Trace g f id choices limit v e) bytes w k = inr k
-same_content (Annotate g f v id form color) bytes w k = inr k
-same_content (Graph g f v id) bytes w k = inr k
+same_content (Judge task g fs s p q j) bytes w k = inr k
+same_content (Show g f s) bytes w k = inr k
+same_content (Asm g f out b x o) bytes w k = inr k
+same_content (Trace g f id choices limit s) bytes w k = inr k
+same_content (Annotate g f s id form color) bytes w k = inr k
+same_content (Graph g f s id) bytes w k = inr k
 same_content (Rules code j) bytes w k = inl tt
 same_content (Grammar file) bytes w k = inl tt
 
 -- and one that reads nothing does the same with any
 any_file : (c : Command) (G : Table) (bytes other : List ℕ) (a : Reply) → ReadsNoFile c → GivesBoth (Does c G) bytes a
     → GivesBoth (Does c G) other a
-any_file (Judge task g fs v e p q j) G bytes other a n h = absurd n
-any_file (Show g f v) G bytes other a n h = absurd n
-any_file (Asm g f out b x) G bytes other a n h = absurd n
-any_file (Trace g f id choices limit v e) G bytes other a n h = absurd n
-any_file (Annotate g f v id form color) G bytes other a n h = absurd n
-any_file (Graph g f v id) G bytes other a n h = absurd n
+any_file (Judge task g fs s p q j) G bytes other a n h = absurd n
+any_file (Show g f s) G bytes other a n h = absurd n
+any_file (Asm g f out b x o) G bytes other a n h = absurd n
+any_file (Trace g f id choices limit s) G bytes other a n h = absurd n
+any_file (Annotate g f s id form color) G bytes other a n h = absurd n
+any_file (Graph g f s id) G bytes other a n h = absurd n
 any_file (Rules code j) G bytes other a n h = h
 any_file (Grammar file) G bytes other a n h = h
 
@@ -136,12 +138,12 @@ reply_known c G (Some bytes) v (Ok a) k h = elim (same_content c bytes v k) [
 -- only a module is too long
 long_content : (c : Command) (bytes : List ℕ) → IsContent (reads_of c) bytes None
     → (reads_of c ≡ Module) × IsFirstBroken word.W8 bytes
-long_content (Judge task g fs v e p q j) bytes k = (refl, k)
-long_content (Show g f v) bytes k = (refl, k)
-long_content (Asm g f out b x) bytes k = absurd k
-long_content (Trace g f id choices limit v e) bytes k = (refl, k)
-long_content (Annotate g f v id form color) bytes k = (refl, k)
-long_content (Graph g f v id) bytes k = (refl, k)
+long_content (Judge task g fs s p q j) bytes k = (refl, k)
+long_content (Show g f s) bytes k = (refl, k)
+long_content (Asm g f out b x o) bytes k = absurd k
+long_content (Trace g f id choices limit s) bytes k = (refl, k)
+long_content (Annotate g f s id form color) bytes k = (refl, k)
+long_content (Graph g f s id) bytes k = (refl, k)
 long_content (Rules code j) bytes k = absurd k
 long_content (Grammar file) bytes k = absurd k
 
@@ -158,55 +160,59 @@ long_known c G left r k h = some_by left (λ bytes. IsContent (reads_of c) bytes
 
 text_known : (c : Command) (left : Option (List ℕ)) (v : Vec ℕ Global)
     → IfSome left (λ bytes. IsContent (reads_of c) bytes (Some v)) → IsNoText c (Some v.items) → IsNoText c left
-text_known (Judge task g fs v e p q j) left w k h = absurd h
-text_known (Show g f v) left w k h = absurd h
-text_known (Asm g f out b x) None w k h = tt
-text_known (Asm g f out b x) (Some bytes) w k h = subst (λ (l : List ℕ). ¬ (IsUtf8 l)) k h
-text_known (Trace g f id choices limit v e) left w k h = absurd h
-text_known (Annotate g f v id form color) left w k h = absurd h
-text_known (Graph g f v id) left w k h = absurd h
+text_known (Judge task g fs s p q j) left w k h = absurd h
+text_known (Show g f s) left w k h = absurd h
+text_known (Asm g f out b x o) None w k h = tt
+text_known (Asm g f out b x o) (Some bytes) w k h = subst (λ (l : List ℕ). ¬ (IsUtf8 (text_read o l))) k h
+text_known (Trace g f id choices limit s) left w k h = absurd h
+text_known (Annotate g f s id form color) left w k h = absurd h
+text_known (Graph g f s id) left w k h = absurd h
 text_known (Rules code j) left w k h = absurd h
 text_known (Grammar file) left w k h = absurd h
 
 entry_known : (c : Command) (G : Table) (left : Option (List ℕ)) (v : Vec ℕ Global)
     → IfSome left (λ bytes. IsContent (reads_of c) bytes (Some v)) → LacksEntry c G (Some v.items) → LacksEntry c G left
-entry_known (Judge task g fs v e p q j) G left w k h = absurd h
-entry_known (Show g f v) G left w k h = absurd h
-entry_known (Asm g f out b x) G left w k h = absurd h
-entry_known (Trace g f id choices limit v e) G None w k h = tt
-entry_known (Trace g f id choices limit v e) G (Some bytes) w k h =
-    subst (λ (l : List ℕ). HasNoEntry G (reach_of e) l id) k h
-entry_known (Annotate g f v id form color) G left w k h = absurd h
-entry_known (Graph g f v id) G left w k h = absurd h
+entry_known (Judge task g fs s p q j) G left w k h = absurd h
+entry_known (Show g f s) G left w k h = absurd h
+entry_known (Asm g f out b x o) G left w k h = absurd h
+entry_known (Trace g f id choices limit s) G None w k h = tt
+entry_known (Trace g f id choices limit s) G (Some bytes) w k h =
+    subst (λ (l : List ℕ). HasNoEntry G (reach_of s l) (taken s l) id) k h
+entry_known (Annotate g f s id form color) G left w k h = absurd h
+entry_known (Graph g f s id) G left w k h = absurd h
 entry_known (Rules code j) G left w k h = absurd h
 entry_known (Grammar file) G left w k h = absurd h
 
 asked_known : (c : Command) (G : Table) (left : Option (List ℕ)) (v : Vec ℕ Global)
     → IfSome left (λ bytes. IsContent (reads_of c) bytes (Some v)) → LacksAsked c G (Some v.items) → LacksAsked c G left
-asked_known (Judge task g fs v e p q j) G left w k h = absurd h
-asked_known (Show g f v) G left w k h = absurd h
-asked_known (Asm g f out b x) G left w k h = absurd h
-asked_known (Trace g f id choices limit v e) G left w k h = absurd h
-asked_known (Annotate g f v id form color) G None w k h = tt
-asked_known (Annotate g f v id form color) G (Some bytes) w k h = subst (λ (l : List ℕ). LacksFunction G l id) k h
-asked_known (Graph g f v id) G None w k h = tt
-asked_known (Graph g f v id) G (Some bytes) w k h = subst (λ (l : List ℕ). LacksFunction G l id) k h
+asked_known (Judge task g fs s p q j) G left w k h = absurd h
+asked_known (Show g f s) G left w k h = absurd h
+asked_known (Asm g f out b x o) G left w k h = absurd h
+asked_known (Trace g f id choices limit s) G left w k h = absurd h
+asked_known (Annotate g f s id form color) G None w k h = tt
+asked_known (Annotate g f s id form color) G (Some bytes) w k h =
+    subst (λ (l : List ℕ). LacksFunction G (reach_of s l) (taken s l) id) k h
+asked_known (Graph g f s id) G None w k h = tt
+asked_known (Graph g f s id) G (Some bytes) w k h =
+    subst (λ (l : List ℕ). LacksFunction G (reach_of s l) (taken s l) id) k h
 asked_known (Rules code j) G left w k h = absurd h
 asked_known (Grammar file) G left w k h = absurd h
 
 several_known : (c : Command) (G : Table) (left : Option (List ℕ)) (v : Vec ℕ Global)
     → IfSome left (λ bytes. IsContent (reads_of c) bytes (Some v)) → IsAmbiguous c G (Some v.items)
     → IsAmbiguous c G left
-several_known (Judge task g fs v e p q j) G left w k h = absurd h
-several_known (Show g f v) G left w k h = absurd h
-several_known (Asm g f out b x) G left w k h = absurd h
-several_known (Trace g f id choices limit v e) G None w k h = tt
-several_known (Trace g f id choices limit v e) G (Some bytes) w k h =
-    subst (λ (l : List ℕ). HasSeveral G (reach_of e) l id) k h
-several_known (Annotate g f v id form color) G None w k h = tt
-several_known (Annotate g f v id form color) G (Some bytes) w k h = subst (λ (l : List ℕ). NamesSeveral G l id) k h
-several_known (Graph g f v id) G None w k h = tt
-several_known (Graph g f v id) G (Some bytes) w k h = subst (λ (l : List ℕ). NamesSeveral G l id) k h
+several_known (Judge task g fs s p q j) G left w k h = absurd h
+several_known (Show g f s) G left w k h = absurd h
+several_known (Asm g f out b x o) G left w k h = absurd h
+several_known (Trace g f id choices limit s) G None w k h = tt
+several_known (Trace g f id choices limit s) G (Some bytes) w k h =
+    subst (λ (l : List ℕ). HasSeveral G (reach_of s l) (taken s l) id) k h
+several_known (Annotate g f s id form color) G None w k h = tt
+several_known (Annotate g f s id form color) G (Some bytes) w k h =
+    subst (λ (l : List ℕ). NamesSeveral G (reach_of s l) (taken s l) id) k h
+several_known (Graph g f s id) G None w k h = tt
+several_known (Graph g f s id) G (Some bytes) w k h =
+    subst (λ (l : List ℕ). NamesSeveral G (reach_of s l) (taken s l) id) k h
 several_known (Rules code j) G left w k h = absurd h
 several_known (Grammar file) G left w k h = absurd h
 
@@ -239,13 +245,14 @@ entry_reason G reach function left bytes (Err t) k (inr (inl e)) =
     inr (inr (inl (e.0, all_known left bytes (λ xs. HasSeveral G reach xs function) k e.1)))
 entry_reason G reach function left bytes (Err t) k (inr (inr e)) = inr (inr (inr e))
 
-pub text_reason : (left : Option (List ℕ)) (bytes : List ℕ) (r : Result Reply Trouble)
+pub text_reason : (opencl : Bool) (left : Option (List ℕ)) (bytes : List ℕ) (r : Result Reply Trouble)
     → IfSome left (λ xs. bytes ≡ xs)
-    → IfErr r (λ t. ((t ≡ NotText) × (¬ IsUtf8 bytes)) ⊎ (t ≡ Memory))
-    → IfErr r (λ t. (t ≡ File) ⊎ ((t ≡ NotText) × IfSome left (λ xs. ¬ IsUtf8 xs)) ⊎ (t ≡ Memory))
-text_reason left bytes (Ok a) k h = tt
-text_reason left bytes (Err t) k (inl e) = inr (inl (e.0, all_known left bytes (λ xs. ¬ IsUtf8 xs) k e.1))
-text_reason left bytes (Err t) k (inr e) = inr (inr e)
+    → IfErr r (λ t. ((t ≡ NotText) × (¬ IsUtf8 (text_read opencl bytes))) ⊎ (t ≡ Memory))
+    → IfErr r (λ t. (t ≡ File) ⊎ ((t ≡ NotText) × IfSome left (λ xs. ¬ IsUtf8 (text_read opencl xs))) ⊎ (t ≡ Memory))
+text_reason opencl left bytes (Ok a) k h = tt
+text_reason opencl left bytes (Err t) k (inl e) =
+    inr (inl (e.0, all_known left bytes (λ xs. ¬ IsUtf8 (text_read opencl xs)) k e.1))
+text_reason opencl left bytes (Err t) k (inr e) = inr (inr e)
 
 -- a reason is no failed call
 not_failed : (c : Command) (G : Table) (bytes : List ℕ) (t : Trouble) → WhyNot c G bytes t → t ≢ File

@@ -1,19 +1,18 @@
 -- Why a check ends as it does, by the text of its grammar file.
 use Rattle.std.proofs.Common.{◌≢◌, ◌⊎◌, ℕ, List, Bool, Option, Some, None, Result, Ok, Err, IfSome, IfOk, IfErr}
-use Rattle.std.proofs.Common.{IsErrOf, inl, inr, ap, option_map}
+use Rattle.std.proofs.Common.{IsErrOf, inl, inr, ap}
 use Rattle.spv_builtin.specs.Source.{IsTableOf, breaks}
 use Rattle.spv_grammar.specs.declared.error.GrammarError.{GrammarError}
 use Rattle.spv_grammar.specs.declared.error.GrammarError.TheVariants.{J1, J2, J3, J4, J5, J6, J7, J8}
 use Rattle.spv_table.specs.Table.{Table}
 use Rattle.spv_commands.specs.Streams.{AnyFailed, Reading, Writing}
 use Rattle.spv_commands.specs.Task.{Does, DoesByText, IsAmbiguousByText, IsNoText, LacksAskedByText}
-use Rattle.spv_commands.specs.Task.{LacksEntryByText, taken_by}
+use Rattle.spv_commands.specs.Task.{LacksEntryByText}
 use Rattle.spv_command_line.specs.declared.command_line.Command.{Command}
 use Rattle.spv_commands.specs.Trouble.{grammar_text, trouble_text}
-use Rattle.spv_commands.proofs.Answerings.{same_text}
 use Rattle.spv_streams.specs.Begin.{BeginsToDo}
 use Rattle.spv_streams.specs.Run.{IsErrorLine, refused, file, entry, function, memory, several}
-use Rattle.spv_streams.specs.inner.Ending.{EndsByTable, EndsByText, IsReason, reading_by}
+use Rattle.spv_streams.specs.inner.Ending.{EndsByTable, EndsByText, IsReason}
 use Rattle.spv_streams.proofs.Replies.{any_bytes, ok_by, some_by}
 use Rattle.spv_commands.specs.declared.trouble.Trouble.{Trouble}
 use Rattle.spv_commands.specs.declared.trouble.Trouble.TheVariants.{File, Grammar}
@@ -21,14 +20,14 @@ use Rattle.spv_commands.specs.declared.trouble.Trouble.TheVariants.{File, Gramma
 -- a trouble of a command has its reason
 line_of : (command : Command) (text : Option (List ℕ)) (G : Table) (f : Reading) (out made : Writing)
     (r : Result Bool Trouble) → IsTableOf text G
-    → IfErr r (IsReason command G (option_map (taken_by command) f.left))
+    → IfErr r (IsReason command G f.left)
     → (IsErrOf r File → AnyFailed f out made)
     → IfErr r (λ t. IsErrorLine text (AnyFailed f out made ⊎ IsNoText command f.left)
     (LacksEntryByText command text f.left) (LacksAskedByText command text f.left)
     (IsAmbiguousByText command text f.left) (trouble_text t))
 line_of command text G f out made (Ok v) h o w = tt
 line_of command text G f out made (Err t) h (inl e) w = rw e (file (inl (w (ap Err e))))
-line_of command text G f out made (Err t) h (inr (inl e)) w = rw (e.0) (file (inr (same_text command f.left e.1)))
+line_of command text G f out made (Err t) h (inr (inl e)) w = rw (e.0) (file (inr e.1))
 line_of command text G f out made (Err t) h (inr (inr (inl e))) w =
     rw (e.0) (entry (record { table = G; given = h; lacks = e.1 }))
 line_of command text G f out made (Err t) h (inr (inr (inr (inl e)))) w =
@@ -37,32 +36,20 @@ line_of command text G f out made (Err t) h (inr (inr (inr (inr (inl e))))) w =
     rw (e.0) (several (record { table = G; given = h; ambiguous = e.1 }))
 line_of command text G f out made (Err t) h (inr (inr (inr (inr (inr e))))) w = rw e memory
 
--- what holds of bytes as they are taken
-of_taken : (take : List ℕ → List ℕ) (known : Option (List ℕ)) (P : List ℕ → Type 0) → IfSome (option_map take known) P
-    → IfSome known (λ bytes. P (take bytes))
-of_taken take None P h = tt
-of_taken take (Some bytes) P h = h
-
--- how a command ends by the table of its run, of the bytes as it takes them
+-- how a command ends by the table of its run
 pub by_text : (command : Command) (text : Option (List ℕ)) (G : Table) (f : Reading) (out made : Writing)
     (r : Result Bool Trouble) → IsTableOf text G
-    → EndsByTable command G (reading_by command f) out made r → EndsByText command text f out made r
+    → EndsByTable command G f out made r → EndsByText command text f out made r
 by_text command text G f out made r given e = record {
   ends = record {
-    whole = some_by f.left (λ bytes. IfOk r
-        (Does command G (taken_by command bytes) out.held out.holds made.held made.holds))
+    whole = some_by f.left (λ bytes. IfOk r (Does command G bytes out.held out.holds made.held made.holds))
         (λ bytes. IfOk r (DoesByText command text bytes out.held out.holds made.held made.holds))
-        (λ bytes. ok_by r _ _ (λ answer d. record { table = G; given = given; does = d }))
-        (of_taken (taken_by command) f.left
-        (λ bytes. IfOk r (Does command G bytes out.held out.holds made.held made.holds)) e.ends.whole);
+        (λ bytes. ok_by r _ _ (λ answer d. record { table = G; given = given; does = d })) e.ends.whole;
     failed = e.ends.failed;
     unwritten = e.ends.unwritten;
     unmade = e.ends.unmade;
-    begun = λ w. some_by f.left (λ bytes. BeginsToDo command G
-        (taken_by command bytes) out.held out.holds made.held made.holds) _
-        (λ bytes b. record { table = G; given = given; begins = b })
-        (of_taken (taken_by command) f.left
-        (λ bytes. BeginsToDo command G bytes out.held out.holds made.held made.holds) (e.ends.begun w));
+    begun = λ w. some_by f.left (λ bytes. BeginsToDo command G bytes out.held out.holds made.held made.holds) _
+        (λ bytes b. record { table = G; given = given; begins = b }) (e.ends.begun w);
   };
   reason = line_of command text G f out made r given e.only (λ q. e.ends.failed.1 q);
 }

@@ -16,7 +16,8 @@ use Rattle.spv_views.specs.View.{BeginsViewing}
 use Rattle.spv_views.specs.declared.view.View.TheVariants as views
 use Rattle.spv_commands.specs.Assemble.{BeginsAssembling, order_of}
 use Rattle.spv_commands.specs.Show.{BeginsShowing}
-use Rattle.spv_commands.specs.Task.{AreRules, detail_of, reach_of, taken_by, view_of}
+use Rattle.spv_commands.specs.Task.{AreRules, detail_of, view_of}
+use Rattle.spv_scope.specs.Scope.{reach_of, taken}
 use Rattle.spv_commands.specs.Trace.{BeginsTracing}
 use Rattle.spv_commands.specs.Trouble.{BeginsWith}
 
@@ -46,24 +47,24 @@ BeginsTask (tasks.Explain full) G reach bytes old new = BeginsExplaining (detail
 -- `held`.
 abbrev pub BeginsToDo : Command → Table → List ℕ → Option (List ℕ) → Option (List ℕ) → Option (List ℕ)
     → Option (List ℕ) → Type 0
-BeginsToDo (Judge task grammar files as_1_6 extended naming quiet json) G bytes old new held kept =
-    IfSome old (λ xs. BeginsTask task G (reach_of extended) bytes xs new)
-BeginsToDo (Show grammar file as_1_6) G bytes old new held kept = IfSome old (λ xs. BeginsShowing G bytes xs new)
-BeginsToDo (Asm grammar file out big explain) G bytes old new held kept =
-    BeginsAssembling G (order_of big) explain bytes old new held kept
-BeginsToDo (Trace grammar file function choices limit as_1_6 extended) G bytes old new held kept =
-    IfSome old (λ xs. BeginsTracing G (reach_of extended) function choices.items limit bytes xs new)
-BeginsToDo (Annotate grammar file as_1_6 function form color) G bytes old new held kept =
-    IfSome old (λ xs. BeginsViewing (view_of form color file) G function bytes xs new)
-BeginsToDo (Graph grammar file as_1_6 function) G bytes old new held kept =
-    IfSome old (λ xs. BeginsViewing views.Graph G function bytes xs new)
+BeginsToDo (Judge task grammar files scope naming quiet json) G bytes old new held kept =
+    IfSome old (λ xs. BeginsTask task G (reach_of scope bytes) (taken scope bytes) xs new)
+BeginsToDo (Show grammar file scope) G bytes old new held kept =
+    IfSome old (λ xs. BeginsShowing G (reach_of scope bytes) (taken scope bytes) xs new)
+BeginsToDo (Asm grammar file out big explain opencl) G bytes old new held kept =
+    BeginsAssembling G (order_of big) explain opencl bytes old new held kept
+BeginsToDo (Trace grammar file function choices limit scope) G bytes old new held kept =
+    IfSome old (λ xs. BeginsTracing G (reach_of scope bytes) function choices.items limit (taken scope bytes) xs new)
+BeginsToDo (Annotate grammar file scope function form color) G bytes old new held kept =
+    IfSome old (λ xs. BeginsViewing (view_of form color file) G (reach_of scope bytes) function (taken scope bytes) xs new)
+BeginsToDo (Graph grammar file scope function) G bytes old new held kept =
+    IfSome old (λ xs. BeginsViewing views.Graph G (reach_of scope bytes) function (taken scope bytes) xs new)
 BeginsToDo (Rules code json) G bytes old new held kept = BeginsRules code json old new
 BeginsToDo (Grammar file) G bytes old new held kept = BeginsGrammar G old new
 
--- The same of the bytes as the command takes them, under the table of a run with a grammar file of this text, or
--- without one.
+-- The same under the table of a run with a grammar file of this text, or without one.
 pub record BeginsByText (command : Command) (text : Option (List ℕ)) (bytes : List ℕ)
     (old new held kept : Option (List ℕ)) : Type 0 where
   pub table : Table
   pub given : IsTableOf text table
-  pub begins : BeginsToDo command table (taken_by command bytes) old new held kept
+  pub begins : BeginsToDo command table bytes old new held kept

@@ -25,7 +25,7 @@ fn part_of<F: Files>(
     files: &mut F,
 ) -> Part
     ensures part { IsPart table.now how name.now (F.known files.old number) result.text.items
-        (told_line name.now result.unread) result.status }
+        (told_line name.now result.trouble) result.status }
     ensures small { result.status ≤ 2 }
     ensures kept { (n : ℕ) → F.known files.new n ≡ F.known files.old n }
 {
@@ -56,7 +56,7 @@ fn each_by<F: Files, W: Sink, E: Sink>(
         let name = names[number];
         let part = part_of(alloc, how, table, name, number, files);
         status = status.max(part.status);
-        told = tell(name, part.unread, told, err);
+        told = tell(name, part.trouble, told, err);
         if !write_on(part.text.as_slice(), true, out) {
             write_on(b"error file\n", told, err);
             return 2;

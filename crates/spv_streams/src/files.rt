@@ -1,9 +1,9 @@
 //! Files that are read whole, one after the other.
-ghost use Rattle.std.specs.Prelude.{◌≡◌, ℕ, Some, None, IfOk, IfSome, IsErrOf, option_map, slice_get};
+ghost use Rattle.std.specs.Prelude.{◌≡◌, ◌⊎◌, ℕ, Some, None, IfErr, IfOk, IfSome, IsErrOf, option_map, slice_get};
 ghost use Rattle.spv_commands.specs.Part.{Known};
-ghost use Rattle.spv_explain.specs.declared.answers.Unread.TheVariants.{File};
+ghost use Rattle.spv_commands.specs.declared.trouble.Trouble.TheVariants.{File, Memory};
 
-use spv_explain::Unread;
+use spv_commands::Trouble;
 use std::alloc::Global;
 
 /// Files that are known by their numbers, from 0.
@@ -17,9 +17,10 @@ pub trait Files {
     /// # Errors
     ///
     /// `File` where it does not open or a read of it failed, `Memory` where a growth of memory was refused.
-    fn read(&mut self, alloc: Global, number: usize) -> Result<Vec<u8>, Unread>
+    fn read(&mut self, alloc: Global, number: usize) -> Result<Vec<u8>, Trouble>
         ensures given { IfOk result (λ v. IfSome (known self.old number) (λ file. file ≡ Some v.items)) }
         ensures unread { IsErrOf result File → IfSome (known self.old number) (λ file. file ≡ None) }
+        ensures only { IfErr result (λ t. (t ≡ File) ⊎ (t ≡ Memory)) }
         ensures kept { (n : ℕ) → known self.new n ≡ known self.old n };
 }
 
@@ -33,10 +34,10 @@ pub struct InMemory<'a> {
 impl<'a> Files for InMemory<'a> {
     ghost known = { λ s n. option_map (λ file. option_map (λ bytes. bytes.now) file) (slice_get s.files.now n) };
 
-    fn read(&mut self, alloc: Global, number: usize) -> Result<Vec<u8>, Unread> {
+    fn read(&mut self, alloc: Global, number: usize) -> Result<Vec<u8>, Trouble> {
         match self.files.get(number) {
             Some(Some(bytes)) => Ok(Vec::from_slice(alloc, bytes)?),
-            _ => Err(Unread::File),
+            _ => Err(Trouble::File),
         }
     }
 }

@@ -11,7 +11,7 @@ ghost use Rattle.spv_commands.specs.Part.{Known, unread_text};
 ghost use Rattle.spv_commands.specs.Task.{MakesNothing, ReadsNoFile};
 ghost use Rattle.spv_commands.specs.Trouble.{Writes, entry_line, file_line, function_line, memory_line, use_line};
 ghost use Rattle.spv_commands.specs.declared.judging.Judging.{Judging};
-ghost use Rattle.spv_explain.specs.declared.answers.Unread.TheVariants.{File};
+ghost use Rattle.spv_commands.specs.declared.trouble.Trouble.TheVariants.{File};
 ghost use Rattle.spv_check.specs.Verdict.{line_end};
 ghost use Rattle.spv_streams.specs.Begin.{BeginsByText, BeginsGrammar};
 ghost use Rattle.spv_streams.specs.Each.{AreParts, Ends};

@@ -17,5 +17,5 @@ pub use each::run_each;
 pub use files::{Files, InMemory};
 pub use runs::run;
 pub use showing::show_stream;
-pub use spv_commands::{Judging, Telling, Trouble, Unread};
+pub use spv_commands::{Judging, Telling, Trouble};
 pub use tracing::trace_stream;

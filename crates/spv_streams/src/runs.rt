@@ -7,12 +7,12 @@ ghost use Rattle.spv_check.specs.Outcome.{HasFailed};
 ghost use Rattle.spv_commands.specs.Output.{made_of};
 ghost use Rattle.spv_commands.specs.Streams.{reading, writing};
 ghost use Rattle.spv_commands.specs.Task.{Does, MakesNothing, ReadsGrammar, ReadsNoFile};
-ghost use Rattle.spv_commands.specs.Task.{WritesRules, WritesRulesOf, taken};
+ghost use Rattle.spv_commands.specs.Task.{WritesRules, WritesRulesOf};
 ghost use Rattle.spv_commands.specs.Trouble.{Gets, grammar_text, memory_line};
 ghost use Rattle.spv_commands.specs.declared.trouble.Trouble.TheVariants.{File, Grammar};
 ghost use Rattle.spv_streams.specs.Begin.{BeginsRules, BeginsRulesOf};
 ghost use Rattle.spv_streams.specs.Run.{Runs, RunsRules};
-ghost use Rattle.spv_streams.specs.inner.Ending.{EndsByTable, EndsByText, EndsUnread, IsReason, reading_by};
+ghost use Rattle.spv_streams.specs.inner.Ending.{EndsByTable, EndsByText, EndsUnread, IsReason};
 ghost use Rattle.spv_streams.specs.inner.Put.{GivesBoth};
 
 use crate::reading::content_on;
@@ -20,10 +20,10 @@ use crate::writing::write_reply;
 use spv_builtin::laws::one_table;
 use spv_builtin::table_of;
 use spv_command_line::{AnyCode, Command};
-use spv_commands::asked::{is_as_1_6, rules_bytes};
+use spv_commands::asked::rules_bytes;
 use spv_commands::{Reply, Trouble, reply_to, report, too_long};
 use spv_table::Table;
-use spv_words::{Sink, Source, VersionSource, write_all};
+use spv_words::{Sink, Source, write_all};
 use std::alloc::Global;
 use std::mem::forget;
 
@@ -85,40 +85,9 @@ fn done_by<S: Source, W: Sink, O: Sink>(
     write_reply(&reply, out, made)
 }
 
-/// Has the bytes of a file taken as those of a module of 1.6, if that is asked for.
-fn take_as<S: VersionSource>(as_1_6: bool, file: &mut S)
-    ensures bytes { S.remaining file.new ≡ option_map (taken as_1_6) (S.remaining file.old) }
-    ensures failures { S.failures file.new ≡ S.failures file.old }
-    ensures unread { as_1_6 ≡ false → file.new ≡ file.old }
-{
-    if as_1_6 {
-        file.read_as_1_6();
-    }
-}
-
-/// Does what a command asks by a table, of the file's bytes as the command takes them: whether the module is valid, has
-/// a text, was made or has a run.
-fn done_as<S: VersionSource, W: Sink, O: Sink>(
-    alloc: Global,
-    command: &Command,
-    table: &Table,
-    file: &mut S,
-    out: &mut W,
-    made: &mut O,
-) -> Result<bool, Trouble>
-    ensures ends { EndsByTable command.now table.now
-        (reading_by command.now (reading S.remaining S.failures file.old file.new))
-        (writing W.contents W.failures out.old out.new) (writing O.contents O.failures made.old made.new) result }
-    ensures nothing { MakesNothing command.now → made.new ≡ made.old }
-    ensures unread { ReadsNoFile command.now → file.new ≡ file.old }
-{
-    take_as(is_as_1_6(command), file);
-    done_by(alloc, command, table, file, out, made)
-}
-
 /// Makes the table, and then does what a command asks: whether the module is valid, has a
 /// text, was made or has a run.
-fn done_by_text<S: VersionSource, W: Sink, O: Sink>(
+fn done_by_text<S: Source, W: Sink, O: Sink>(
     alloc: Global,
     command: &Command,
     grammar: Option<&[u8]>,
@@ -138,7 +107,7 @@ fn done_by_text<S: VersionSource, W: Sink, O: Sink>(
     one_table();
     match table_of(alloc, grammar) {
         Ok(table) => {
-            let answer = done_as(alloc, command, &table, file, out, made);
+            let answer = done_by(alloc, command, &table, file, out, made);
             // The process ends soon, which gives back its memory at once.
             forget(table);
             answer
@@ -149,7 +118,7 @@ fn done_by_text<S: VersionSource, W: Sink, O: Sink>(
 
 /// Does what a command asks: whether the module is valid, has a text, was made or has a run, or what codes say was
 /// written.
-fn done<S: VersionSource, W: Sink, O: Sink>(
+fn done<S: Source, W: Sink, O: Sink>(
     alloc: Global,
     command: &Command,
     grammar: Option<&[u8]>,
@@ -179,8 +148,7 @@ fn done<S: VersionSource, W: Sink, O: Sink>(
 ///
 /// `grammar` is the text of the grammar file; without one the built-in grammar is used. `file` is the module or the
 /// text, `out` the standard output, `made` the file that a command makes (only `asm` makes one), `err` the standard
-/// error. Where the command asks for it, a module of version 1.0 to 1.5 is taken as one of 1.6, and the operands of
-/// extended instructions are looked at too. Names, objects of JSON and `--quiet` are of `run_each`, and colour is
+/// error. A module is taken as the version that the command asks for, and looked at as far. Names, objects of JSON and `--quiet` are of `run_each`, and colour is
 /// written only where it is asked for in any case. 0: the module is valid, or its text, the module of a text, a run,
 /// what people look at, a grammar file or what codes say was written. 1: a fault line was written. 2: one line was
 /// written to `err`: `error J1` to `error J7` where the grammar file is refused, which is told first, `error file`
@@ -188,7 +156,7 @@ fn done<S: VersionSource, W: Sink, O: Sink>(
 /// entry point's, `error X2` where the function that is asked for is none of the module, `error use` where its name is
 /// that of several, `error memory` where a growth of memory was refused. Where the write to `err` fails too, it has got
 /// a beginning of that line, and the status is 2 all the same.
-pub fn run<S: VersionSource, W: Sink, O: Sink, E: Sink>(
+pub fn run<S: Source, W: Sink, O: Sink, E: Sink>(
     alloc: Global,
     command: &Command,
     grammar: Option<&[u8]>,

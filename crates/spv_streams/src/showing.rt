@@ -11,20 +11,26 @@ ghost use Rattle.spv_streams.specs.inner.Content.{code_of};
 use crate::reading::module_on;
 use crate::writing::write_out;
 use spv_commands::{Reply, Trouble, fault, shown};
+use spv_extended::Reach;
 use spv_table::Table;
 use spv_verdict::Judgment;
 use spv_words::{Sink, Source, WordError};
 use std::alloc::Global;
 
 /// What `show` answers of all the bytes of a reader.
-fn shown_on<R: Source>(alloc: Global, table: &Table, r: &mut R) -> Result<Reply, Trouble>
-    ensures known { IfSome (R.remaining r.old) (λ bytes. IfOk result (Gives (Shows table.now) bytes)) }
+fn shown_on<R: Source>(
+    alloc: Global,
+    table: &Table,
+    reach: Reach,
+    r: &mut R,
+) -> Result<Reply, Trouble>
+    ensures known { IfSome (R.remaining r.old) (λ bytes. IfOk result (Gives (Shows table.now reach) bytes)) }
     ensures count { HasFailed R.failures r.old r.new ↔ IsErrOf result File }
     ensures only { IfErr result (λ t. (t ≡ File) ⊎ (t ≡ Memory)) }
 {
     let content = module_on(alloc, r)?;
     match content {
-        Some(bytes) => shown(alloc, table, bytes),
+        Some(bytes) => shown(alloc, table, reach, bytes),
         None => Ok(fault(Judgment::Refused(WordError::W8))),
     }
 }
@@ -40,7 +46,8 @@ fn stream_code(trouble: Trouble) -> WordError
 }
 
 /// Writes the text of the module that a reader's bytes up to the end of input are, and answers true; or, where they are
-/// no words of a module or no list of instructions, their verdict line, and answers false.
+/// no words of a module or no list of instructions, their verdict line, and answers false. Where `reach` is that of a
+/// module of OpenCL, the text tells its version.
 ///
 /// # Errors
 ///
@@ -49,18 +56,19 @@ fn stream_code(trouble: Trouble) -> WordError
 pub fn show_stream<R: Source, W: Sink>(
     alloc: Global,
     table: &Table,
+    reach: Reach,
     r: &mut R,
     w: &mut W,
 ) -> Result<bool, WordError>
     // The writer has got what is shown of all the bytes that the reader still gave.
-    ensures ends { IsAnswered (Shows table.now) (BeginsShowing table.now) W1
+    ensures ends { IsAnswered (Shows table.now reach) (BeginsShowing table.now reach) W1
         (reading R.remaining R.failures r.old r.new) (writing W.contents W.failures w.old w.new) result }
     ensures only { IfErr result (λ e. (e ≡ W1) ⊎ (e ≡ W9)) }
     // After a failed read, or for lack of memory, the writer is as it was.
     ensures read { HasFailed R.failures r.old r.new → w.new ≡ w.old }
     ensures memory { IsErrOf result W9 → w.new ≡ w.old }
 {
-    let reply = match shown_on(alloc, table, r) {
+    let reply = match shown_on(alloc, table, reach, r) {
         Ok(reply) => reply,
         Err(trouble) => return Err(stream_code(trouble)),
     };

@@ -13,6 +13,7 @@ mod pattern;
 mod places;
 mod results;
 mod sort;
+mod span;
 mod table;
 
 pub use error::Memory;
@@ -22,5 +23,7 @@ pub use listed::{Listed, NameList};
 pub use name::{Name, NameText};
 pub use named::{Named, Names};
 pub use pattern::Pattern;
+pub use results::Results;
 pub use sort::Sort;
+pub use span::Span;
 pub use table::{Category, Entry, Enumerant, Item, Kind, Quantifier, Table};

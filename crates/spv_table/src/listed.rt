@@ -1,38 +1,65 @@
 ghost use Rattle.std.specs.Prelude.{◌≡◌, ◌<◌, ◌↔◌, [], IsTrue, Some, length, map, slice_get, string_bytes, IfOk};
+ghost use Rattle.std.specs.Str.{IsAscii};
 ghost use Rattle.spv_table.specs.inner.Joined.{IsJoined};
+ghost use Rattle.spv_table.specs.Span.{spanned};
 
 use crate::named::Named;
+use crate::span::Span;
 use std::alloc::{AllocError, Global};
 use std::marker::Model;
 use std::sync::Arc;
 
-/// A list that does not change. Contracts see it as the list of its items.
+/// Where a list has its items.
 #[derive(Drop)]
-pub struct Listed<T> {
-    items: Vec<T>,
+enum Items<'a, T> {
+    Own(Vec<T>),
+    Lent(&'a [T]),
 }
 
-impl<T> Model for Listed<T> {
+/// A list that does not change. Contracts see it as the list of its items.
+#[derive(Drop)]
+pub struct Listed<T: 'static> {
+    items: Items<'static, T>,
+}
+
+impl<T: 'static> Model for Listed<T> {
     ghost use Rattle.std.specs.Prelude.{List};
+    ghost use Rattle.spv_table.specs.inner.Listed.{items_in};
 
     ghost Value = { List T };
 
-    ghost view = { λ l. l.items.items };
+    ghost view = { λ l. items_in l.items };
 }
 
-impl<T> Listed<T> {
+impl<T: 'static> Listed<T> {
+    /// The list of items of the program. It takes no memory.
+    #[inline(always)]
+    pub fn lent(items: &'static [T]) -> Listed<T>
+        ensures { result ≡ items.now }
+    {
+        Listed {
+            items: Items::Lent(items),
+        }
+    }
+
     /// The list of a vector's items. It takes no memory.
     pub fn from_vec(items: Vec<T>) -> Listed<T>
         ensures { result ≡ items.items }
     {
-        Listed { items }
+        Listed {
+            items: Items::Own(items),
+        }
     }
 
     /// The items, in order.
+    #[inline(always)]
     pub fn as_slice(&self) -> &[T]
         ensures { result.now ≡ self.now }
     {
-        self.items.as_slice()
+        match &self.items {
+            Items::Own(items) => items.as_slice(),
+            Items::Lent(items) => items,
+        }
     }
 }
 
@@ -44,15 +71,13 @@ struct Joined {
     ends: Vec<u32>,
 }
 
-/// A list of names that several elements may share. Contracts see it as the list of the names.
-///
-/// It takes the octets of the names, four octets for each, and what one allocation of each takes.
+/// Names that several lists may share. Contracts see them as the list of the names.
 #[derive(Drop)]
-pub struct NameList {
+struct Shared {
     joined: Arc<Joined>,
 }
 
-impl Model for NameList {
+impl Model for Shared {
     ghost use Rattle.std.specs.Prelude.{◌≡◌, List, ℕ, length, string_bytes};
 
     ghost Value = { List (List ℕ) };
@@ -62,6 +87,49 @@ impl Model for NameList {
     ghost view = { λ l. names_in 0 (string_bytes l.joined.value.text) l.joined.value.ends.items };
 
     ghost invariant = { λ l. AreEnds 0 (string_bytes l.joined.value.text) l.joined.value.ends.items };
+}
+
+/// Names that lie in the program, each a part of one text. Contracts see them as the list of the names.
+#[derive(Drop)]
+struct Lent {
+    text: &'static str,
+    spans: &'static [Span],
+}
+
+impl Model for Lent {
+    ghost use Rattle.std.specs.Prelude.{List, ℕ, map};
+    ghost use Rattle.std.specs.Str.{IsAscii};
+    ghost use Rattle.spv_table.specs.Span.{spanned};
+
+    ghost Value = { List (List ℕ) };
+
+    ghost view = { λ l. map (spanned l.text.now) l.spans.now };
+
+    ghost invariant = { λ l. IsAscii l.text.now };
+}
+
+/// Where a list has its names.
+#[derive(Drop)]
+enum Kept {
+    Shared(Shared),
+    Lent(Lent),
+}
+
+/// A list of names that several elements may share. Contracts see it as the list of the names.
+///
+/// It takes the octets of the names, four octets for each, and what one allocation of each takes.
+#[derive(Drop)]
+pub struct NameList {
+    names: Kept,
+}
+
+impl Model for NameList {
+    ghost use Rattle.std.specs.Prelude.{List, ℕ};
+    ghost use Rattle.spv_table.specs.inner.NameList.{names_kept};
+
+    ghost Value = { List (List ℕ) };
+
+    ghost view = { λ l. names_kept l.names };
 }
 
 /// How many octets the names of some elements have together, or as many as there can be.
@@ -96,6 +164,52 @@ fn join<T: Named>(alloc: Global, elements: &[T]) -> Result<Joined, AllocError>
     Ok(Joined { text, ends })
 }
 
+impl Shared {
+    /// How many names there are.
+    fn len(&self) -> usize
+        ensures { result ≡ length self.now }
+    {
+        Arc::as_ref(&self.joined).ends.len()
+    }
+
+    /// The name at a place, from 0.
+    fn name(&self, place: usize) -> &str
+        requires { place < length self.now }
+        ensures { slice_get self.now place ≡ Some result.now }
+    {
+        let joined = Arc::as_ref(&self.joined);
+        let end = joined.ends[place] as usize;
+        let begin = if place == 0 {
+            0
+        } else {
+            joined.ends[place - 1] as usize
+        };
+        &joined.text.as_str()[begin..end]
+    }
+
+    /// The same names once more. The error is that there are too many of them.
+    fn share(&self) -> Result<Shared, AllocError>
+        ensures { IfOk result (λ l. l ≡ self.now) }
+    {
+        Ok(Shared {
+            joined: self.joined.clone()?,
+        })
+    }
+}
+
+impl Lent {
+    /// The name at a place, from 0.
+    fn name(&self, place: usize) -> &str
+        requires { place < length self.now }
+        ensures { slice_get self.now place ≡ Some result.now }
+    {
+        match self.spans.get(place) {
+            Some(span) => span.of(self.text),
+            None => "",
+        }
+    }
+}
+
 impl NameList {
     /// The list of the names of some elements. The error is that memory ran out, or places: the names may have
     /// 4,294,967,295 octets together.
@@ -103,8 +217,22 @@ impl NameList {
         ensures { IfOk result (λ l. l ≡ map T.name elements.now) }
     {
         match Arc::new(alloc, join(alloc, elements)?) {
-            Ok(joined) => Ok(NameList { joined }),
+            Ok(joined) => Ok(NameList {
+                names: Kept::Shared(Shared { joined }),
+            }),
             Err(_) => Err(AllocError),
+        }
+    }
+
+    /// The list of names that lie in the program, each a part of a text in ASCII: of a span that goes past the end of
+    /// the text, what there is. It takes no memory.
+    #[inline(always)]
+    pub fn lent(text: &'static str, spans: &'static [Span]) -> NameList
+        requires { IsAscii text.now }
+        ensures { result ≡ map (spanned text.now) spans.now }
+    {
+        NameList {
+            names: Kept::Lent(Lent { text, spans }),
         }
     }
 
@@ -112,16 +240,24 @@ impl NameList {
     pub fn share(&self) -> Result<NameList, AllocError>
         ensures { IfOk result (λ l. l ≡ self.now) }
     {
-        Ok(NameList {
-            joined: self.joined.clone()?,
-        })
+        let names = match &self.names {
+            Kept::Shared(names) => Kept::Shared(names.share()?),
+            Kept::Lent(names) => Kept::Lent(Lent {
+                text: names.text,
+                spans: names.spans,
+            }),
+        };
+        Ok(NameList { names })
     }
 
     /// How many names there are.
     pub fn len(&self) -> usize
         ensures { result ≡ length self.now }
     {
-        Arc::as_ref(&self.joined).ends.len()
+        match &self.names {
+            Kept::Shared(names) => names.len(),
+            Kept::Lent(names) => names.spans.len(),
+        }
     }
 
     /// Whether there is no name.
@@ -136,13 +272,9 @@ impl NameList {
         requires { place < length self.now }
         ensures { slice_get self.now place ≡ Some result.now }
     {
-        let joined = Arc::as_ref(&self.joined);
-        let end = joined.ends[place] as usize;
-        let begin = if place == 0 {
-            0
-        } else {
-            joined.ends[place - 1] as usize
-        };
-        &joined.text.as_str()[begin..end]
+        match &self.names {
+            Kept::Shared(names) => names.name(place),
+            Kept::Lent(names) => names.name(place),
+        }
     }
 }

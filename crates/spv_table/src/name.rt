@@ -1,4 +1,4 @@
-//! A name, which has a text of its own or is a part of a text that many names share.
+//! A name, which has a text of its own, is a part of a text that many names share, or lies in the program.
 
 ghost use Rattle.std.specs.Prelude.{◌≡◌, ◌≤◌, slice_range, string_bytes, IfOk};
 ghost use Rattle.std.specs.Str.{IsCharBoundary};
@@ -44,6 +44,7 @@ impl Part {
 enum Octets {
     Own(String),
     Part(Part),
+    Lent(&'static str),
 }
 
 /// A text of which names are parts. Contracts see it as the list of its octets.
@@ -132,6 +133,16 @@ impl Name {
         Name::from_str(alloc, self.as_str())
     }
 
+    /// The name that a text of the program is. It takes no memory.
+    #[inline(always)]
+    pub fn lent(text: &'static str) -> Name
+        ensures { result ≡ text.now }
+    {
+        Name {
+            octets: Octets::Lent(text),
+        }
+    }
+
     /// The name that a text is. It takes no memory.
     pub fn from_string(text: String) -> Name
         ensures { result ≡ string_bytes text }
@@ -148,6 +159,7 @@ impl Name {
         match &self.octets {
             Octets::Own(text) => text.as_str(),
             Octets::Part(part) => part.as_str(),
+            Octets::Lent(text) => text,
         }
     }
 }

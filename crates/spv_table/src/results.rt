@@ -11,7 +11,7 @@ use std::alloc::{AllocError, Global};
 
 /// Whether a pattern has a result.
 #[derive(Clone, Copy)]
-pub(crate) struct Results {
+pub struct Results {
     /// Among the items that are always there.
     pub always: bool,
     /// Among all items.

@@ -26,7 +26,7 @@ pub struct Sort {
     /// The place of the first enumerant with a greater value; nothing where the values of the list never go down.
     far: Option<BTreeMap<u32, usize>>,
     /// Where the names of the enumerants are; nothing where there are fewer than `FEW`.
-    names: Option<Box<Names>>,
+    names: Option<Names>,
 }
 
 impl Model for Sort {
@@ -139,22 +139,18 @@ fn far_places(
 }
 
 /// Where the names of enumerants are; nothing where they are few.
-fn names_of(alloc: Global, enumerants: &[Enumerant]) -> Result<Option<Box<Names>>, AllocError>
+fn names_of(alloc: Global, enumerants: &[Enumerant]) -> Result<Option<Names>, AllocError>
     requires { length enumerants.now < 2 ^ 32 }
     ensures { IfOk result (FindsAny (λ e. e.name) enumerants.now) }
 {
     if enumerants.len() < FEW {
         return Ok(None);
     }
-    let names = Names::of(alloc, enumerants)?;
-    match Box::new(alloc, names) {
-        Ok(names) => Ok(Some(names)),
-        Err(_) => Err(AllocError),
-    }
+    Ok(Some(Names::of(alloc, enumerants)?))
 }
 
 /// The place of the first enumerant with a name.
-fn place_of(names: &Option<Box<Names>>, enumerants: &[Enumerant], name: &str) -> Option<usize>
+fn place_of(names: &Option<Names>, enumerants: &[Enumerant], name: &str) -> Option<usize>
     requires { FindsAny (λ e. e.name) enumerants.now names.now }
     ensures { result ≡ position (λ e. bytes_eq name.now e.name) enumerants.now }
 {
@@ -196,6 +192,29 @@ impl Sort {
             enumerants,
             near,
             far,
+            names,
+        })
+    }
+
+    /// A kind with these enumerants, whose values never go down, and with the places of their names. The error is that
+    /// memory ran out.
+    pub fn found(
+        alloc: Global,
+        kind: Kind,
+        enumerants: Vec<Enumerant>,
+        names: Option<Names>,
+    ) -> Result<Sort, AllocError>
+        requires few { length enumerants.items < 2 ^ 32 }
+        requires ordered { IsNonDecreasingBy (λ e. e.value) enumerants.items }
+        requires finds { FindsAny (λ e. e.name) enumerants.items names }
+        ensures { IfOk result (λ s. s ≡ record { kind = kind; enumerants = enumerants.items }) }
+    {
+        let near = near_places(alloc, enumerants.as_slice())?;
+        Ok(Sort {
+            kind,
+            enumerants,
+            near,
+            far: None,
             names,
         })
     }

@@ -3,8 +3,9 @@ ghost use Rattle.std.specs.Prelude.{min, take, map, option_map, option_and_then,
 ghost use Rattle.spv_table.specs.Table.{entry_of, kind_of, enumerant_of, first_with, IsWhole};
 ghost use Rattle.spv_table.specs.Lookups.{opcode_named, value_named, number_named};
 ghost use Rattle.spv_table.specs.inner.Form.{form_of};
-ghost use Rattle.spv_table.specs.inner.Front.{front_at};
-ghost use Rattle.spv_table.specs.inner.Results.{entry_has_result};
+ghost use Rattle.spv_table.specs.inner.Front.{front_at, AreFronts};
+ghost use Rattle.spv_table.specs.inner.Named.{Finds};
+ghost use Rattle.spv_table.specs.inner.Results.{entry_has_result, results_of};
 
 use crate::form::{Form, forms_of};
 use crate::front::{Front, front_in, fronts_of};
@@ -158,6 +159,17 @@ fn place_in(places: &[u32], opcode: u16) -> u32
     }
 }
 
+/// A copy of a list.
+fn copied<T: Copy + Drop>(alloc: Global, items: &[T]) -> Result<Vec<T>, AllocError>
+    ensures { IfOk result (λ v. v.items ≡ items.now) }
+{
+    let mut copies = Vec::with_capacity(alloc, items.len())?;
+    for item in items {
+        copies.push(*item)?;
+    }
+    Ok(copies)
+}
+
 impl Named for (u16, Entry) {
     ghost name = { λ e. e.1.name };
 
@@ -187,6 +199,41 @@ impl Table {
         let results = results_of_entries(alloc, forms.as_slice(), entries.as_slice())?;
         let fronted = fronted_of(places.as_slice());
         let fronts = fronts_of(alloc, forms.as_slice(), fronted, entries.as_slice())?;
+        Ok(Table {
+            sorts,
+            entries,
+            places,
+            names,
+            kind_names,
+            forms,
+            results,
+            fronts,
+        })
+    }
+
+    /// The table of these kinds and entries, with the places of their names; of each entry whether its pattern has a
+    /// result; and the fronts of the opcodes of the profile. The error is that memory ran out.
+    pub fn found(
+        alloc: Global,
+        sorts: Vec<Sort>,
+        entries: Vec<(u16, Entry)>,
+        names: Names,
+        kind_names: Names,
+        results: &[Results],
+        fronts: &[Front],
+    ) -> Result<Table, AllocError>
+        requires whole { IsWhole (record { kinds = sorts.items; entries = entries.items }) }
+        requires names { Finds (λ e. e.1.name) entries.items names }
+        requires kind_names { Finds (λ s. s.kind.name) sorts.items kind_names }
+        requires results { results.now
+            ≡ map (λ e. results_of (record { kinds = sorts.items; entries = entries.items }) e.1) entries.items }
+        requires fronts { AreFronts (record { kinds = sorts.items; entries = entries.items }) fronts.now }
+        ensures { IfOk result (λ G. G ≡ record { kinds = sorts.items; entries = entries.items }) }
+    {
+        let places = opcode_places(alloc, entries.as_slice())?;
+        let forms = forms_of(alloc, sorts.as_slice())?;
+        let results = copied(alloc, results)?;
+        let fronts = copied(alloc, fronts)?;
         Ok(Table {
             sorts,
             entries,

@@ -29,6 +29,8 @@ one_of is t x v (form.Array a b) e h = inr ((λ s. cc), h)
 one_of is t x v form.Opaque e h = inr ((λ s. cc), h)
 one_of is t x v (form.Pointer a b) e h = inr ((λ s. cc), h)
 one_of is t x v form.Function e h = inr ((λ s. cc), h)
+one_of is t x v (form.Object o) e h = inr ((λ s. cc), h)
+one_of is t x v (form.SampledImage i) e h = inr ((λ s. cc), h)
 
 led_to : (is : List PlainInst) (xs : List ℕ) (t u : ℕ) → choices is xs t ≡ Some u → LeadsToType is t xs u
 led_to is [] t u e = ([], ChoosesParts.none t, rw (let s : t ≡ u = cc in s) (ReachesType.itself u))
@@ -60,6 +62,8 @@ any_part is t x k u (form.Array a b) e n h = rw (e, e) h
 any_part is t x k u form.Opaque e n h = absurd (none-some u h)
 any_part is t x k u (form.Pointer a b) e n h = absurd (none-some u h)
 any_part is t x k u form.Function e n h = absurd (none-some u h)
+any_part is t x k u (form.Object o) e n h = absurd (none-some u h)
+any_part is t x k u (form.SampledImage i) e n h = absurd (none-some u h)
 
 leading : (is : List PlainInst) (xs ks : List ℕ) (t u : ℕ) → ChoosesParts is t xs ks → ReachesType is t ks u
     → choices is xs t ≡ Some u

@@ -5,3 +5,6 @@ pub mod TagTests
 pub mod Lookups
 pub mod Worked
 pub mod Meanings
+pub mod Ranges
+pub mod Lacking
+pub mod Deciding

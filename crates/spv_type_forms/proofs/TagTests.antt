@@ -108,6 +108,8 @@ int_in_form (Some form.Struct) = (λ y. cc, λ q. cc)
 int_in_form (Some form.Opaque) = (λ y. cc, λ q. cc)
 int_in_form (Some (form.Pointer a b)) = (λ y. cc, λ q. cc)
 int_in_form (Some form.Function) = (λ y. cc, λ q. cc)
+int_in_form (Some (form.Object o)) = (λ y. cc, λ q. cc)
+int_in_form (Some (form.SampledImage i)) = (λ y. cc, λ q. cc)
 
 pub ints_typed : (is : List PlainInst) (xs : List ℕ)
     → (list_all (has_int is) xs ≡ true) ↔ IsSomeAnd (types_of is xs) (AllByRecursion (IsSomeInt is))

@@ -5,5 +5,7 @@ pub mod Parts
 pub mod Reach
 pub mod Values
 pub mod Definitions
+pub mod Objects
+pub mod Null
 pub mod Example
 pub mod inner

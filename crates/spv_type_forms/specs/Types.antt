@@ -6,6 +6,7 @@ use Rattle.spv_type_forms.specs.declared.form.Scalar.{Scalar}
 use Rattle.spv_type_forms.specs.declared.form.Scalar.TheVariants as scalar
 use Rattle.spv_type_forms.specs.declared.form.Form.{Form}
 use Rattle.spv_type_forms.specs.declared.form.Form.TheVariants as form
+use Rattle.spv_type_forms.specs.declared.form.Object.{Object}
 use Rattle.spv_type_forms.specs.declared.form.Sort.{Sort}
 use Rattle.spv_type_forms.specs.declared.form.Sort.TheVariants as sort
 use Rattle.spv_type_forms.specs.declared.form.Components.{Components}
@@ -74,12 +75,26 @@ class_in _ = None
 abbrev pub PointsTo : List PlainInst → ℕ → ℕ → Type 0
 PointsTo is t p = pointee_in (form_of is t) ≡ Some p
 
--- A data type: an int, float, bool, vector, array, struct or pointer type; and an id that declares one. [own: Y5]
+-- A data type: an int, float, bool, vector, array, struct or pointer type, or that of an object; and an id that
+-- declares one. [own: Y5]
 abbrev pub IsDataForm : Form → Type 0
 IsDataForm form.Void = ⊥
 IsDataForm form.Opaque = ⊥
 IsDataForm form.Function = ⊥
+IsDataForm (form.SampledImage i) = ⊥
 IsDataForm _ = Unit {0}
 
 abbrev pub IsData : List PlainInst → ℕ → Type 0
 IsData is t = IsSomeAnd (form_of is t) IsDataForm
+
+-- a type of objects of a sort [3.49.6]
+abbrev pub IsObject : List PlainInst → Object → ℕ → Type 0
+IsObject is o t = form_of is t ≡ Some (form.Object o)
+
+-- a data type, but for those of objects; and an id that declares one [own: Y5]
+abbrev pub IsPlainForm : Form → Type 0
+IsPlainForm (form.Object o) = ⊥
+IsPlainForm f = IsDataForm f
+
+abbrev pub IsPlain : List PlainInst → ℕ → Type 0
+IsPlain is t = IsSomeAnd (form_of is t) IsPlainForm

@@ -7,3 +7,4 @@ pub mod Definitions
 pub mod Reach
 pub mod Types
 pub mod Meaning
+pub mod Null

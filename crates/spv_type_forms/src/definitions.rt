@@ -1,7 +1,7 @@
 //! What the ids of a module stand for.
 
 ghost use Rattle.std.specs.Prelude.{◌≡◌, ◌≢◌, ◌↔◌, ◌<◌, ℕ, IfOk, IsTrue, IsSome, IsSomeAnd, Some, length, map};
-ghost use Rattle.std.specs.Prelude.{option_map, slice_get};
+ghost use Rattle.std.specs.Prelude.{option_map, option_and_then, slice_get};
 ghost use Rattle.spv_table.specs.Table.{Table};
 ghost use Rattle.spv_module.specs.declared.opcode.TheConstants as opcode;
 ghost use Rattle.spv_module.specs.Width as width;
@@ -16,9 +16,11 @@ ghost use Rattle.spv_type_forms.specs.Types.{scalar_in, components_of, pointee_i
 ghost use Rattle.spv_type_forms.specs.inner.Definitions as definitions;
 ghost use Rattle.spv_type_forms.specs.inner.Meaning.{AreMeant, IsMeant};
 ghost use Rattle.spv_type_forms.specs.Definitions.{IsConstant, IsGlobal};
+ghost use Rattle.spv_type_forms.specs.Objects.{addressing_of, size_in};
 
 use crate::form::{Components, Form, Scalar, form_in};
 use crate::meaning::{Meaning, note_in};
+use crate::objects::addressing;
 use spv_ids::Ids;
 use spv_layout::{Place, Plan};
 use spv_module::{Inst, Module, Operand, opcode};
@@ -36,6 +38,8 @@ pub struct Definitions<'m, 'a> {
     ids: &'m Ids,
     /// By id what is noted of it, as far as the list goes.
     meanings: &'m [Meaning],
+    /// The addressing model: the first operand of the OpMemoryModel.
+    addressing: Option<u32>,
 }
 
 impl<'m, 'a> Model for Definitions<'m, 'a> {
@@ -49,7 +53,7 @@ impl<'m, 'a> Model for Definitions<'m, 'a> {
     ghost view = { λ d. map plain_inst d.insts.now };
 
     ghost invariant = { λ d. AreFound (map plain_inst d.insts.now) d.plan.now d.ids.now
-        d.meanings.now };
+        d.meanings.now d.addressing };
 }
 
 impl<'m, 'a> Definitions<'m, 'a> {
@@ -65,6 +69,7 @@ impl<'m, 'a> Definitions<'m, 'a> {
             plan,
             ids,
             meanings: &[],
+            addressing: addressing(insts),
         }
     }
 
@@ -79,6 +84,7 @@ impl<'m, 'a> Definitions<'m, 'a> {
             plan: self.plan,
             ids: self.ids,
             meanings,
+            addressing: self.addressing,
         }
     }
 
@@ -133,6 +139,14 @@ impl<'m, 'a> Definitions<'m, 'a> {
             unreachable!();
         };
         place
+    }
+
+    /// The number of the instruction that defines an id.
+    #[inline(always)]
+    pub fn number(&self, id: u32) -> Option<u32>
+        ensures { IsDefinitionOf self.now id result }
+    {
+        self.ids.definition(id)
     }
 
     /// The definition of an id: the instruction whose result it is.
@@ -219,6 +233,18 @@ impl<'m, 'a> Definitions<'m, 'a> {
         self.read_form(id)
     }
 
+    /// How wide a size is, in bits: 32 where the addressing model is Physical32, 64 where it is Physical64.
+    #[inline(always)]
+    pub fn size_width(&self) -> Option<u32>
+        ensures { result ≡ option_and_then size_in (addressing_of self.now) }
+    {
+        match self.addressing? {
+            1 => Some(32),
+            2 => Some(64),
+            _ => None,
+        }
+    }
+
     /// The scalar type that an id declares.
     fn scalar(&self, id: u32) -> Option<Scalar>
         ensures { result ≡ scalar_in (form_of self.now id) }
@@ -286,9 +312,9 @@ pub fn is_constant_opcode(number: u16) -> bool
     ensures { result ≡ definitions.is_constant_opcode number }
 {
     match number {
-        opcode::CONSTANT_TRUE..=opcode::CONSTANT_COMPOSITE
-        | opcode::CONSTANT_NULL
-        | opcode::SPEC_CONSTANT_TRUE..=opcode::SPEC_CONSTANT_COMPOSITE => true,
+        opcode::CONSTANT_TRUE..=opcode::CONSTANT_NULL
+        | opcode::SPEC_CONSTANT_TRUE..=opcode::SPEC_CONSTANT_COMPOSITE
+        | opcode::CONSTANT_PIPE_STORAGE => true,
         _ => false,
     }
 }

@@ -13,8 +13,23 @@ pub enum Scalar {
     Bool,
 }
 
+/// What an opaque type of OpenCL is of (SPIR-V Specification 1.6, sections 3.49.6 and 2.2.2).
+#[derive(Clone, Copy, PartialEq, Eq)]
+pub enum Object {
+    Image,
+    Sampler,
+    Event,
+    DeviceEvent,
+    ReserveId,
+    Queue,
+    Pipe,
+    PipeStorage,
+    NamedBarrier,
+}
+
 /// What a type declaration declares (SPIR-V Specification 1.6, section 3.49.6). Other types are named by their ids. The
-/// members of a struct, and what a function type returns and takes, are read from the declaration.
+/// members of a struct, what a function type returns and takes, what an image type says of its images and a pipe type
+/// of its access are read from the declaration.
 #[derive(Clone, Copy, PartialEq, Eq)]
 pub enum Form {
     Void,
@@ -27,6 +42,9 @@ pub enum Form {
     /// `class` is the number of the storage class.
     Pointer { class: u32, pointee: u32 },
     Function,
+    Object(Object),
+    /// The id is that of the image type.
+    SampledImage(u32),
 }
 
 /// What the operands of OpTypeInt declare.
@@ -108,6 +126,36 @@ fn pointer_in(operands: &[Operand]) -> Option<Form>
     }
 }
 
+/// What the operands of OpTypeSampledImage declare.
+#[inline(always)]
+fn sampled_image_in(operands: &[Operand]) -> Option<Form>
+    ensures { result ≡ spec.sampled_image_in (plain_operands operands.now) }
+{
+    match operands {
+        [Operand::Result(_), Operand::Id(image), ..] => Some(Form::SampledImage(*image)),
+        _ => None,
+    }
+}
+
+/// What an opcode declares objects of.
+#[inline(always)]
+pub fn object_of(number: u16) -> Option<Object>
+    ensures { result ≡ spec.object_of number }
+{
+    match number {
+        opcode::TYPE_IMAGE => Some(Object::Image),
+        opcode::TYPE_SAMPLER => Some(Object::Sampler),
+        opcode::TYPE_EVENT => Some(Object::Event),
+        opcode::TYPE_DEVICE_EVENT => Some(Object::DeviceEvent),
+        opcode::TYPE_RESERVE_ID => Some(Object::ReserveId),
+        opcode::TYPE_QUEUE => Some(Object::Queue),
+        opcode::TYPE_PIPE => Some(Object::Pipe),
+        opcode::TYPE_PIPE_STORAGE => Some(Object::PipeStorage),
+        opcode::TYPE_NAMED_BARRIER => Some(Object::NamedBarrier),
+        _ => None,
+    }
+}
+
 /// What an instruction declares, if it is a type declaration.
 #[inline(always)]
 pub fn form_in(inst: &Inst) -> Option<Form>
@@ -125,7 +173,8 @@ pub fn form_in(inst: &Inst) -> Option<Form>
         opcode::TYPE_OPAQUE => Some(Form::Opaque),
         opcode::TYPE_POINTER => pointer_in(operands),
         opcode::TYPE_FUNCTION => Some(Form::Function),
-        _ => None,
+        opcode::TYPE_SAMPLED_IMAGE => sampled_image_in(operands),
+        number => Some(Form::Object(object_of(number)?)),
     }
 }
 

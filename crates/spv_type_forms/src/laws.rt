@@ -8,11 +8,15 @@ ghost use Rattle.spv_type_forms.specs.inner.Reach.{LeadsToType};
 ghost use Rattle.spv_type_forms.specs.Form.{form_of};
 ghost use Rattle.spv_type_forms.specs.Types.{IsInt, IsFloat, IsBool, IsSomeInt, IsNumber, HasSort};
 ghost use Rattle.spv_type_forms.specs.inner.Types.{IsI, IsF, IsB, IsOf};
-ghost use Rattle.spv_type_forms.specs.Types.{IsVector, IsPointer, IsData, PointsTo};
+ghost use Rattle.spv_type_forms.specs.Types.{IsVector, IsPointer, IsData, IsObject, IsPlain, PointsTo};
+ghost use Rattle.spv_type_forms.specs.declared.form.Object.TheVariants as object;
+ghost use Rattle.spv_type_forms.specs.Objects.{image_of, pipe_access_of, IsSizeInt, IsSizeArray};
+ghost use Rattle.spv_type_forms.specs.Objects.{IsRangeStruct, IsRange};
+ghost use Rattle.spv_type_forms.specs.Null.{IsNullable};
 ghost use Rattle.spv_type_forms.specs.Parts.{AreParts};
 ghost use Rattle.spv_type_forms.specs.Definitions.{IsConstant, IsGlobal};
 ghost use Rattle.spv_type_forms.specs.Values.{types_of};
-ghost use Rattle.spv_type_forms.specs.Example.{small, lone_variable};
+ghost use Rattle.spv_type_forms.specs.Example.{small, lone_variable, objects, pipes};
 ghost use Rattle.spv_type_forms.specs.inner.Walk.{walk, choices};
 
 /// By a list of indexes a type reaches at most one type.
@@ -112,4 +116,53 @@ pub fn definition_examples()
     // An OpVariable alone, which stands in section 9.
     ensures global { IsGlobal lone_variable 8 }
     ensures no_global { ¬ (IsGlobal lone_variable 7) }
+{}
+
+/// Types of a module of Physical64: `%1` and `%2` are ints of width 32 and 64; `%4` images of two dimensions that are
+/// written, `%5` those with a sampler, `%6` pipes that are written, `%7` queues; `%9` an array of three of `%2`, `%10`
+/// a struct of `%1` and three of `%9`, `%11` a pointer to it; `%12` an array of `%6`, `%13` a struct of `%7` and `%1`;
+/// `%15` is a constant of pipe storage.
+pub fn object_examples()
+    ensures image { image_of objects 4 ≡ Some (record {
+      sampled_type = 3;
+      dim = 1;
+      depth = 0;
+      arrayed = 0;
+      multisampled = 0;
+      sampled = 0;
+      access = Some 1;
+    }) }
+    ensures no_image { image_of objects 6 ≡ None }
+    ensures pipe { pipe_access_of objects 6 ≡ Some 1 }
+    ensures no_pipe { pipe_access_of objects 4 ≡ None }
+    ensures queue { IsObject objects object.Queue 7 }
+    ensures no_event { ¬ (IsObject objects object.Event 7) }
+    // Objects are data; images with a sampler are not.
+    ensures data { IsData objects 4 }
+    ensures no_data { ¬ (IsData objects 5) }
+    ensures plain { IsPlain objects 13 }
+    ensures not_plain { ¬ (IsPlain objects 4) }
+    ensures constant { IsConstant objects 15 }
+{}
+
+/// Sizes and ranges of that module.
+pub fn range_examples()
+    ensures size { IsSizeInt objects 2 }
+    ensures no_size { ¬ (IsSizeInt objects 1) }
+    ensures sizes { IsSizeArray objects 3 9 }
+    ensures fewer_sizes { ¬ (IsSizeArray objects 2 9) }
+    ensures range { IsRangeStruct objects 10 }
+    ensures no_range { ¬ (IsRangeStruct objects 13) }
+    ensures pointer { IsRange objects 11 }
+    ensures no_pointer { ¬ (IsRange objects 9) }
+{}
+
+/// Types of it with a null value, and without.
+pub fn null_examples()
+    ensures int { IsNullable objects 1 }
+    // An int and a struct of a queue and an int; pipes, and an array of them.
+    ensures members { IsNullable objects 13 }
+    ensures pipe { ¬ (IsNullable pipes 1) }
+    ensures pipes { ¬ (IsNullable pipes 2) }
+    ensures no_data { ¬ (IsNullable objects 5) }
 {}

@@ -6,6 +6,8 @@ mod form;
 mod gathering;
 mod laws;
 mod meaning;
+mod nulls;
+mod objects;
 mod operands;
 mod parts;
 mod reach;
@@ -13,11 +15,15 @@ mod several;
 mod types;
 
 pub use definitions::{DECLARATIONS, Definitions, is_constant, is_constant_opcode, type_in};
-pub use form::{Components, Form, Scalar, Sort, form_in};
+pub use form::{Components, Form, Object, Scalar, Sort, form_in};
 pub use gathering::{MOST, gather};
 pub use meaning::Meaning;
+pub use nulls::Nulls;
+pub use objects::{
+    Image, image_in, image_of, is_range, is_range_struct, is_size_array, is_size_int, pipe_access,
+};
 pub use operands::{after_head, after_result, has_words, id_count, result_type, word_count};
 pub use parts::{Parts, count, length, parts_of};
 pub use reach::{leads_by_ints, reaches};
 pub use several::{all_pairs_of_type, all_pointees, fills, is_typed, stands_for_int};
-pub use types::{has_sort, is_data, is_int, is_number, points_to};
+pub use types::{has_sort, is_data, is_int, is_number, is_object, is_plain, points_to};

@@ -7,7 +7,7 @@ ghost use Rattle.spv_type_forms.specs.declared.form.Form.TheVariants as forms;
 ghost use Rattle.spv_type_forms.specs.inner.Meaning as spec;
 ghost use Rattle.spv_type_forms.specs.inner.Meaning.{IsSaid, IsMeaningOf};
 
-use crate::form::{Form, Scalar, form_in};
+use crate::form::{Form, Object, Scalar, form_in};
 use spv_module::{Inst, Operand, opcode};
 
 /// What an id stands for, as far as it was noted. Each variant has one number at most, so that a list of these is
@@ -43,6 +43,9 @@ pub enum Meaning {
     CrossWorkgroup(u32),
     Local(u32),
     Generic(u32),
+    Object(Object),
+    /// That of the images of a type, with samplers.
+    SampledImage(u32),
 }
 
 const _: () = prove!(std::mem::size_of::<Meaning>() == 8);
@@ -106,6 +109,8 @@ impl Meaning {
             Meaning::CrossWorkgroup(pointee) => Some(Form::Pointer { class: 5, pointee }),
             Meaning::Local(pointee) => Some(Form::Pointer { class: 7, pointee }),
             Meaning::Generic(pointee) => Some(Form::Pointer { class: 8, pointee }),
+            Meaning::Object(object) => Some(Form::Object(object)),
+            Meaning::SampledImage(image) => Some(Form::SampledImage(image)),
         }
     }
 
@@ -168,6 +173,8 @@ fn meaning_of(form: Form) -> Meaning
         Form::Opaque => Meaning::Opaque,
         Form::Pointer { class, pointee } => pointer(class, pointee),
         Form::Function => Meaning::Function,
+        Form::Object(object) => Meaning::Object(object),
+        Form::SampledImage(image) => Meaning::SampledImage(image),
     }
 }
 

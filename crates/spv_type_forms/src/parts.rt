@@ -51,7 +51,7 @@ pub fn length(definitions: &Definitions, id: u32) -> Option<u64>
 
 /// The members of a struct type.
 #[inline(always)]
-fn members<'m, 'a>(definitions: &Definitions<'m, 'a>, t: u32) -> Option<&'m [Operand<'a>]>
+pub fn members<'m, 'a>(definitions: &Definitions<'m, 'a>, t: u32) -> Option<&'m [Operand<'a>]>
     ensures { option_map (λ ms. plain_operands ms.now) result ≡ members_of definitions.now t }
 {
     Some(after_result(definitions.definition(t)?.operands.as_slice()))

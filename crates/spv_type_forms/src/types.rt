@@ -1,10 +1,10 @@
 //! What a type is.
 
 ghost use Rattle.std.specs.Prelude.{◌↔◌, Some, None, IsTrue};
-ghost use Rattle.spv_type_forms.specs.Types.{IsSomeInt, IsNumber, PointsTo, IsData, HasSort};
+ghost use Rattle.spv_type_forms.specs.Types.{IsSomeInt, IsNumber, PointsTo, IsData, IsObject, IsPlain, HasSort};
 
 use crate::definitions::Definitions;
-use crate::form::{Form, Scalar, Sort};
+use crate::form::{Form, Object, Scalar, Sort};
 
 /// Whether a type is a pointer to another.
 pub fn points_to(definitions: &Definitions, t: u32, to: u32) -> bool
@@ -57,12 +57,32 @@ fn has_components_of(definitions: &Definitions, sort: Sort, t: u32) -> bool
     }
 }
 
-/// Whether a type is an int, float, bool, vector, array, struct or pointer type.
+/// Whether a type is an int, float, bool, vector, array, struct or pointer type, or one of objects.
 pub fn is_data(definitions: &Definitions, t: u32) -> bool
     ensures { IsTrue result ↔ IsData definitions.now t }
 {
     match definitions.read_form(t) {
-        None | Some(Form::Void | Form::Opaque | Form::Function) => false,
+        None | Some(Form::Void | Form::Opaque | Form::Function | Form::SampledImage(_)) => false,
         Some(_) => true,
+    }
+}
+
+/// Whether a type is an int, float, bool, vector, array, struct or pointer type.
+pub fn is_plain(definitions: &Definitions, t: u32) -> bool
+    ensures { IsTrue result ↔ IsPlain definitions.now t }
+{
+    match definitions.read_form(t) {
+        Some(Form::Object(_)) => false,
+        _ => is_data(definitions, t),
+    }
+}
+
+/// Whether a type is one of such objects.
+pub fn is_object(definitions: &Definitions, object: Object, t: u32) -> bool
+    ensures { IsTrue result ↔ IsObject definitions.now object t }
+{
+    match definitions.read_form(t) {
+        Some(Form::Object(own)) => own == object,
+        _ => false,
     }
 }

@@ -58,9 +58,9 @@ of_operations n = not (is_operation n) || is_it concern.Nothing (concern_of n)
 abbrev speaks_alone : ℕ → Bool
 speaks_alone n = of_declarations n && (of_constants n && of_operations n)
 
--- the number past the last opcode that a rule of types speaks of
+-- an opcode from which on no rule of these speaks of one, and all are those of operations
 abbrev limit : ℕ
-limit = opcode.LIFETIME_STOP + 1
+limit = opcode.NAMED_BARRIER_INITIALIZE
 
 some_alone : all_from speaks_alone 0 limit ≡ true
 some_alone = refl
@@ -90,13 +90,17 @@ late_declaration n h =
       differs n opcode.TYPE_POINTER (omega arith),
       differs n opcode.TYPE_FUNCTION (omega arith),
       differs n opcode.TYPE_FORWARD_POINTER (omega arith),
+      differs n opcode.TYPE_IMAGE (omega arith),
+      differs n opcode.TYPE_SAMPLED_IMAGE (omega arith),
     ) refl
 
 late_repeat : (n : ℕ) → limit ≤ n → is_declared_once n ≡ false
 late_repeat n h = rw (
-  past opcode.TYPE_VOID opcode.TYPE_VECTOR n (omega arith),
+  past opcode.TYPE_VOID opcode.TYPE_SAMPLED_IMAGE n (omega arith),
   differs n opcode.TYPE_OPAQUE (omega arith),
-  differs n opcode.TYPE_FUNCTION (omega arith),
+  past opcode.TYPE_FUNCTION opcode.TYPE_PIPE n (omega arith),
+  differs n opcode.TYPE_PIPE_STORAGE (omega arith),
+  differs n opcode.TYPE_NAMED_BARRIER (omega arith),
 ) refl
 
 late_constant : (n : ℕ) → limit ≤ n → constant_of n ≡ None
@@ -111,6 +115,8 @@ late_constant n h =
       differs n opcode.CONSTANT_COMPOSITE (omega arith),
       differs n opcode.SPEC_CONSTANT_COMPOSITE (omega arith),
       differs n opcode.CONSTANT_NULL (omega arith),
+      differs n opcode.CONSTANT_SAMPLER (omega arith),
+      differs n opcode.CONSTANT_PIPE_STORAGE (omega arith),
     ) refl
 
 -- what is left of a test, where its first part fails
@@ -151,15 +157,19 @@ no_constant n e = elim (cases_lt n limit) [
   | inr h ↦ late_constant n h
 ]
 
-late_operation : (n : ℕ) → limit ≤ n → is_operation n ≡ false
-late_operation n h =
+late_concern : (n : ℕ) → limit ≤ n → concern_of n ≡ concern.Nothing
+late_concern n h =
     rw (
-      past opcode.VARIABLE opcode.SELECTION_MERGE n (omega arith),
-      differs n opcode.UNDEF (omega arith),
-      differs n opcode.BRANCH_CONDITIONAL (omega arith),
-      differs n opcode.SWITCH (omega arith),
-      differs n opcode.LIFETIME_START (omega arith),
-      differs n opcode.LIFETIME_STOP (omega arith),
+      past opcode.TYPE_VOID opcode.TYPE_FORWARD_POINTER n (omega arith),
+      differs n opcode.TYPE_PIPE_STORAGE (omega arith),
+      differs n opcode.TYPE_NAMED_BARRIER (omega arith),
+      past opcode.CONSTANT_TRUE opcode.SPEC_CONSTANT_COMPOSITE n (omega arith),
+      differs n opcode.CONSTANT_PIPE_STORAGE (omega arith),
+      differs n opcode.FUNCTION (omega arith),
+      differs n opcode.FUNCTION_PARAMETER (omega arith),
+      differs n opcode.FUNCTION_CALL (omega arith),
+      differs n opcode.RETURN (omega arith),
+      differs n opcode.RETURN_VALUE (omega arith),
     ) refl
 
 no_operation : (b : Bool) → b ≡ true → not b ≡ false
@@ -173,7 +183,7 @@ unconcerned n e = elim (cases_lt n limit) [
       (both (of_declarations n) (of_constants n && of_operations n) (alone n h)).1 in
       no_concern (concern_of n) (left_of (not (is_operation n)) (is_it concern.Nothing (concern_of n)) t.1
       (no_operation (is_operation n) e))
-  | inr h ↦ (let no : true ≡ false = sym e ∙ late_operation n h in cc)
+  | inr h ↦ late_concern n h
 ]
 
 -- What a rule demands of an instruction of another concern.

@@ -12,3 +12,5 @@ pub mod Concerns
 pub mod Parted
 mod Worked
 pub mod lemmas
+pub mod Lengths
+mod Objects

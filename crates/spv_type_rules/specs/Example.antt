@@ -1,5 +1,5 @@
 -- A small module: types, a constant, a function and a call.
-use Rattle.std.specs.Prelude.{List, [], ◌∷◌}
+use Rattle.std.specs.Prelude.{ℕ, List, [], ◌∷◌}
 use Rattle.spv_module.specs.declared.opcode.TheConstants as opcode
 use Rattle.spv_module.specs.Operand.{OfType, Result, Id, Word, Number, Value, Mask, PlainInst}
 use Rattle.spv_type_forms.specs.Example.{inst}
@@ -60,3 +60,12 @@ returning =
     inst opcode.LABEL (Result 4 ∷ []) ∷  -- %4 = OpLabel
     inst opcode.RETURN [] ∷  -- OpReturn
     []
+
+-- %x = OpTypeImage %t 2D 0 arrayed 0 sampled Unknown
+abbrev pub image : ℕ → ℕ → ℕ → ℕ → PlainInst
+image x t arrayed sampled = inst opcode.TYPE_IMAGE
+    (Result x ∷ Id t ∷ Value 5 1 ∷ Word 0 ∷ Word arrayed ∷ Word 0 ∷ Word sampled ∷ Value 6 0 ∷ [])
+
+-- %1 = OpTypeSampler
+abbrev pub samplers : List PlainInst
+samplers = inst opcode.TYPE_SAMPLER (Result 1 ∷ []) ∷ []

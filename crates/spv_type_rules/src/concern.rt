@@ -28,8 +28,11 @@ pub fn concern_of(number: u16) -> Concern
     ensures { result ≡ spec.concern_of number }
 {
     match number {
-        opcode::TYPE_VOID..=opcode::TYPE_FORWARD_POINTER => Concern::Declaration,
-        opcode::CONSTANT_TRUE..=opcode::SPEC_CONSTANT_COMPOSITE => Concern::Constant,
+        opcode::TYPE_VOID..=opcode::TYPE_FORWARD_POINTER
+        | opcode::TYPE_PIPE_STORAGE
+        | opcode::TYPE_NAMED_BARRIER => Concern::Declaration,
+        opcode::CONSTANT_TRUE..=opcode::SPEC_CONSTANT_COMPOSITE | opcode::CONSTANT_PIPE_STORAGE =>
+            Concern::Constant,
         opcode::FUNCTION | opcode::FUNCTION_PARAMETER => Concern::Function,
         opcode::FUNCTION_CALL => Concern::Call,
         opcode::RETURN | opcode::RETURN_VALUE => Concern::Return,
@@ -46,10 +49,11 @@ pub fn is_operation(number: u16) -> bool
     match number {
         opcode::VARIABLE..=opcode::SELECTION_MERGE
         | opcode::UNDEF
+        | opcode::EXT_INST
         | opcode::BRANCH_CONDITIONAL
         | opcode::SWITCH
-        | opcode::LIFETIME_START
-        | opcode::LIFETIME_STOP => true,
-        _ => false,
+        | opcode::LIFETIME_START..=opcode::SIZE_OF
+        | opcode::CREATE_PIPE_FROM_PIPE_STORAGE..=opcode::GET_KERNEL_MAX_NUM_SUBGROUPS => true,
+        number => number >= opcode::NAMED_BARRIER_INITIALIZE,
     }
 }

@@ -1,4 +1,4 @@
-ghost use Rattle.std.specs.Prelude.{◌≡◌, ◌↔◌, Some, IsTrue, true, length, nat_eq};
+ghost use Rattle.std.specs.Prelude.{◌≡◌, ◌↔◌, Some, IsTrue, IfOk, OnOk, true, length, nat_eq};
 ghost use Rattle.spv_module.specs.Module.{plain_inst, plain_operands};
 ghost use Rattle.spv_module.specs.Operand as operand;
 ghost use Rattle.spv_module.specs.Width.{definition_of};
@@ -6,6 +6,8 @@ ghost use Rattle.spv_type_forms.specs.Operands.{ids_in};
 ghost use Rattle.spv_type_forms.specs.Parts.{count_of};
 ghost use Rattle.spv_type_forms.specs.inner.Tests.{passes};
 ghost use Rattle.spv_type_forms.specs.Types.{IsBool};
+ghost use Rattle.spv_type_forms.specs.inner.Null.{AreNulls};
+ghost use Rattle.spv_layout.specs.Place.{AreFew};
 ghost use Rattle.spv_type_rules.specs.Constant as rules;
 ghost use Rattle.spv_type_rules.specs.declared.constant.Constant.TheVariants as constant_form;
 ghost use Rattle.spv_type_rules.specs.Constant.{FitsWidth, AreConstantParts, Constitutes};
@@ -14,8 +16,10 @@ ghost use Rattle.spv_type_rules.specs.inner.Found as found;
 
 use spv_module::{Inst, Operand, opcode};
 use spv_type_forms::{
-    Definitions, Form, Scalar, after_head, count, id_count, is_data, parts_of, type_in,
+    Definitions, Form, Nulls, Object, Scalar, after_head, count, id_count, is_object, parts_of,
+    type_in,
 };
+use std::alloc::AllocError;
 
 /// The constants by what they are made of (SPIR-V Specification 1.6, section 3.49.7), the spec forms too.
 #[derive(Clone, Copy)]
@@ -25,6 +29,8 @@ pub enum Constant {
     Composite,
     SpecComposite,
     Null,
+    Sampler,
+    PipeStorage,
 }
 
 /// What an opcode makes.
@@ -40,6 +46,8 @@ pub fn constant_of(number: u16) -> Option<Constant>
         opcode::CONSTANT_COMPOSITE => Some(Constant::Composite),
         opcode::SPEC_CONSTANT_COMPOSITE => Some(Constant::SpecComposite),
         opcode::CONSTANT_NULL => Some(Constant::Null),
+        opcode::CONSTANT_SAMPLER => Some(Constant::Sampler),
+        opcode::CONSTANT_PIPE_STORAGE => Some(Constant::PipeStorage),
         _ => None,
     }
 }
@@ -61,8 +69,8 @@ fn is_part_opcode(spec: bool, number: u16) -> bool
 {
     match number {
         opcode::UNDEF
-        | opcode::CONSTANT_TRUE..=opcode::CONSTANT_COMPOSITE
-        | opcode::CONSTANT_NULL => true,
+        | opcode::CONSTANT_TRUE..=opcode::CONSTANT_NULL
+        | opcode::CONSTANT_PIPE_STORAGE => true,
         opcode::SPEC_CONSTANT_TRUE..=opcode::SPEC_CONSTANT_COMPOSITE => spec,
         _ => false,
     }
@@ -145,29 +153,66 @@ fn number_fits(definitions: &Definitions, r: u32, operands: &[Operand]) -> bool
     }
 }
 
+/// Whether a sampler of a type is sound, by what follows its head.
+fn samples(definitions: &Definitions, r: u32, operands: &[Operand]) -> bool
+    ensures { IsTrue result ↔ Constitutes definitions.now constant_form.Sampler r (plain_operands operands.now) }
+{
+    match operands {
+        [
+            Operand::Value { .. },
+            Operand::Word(normalized),
+            Operand::Value { .. },
+        ] => *normalized <= 1 && is_object(definitions, Object::Sampler, r),
+        _ => false,
+    }
+}
+
 /// Whether a constant of a type is sound, by what follows its head.
-fn constitutes(definitions: &Definitions, constant: Constant, r: u32, operands: &[Operand]) -> bool
-    ensures { IsTrue result ↔ Constitutes definitions.now constant r (plain_operands operands.now) }
+///
+/// An `AllocError` comes only where a growth of memory was refused.
+fn constitutes(
+    definitions: &Definitions,
+    nulls: &mut Nulls,
+    constant: Constant,
+    r: u32,
+    operands: &[Operand],
+) -> Result<bool, AllocError>
+    requires few { AreFew definitions.now }
+    requires nulls { AreNulls definitions.now nulls.old }
+    ensures answer { IfOk result (λ b. IsTrue b
+        ↔ Constitutes definitions.now constant r (plain_operands operands.now)) }
+    ensures nulls { OnOk result (AreNulls definitions.now nulls.new) }
 {
     match constant {
-        Constant::Bool => is_bool(definitions, r),
-        Constant::Number => number_fits(definitions, r, operands),
-        Constant::Composite => are_constant_parts(definitions, false, r, operands),
-        Constant::SpecComposite => are_constant_parts(definitions, true, r, operands),
-        Constant::Null => is_data(definitions, r),
+        Constant::Bool => Ok(is_bool(definitions, r)),
+        Constant::Number => Ok(number_fits(definitions, r, operands)),
+        Constant::Composite => Ok(are_constant_parts(definitions, false, r, operands)),
+        Constant::SpecComposite => Ok(are_constant_parts(definitions, true, r, operands)),
+        Constant::Null => nulls.is_nullable(definitions, r),
+        Constant::Sampler => Ok(samples(definitions, r, operands)),
+        Constant::PipeStorage => Ok(is_object(definitions, Object::PipeStorage, r)),
     }
 }
 
 /// Whether Y4 is unbroken at an instruction.
-pub fn is_sound_constant(definitions: &Definitions, inst: &Inst) -> bool
-    ensures { IsTrue result ↔ IsSoundConstant definitions.now (plain_inst inst.now) }
+///
+/// An `AllocError` comes only where a growth of memory was refused.
+pub fn is_sound_constant(
+    definitions: &Definitions,
+    nulls: &mut Nulls,
+    inst: &Inst,
+) -> Result<bool, AllocError>
+    requires few { AreFew definitions.now }
+    requires nulls { AreNulls definitions.now nulls.old }
+    ensures answer { IfOk result (λ b. IsTrue b ↔ IsSoundConstant definitions.now (plain_inst inst.now)) }
+    ensures nulls { OnOk result (AreNulls definitions.now nulls.new) }
 {
     let operands = inst.operands.as_slice();
-    match constant_of(inst.opcode) {
-        None => true,
-        Some(constant) => match type_in(operands) {
-            Some(r) => constitutes(definitions, constant, r, after_head(operands)),
-            None => false,
-        },
+    let Some(constant) = constant_of(inst.opcode) else {
+        return Ok(true);
+    };
+    match type_in(operands) {
+        Some(r) => constitutes(definitions, nulls, constant, r, after_head(operands)),
+        None => Ok(false),
     }
 }

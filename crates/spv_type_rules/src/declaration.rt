@@ -8,12 +8,15 @@ ghost use Rattle.spv_type_forms.specs.Form as op_form;
 ghost use Rattle.spv_type_rules.specs.Declaration as spec;
 ghost use Rattle.spv_type_rules.specs.declared.declaration.Declaration.TheVariants as declaration;
 ghost use Rattle.spv_type_rules.specs.Declaration.{IsLength, IsPointerAfter, DeclaresSoundly};
+ghost use Rattle.spv_type_rules.specs.Declaration.{IsSampledType, IsSoundImage, IsSampled};
 ghost use Rattle.spv_type_rules.specs.Asked.{IsIntWidth, IsFloatWidth, IsVectorCount, IsPointee, IsReturned};
 ghost use Rattle.spv_type_rules.specs.inner.Declaration.{IsSoundDeclaration};
 
 use spv_ids::Ids;
 use spv_module::{Inst, Operand, opcode};
-use spv_type_forms::{Definitions, Form, form_in, is_data, is_int, length};
+use spv_type_forms::{
+    Definitions, Form, Image, form_in, image_in, image_of, is_data, is_int, is_number, length,
+};
 
 /// The type declarations that may be unsound (SPIR-V Specification 1.6, section 3.49.6).
 #[derive(Clone, Copy)]
@@ -27,6 +30,8 @@ pub enum Declaration {
     Function,
     /// OpTypeForwardPointer.
     Forward,
+    Image,
+    SampledImage,
 }
 
 /// What an opcode declares.
@@ -42,6 +47,8 @@ pub fn declaration_of(number: u16) -> Option<Declaration>
         opcode::TYPE_POINTER => Some(Declaration::Pointer),
         opcode::TYPE_FUNCTION => Some(Declaration::Function),
         opcode::TYPE_FORWARD_POINTER => Some(Declaration::Forward),
+        opcode::TYPE_IMAGE => Some(Declaration::Image),
+        opcode::TYPE_SAMPLED_IMAGE => Some(Declaration::SampledImage),
         _ => None,
     }
 }
@@ -88,7 +95,7 @@ pub fn is_pointee(definitions: &Definitions, t: u32) -> bool
     ensures { IsTrue result ↔ IsPointee definitions.now t }
 {
     match definitions.form(t) {
-        None | Some(Form::Void | Form::Function) => false,
+        None | Some(Form::Void | Form::Function | Form::SampledImage(_)) => false,
         Some(_) => true,
     }
 }
@@ -97,7 +104,7 @@ pub fn is_returned(definitions: &Definitions, t: u32) -> bool
     ensures { IsTrue result ↔ IsReturned definitions.now t }
 {
     match definitions.form(t) {
-        None | Some(Form::Opaque | Form::Function) => false,
+        None | Some(Form::Opaque | Form::Function | Form::SampledImage(_)) => false,
         Some(_) => true,
     }
 }
@@ -241,6 +248,58 @@ fn declares_forward(definitions: &Definitions, ids: &Ids, number: u32, operands:
     }
 }
 
+/// Whether a type may be the sampled type of an image type: void, an int or a float.
+pub fn is_sampled_type(definitions: &Definitions, t: u32) -> bool
+    ensures { IsTrue result ↔ IsSampledType definitions.now t }
+{
+    match definitions.form(t) {
+        Some(Form::Void) => true,
+        _ => is_number(definitions, t),
+    }
+}
+
+/// Whether what an image type says of its images is such as it may be.
+pub fn is_sound_image(definitions: &Definitions, image: Image) -> bool
+    ensures { IsTrue result ↔ IsSoundImage definitions.now image }
+{
+    is_sampled_type(definitions, image.sampled_type)
+        && image.depth <= 2
+        && image.arrayed <= 1
+        && image.multisampled <= 1
+        && image.sampled <= 2
+}
+
+/// Whether the operands of an OpTypeImage are sound.
+fn declares_image(definitions: &Definitions, operands: &[Operand]) -> bool
+    ensures { IsTrue result ↔ DeclaresSoundly definitions.now 0 declaration.Image (plain_operands operands.now) }
+{
+    match image_in(operands) {
+        Some(image) => is_sound_image(definitions, image),
+        None => false,
+    }
+}
+
+/// Whether images of a type may be sampled.
+pub fn is_sampled(image: Image) -> bool
+    ensures { IsTrue result ↔ IsSampled image }
+{
+    image.dim != 5 && image.dim != 6
+}
+
+/// Whether the operands of an OpTypeSampledImage are sound.
+fn declares_sampled_image(definitions: &Definitions, operands: &[Operand]) -> bool
+    ensures { IsTrue result ↔ DeclaresSoundly definitions.now 0 declaration.SampledImage
+        (plain_operands operands.now) }
+{
+    match operands {
+        [Operand::Result(_), Operand::Id(i)] => match image_of(definitions, *i) {
+            Some(image) => is_sampled(image),
+            None => false,
+        },
+        _ => false,
+    }
+}
+
 /// Whether a declaration at the instruction of a number is sound.
 fn declares(
     definitions: &Definitions,
@@ -261,6 +320,8 @@ fn declares(
         Declaration::Pointer => declares_pointer(definitions, operands),
         Declaration::Function => declares_function(definitions, operands),
         Declaration::Forward => declares_forward(definitions, ids, number, operands),
+        Declaration::Image => declares_image(definitions, operands),
+        Declaration::SampledImage => declares_sampled_image(definitions, operands),
     }
 }
 

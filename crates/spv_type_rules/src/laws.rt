@@ -4,7 +4,7 @@ ghost use Rattle.std.specs.Prelude.{◌≡◌, [], ◌∷◌, Some, None, false}
 ghost use Rattle.spv_module.specs.declared.opcode.TheConstants as opcode;
 ghost use Rattle.spv_module.specs.declared.fault.Rule.TheVariants as rule;
 ghost use Rattle.spv_module.specs.Operand.{PlainInst, OfType, Result, Id, Word, Value, Mask};
-ghost use Rattle.spv_type_forms.specs.Example.{inst};
+ghost use Rattle.spv_type_forms.specs.Example.{inst, objects, pipes};
 ghost use Rattle.spv_type_rules.specs.Declaration.{IsLength, IsPointerAfter, DeclaresSoundly};
 ghost use Rattle.spv_type_rules.specs.Asked.{IsIntWidth, IsFloatWidth, IsVectorCount, IsPointee, IsReturned};
 ghost use Rattle.spv_type_rules.specs.inner.Declaration.{IsSoundDeclaration};
@@ -21,7 +21,7 @@ ghost use Rattle.spv_type_rules.specs.inner.Function.{IsSoundReturnValue, IsSoun
 ghost use Rattle.spv_type_rules.specs.Keeps.{Keeps};
 ghost use Rattle.spv_type_rules.specs.inner.Rules.{Unasked, IsFirstRule, IsFirstHere};
 ghost use Rattle.spv_type_rules.specs.Example.{small, constant, wide_constant, again, call, short_call, function};
-ghost use Rattle.spv_type_rules.specs.Example.{parameter, with_struct, pointers, returning};
+ghost use Rattle.spv_type_rules.specs.Example.{parameter, with_struct, pointers, returning, image, samplers};
 
 /// Declarations and constants of a small module that are sound, and such as are not.
 pub fn declaration_examples()
@@ -160,4 +160,37 @@ pub fn first_examples()
         (IsFirstRule small 7 (inst opcode.TYPE_VECTOR (Result 9 ∷ Id 1 ∷ Word 5 ∷ [])) rule.Y3) }
     ensures here { IsFirstHere small 7 short_call (Some rule.Y8) }
     ensures none_here { ¬ (IsFirstHere small 7 short_call None) }
+{}
+
+/// Declarations of objects, in a module of `%3`, a float, `%4`, images of two dimensions, `%5`, those with a sampler,
+/// `%6`, pipes, `%7`, queues, and `%14`, pipe storage; `%13` is a struct of `%7` and an int, `%15` a constant of `%14`.
+pub fn object_examples()
+    ensures image { IsSoundDeclaration objects 16 (image 4 3 0 0) }
+    // The sampled type is a pipe; Arrayed is 2; Sampled is 3.
+    ensures no_sampled_type { ¬ (IsSoundDeclaration objects 16 (image 4 6 0 0)) }
+    ensures no_arrayed { ¬ (IsSoundDeclaration objects 16 (image 4 3 2 0)) }
+    ensures no_sampled { ¬ (IsSoundDeclaration objects 16 (image 4 3 0 3)) }
+    ensures sampled { IsSoundDeclaration objects 16 (inst opcode.TYPE_SAMPLED_IMAGE (Result 19 ∷ Id 4 ∷ [])) }
+    ensures no_image { ¬ (IsSoundDeclaration objects 16 (inst opcode.TYPE_SAMPLED_IMAGE (Result 19 ∷ Id 6 ∷ []))) }
+    ensures pointee { IsPointee objects 4 }
+    ensures no_pointee { ¬ (IsPointee objects 5) }
+    ensures returned { IsReturned objects 4 }
+    ensures not_returned { ¬ (IsReturned objects 5) }
+    // A second type of queues, after the first.
+    ensures again { Repeats objects 16 (inst opcode.TYPE_QUEUE (Result 19 ∷ [])) }
+    // The first type of queues, after one of samplers.
+    ensures another { ¬ (Repeats samplers 1 (inst opcode.TYPE_QUEUE (Result 2 ∷ []))) }
+{}
+
+/// Constants of them.
+pub fn object_constant_examples()
+    ensures storage { Constitutes objects constant_kind.PipeStorage 14 [] }
+    ensures no_storage { ¬ (Constitutes objects constant_kind.PipeStorage 6 []) }
+    ensures sampler { Constitutes samplers constant_kind.Sampler 1 (Value 0 0 ∷ Word 1 ∷ Value 1 0 ∷ []) }
+    ensures no_word { ¬ (Constitutes samplers constant_kind.Sampler 1 (Value 0 0 ∷ Word 2 ∷ Value 1 0 ∷ [])) }
+    ensures no_sampler { ¬ (Constitutes objects constant_kind.Sampler 1 (Value 0 0 ∷ Word 1 ∷ Value 1 0 ∷ [])) }
+    // A queue and an int have null values, and pipes have none, nor an array of them.
+    ensures null { Constitutes objects constant_kind.Null 13 [] }
+    ensures no_null { ¬ (Constitutes pipes constant_kind.Null 2 []) }
+    ensures part { IsPart objects false 15 }
 {}

@@ -21,7 +21,7 @@ pub use constant::{Constant, constant_of, fits_width, is_bool, is_typed_part};
 pub use counted::next_count;
 pub use declaration::{
     Declaration, declaration_of, is_float_width, is_int_width, is_length, is_pointee,
-    is_pointer_after, is_returned, is_vector_count,
+    is_pointer_after, is_returned, is_sampled, is_sampled_type, is_sound_image, is_vector_count,
 };
 pub use function::{
     Function, count_parameters, function_of, function_type, parameter_type, signature,

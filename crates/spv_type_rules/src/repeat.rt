@@ -24,8 +24,11 @@ pub fn is_declared_once(number: u16) -> bool
     ensures { result ≡ spec.is_declared_once number }
 {
     match number {
-        opcode::TYPE_VOID..=opcode::TYPE_VECTOR | opcode::TYPE_OPAQUE | opcode::TYPE_FUNCTION =>
-            true,
+        opcode::TYPE_VOID..=opcode::TYPE_SAMPLED_IMAGE
+        | opcode::TYPE_OPAQUE
+        | opcode::TYPE_FUNCTION..=opcode::TYPE_PIPE
+        | opcode::TYPE_PIPE_STORAGE
+        | opcode::TYPE_NAMED_BARRIER => true,
         _ => false,
     }
 }

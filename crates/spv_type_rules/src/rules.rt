@@ -1,7 +1,9 @@
 //! The rules of types at an instruction, but for Y5.
 
 ghost use Rattle.std.specs.Prelude.{◌≡◌, ◌<◌, ◌↔◌, ℕ, length, map, Some, None, IsTrue};
-ghost use Rattle.std.specs.Prelude.{if◌then◌else◌, slice_get};
+ghost use Rattle.std.specs.Prelude.{if◌then◌else◌, slice_get, IfOk, OnOk};
+ghost use Rattle.spv_layout.specs.Place.{AreFew};
+ghost use Rattle.spv_type_forms.specs.inner.Null.{AreNulls};
 ghost use Rattle.spv_table.specs.Table.{Table};
 ghost use Rattle.spv_module.specs.declared.opcode.TheConstants as opcode;
 ghost use Rattle.spv_module.specs.Module.{plain_inst, plain_insts};
@@ -25,7 +27,8 @@ use crate::function::{
 use spv_ids::Ids;
 use spv_layout::Plan;
 use spv_module::{Inst, Module, Rule, opcode};
-use spv_type_forms::Definitions;
+use spv_type_forms::{Definitions, Nulls};
+use std::alloc::AllocError;
 
 /// A rule, unless it is kept.
 #[inline(always)]
@@ -139,30 +142,47 @@ impl<'m, 'a> Rules<'m, 'a> {
 
     /// The first of the rules Y2, Y3, Y4, Y6, Y7 and Y8 that is broken at the instruction of a number, by what is known
     /// of those before it: none at an operation. Time is linear in the instruction's words; at an OpFunction, in those
-    /// up to its first block too.
+    /// up to its first block too, and at an OpConstantNull as `Nulls` says.
+    ///
+    /// An `AllocError` comes only where a growth of memory was refused.
     #[inline(always)]
-    pub fn first_at(&self, number: u32, inst: &Inst<'a>, known: Known) -> Option<Rule>
+    pub fn first_at(
+        &self,
+        number: u32,
+        inst: &Inst<'a>,
+        known: Known,
+        nulls: &mut Nulls,
+    ) -> Result<Option<Rule>, AllocError>
         requires rules { AreRules self.now }
+        requires few { AreFew (rules_insts self.now) }
         requires inst { slice_get (rules_insts self.now) number ≡ Some (plain_inst inst.now) }
         requires repeats { IsTrue known.repeats ↔ Repeats (rules_insts self.now) number (plain_inst inst.now) }
         requires parameters { AreCounted (rules_insts self.now) number known.parameters }
-        ensures { IsFirstHere (rules_insts self.now) number (plain_inst inst.now) result }
+        requires nulls { AreNulls (rules_insts self.now) nulls.old }
+        ensures first { IfOk result (λ o. IsFirstHere (rules_insts self.now) number (plain_inst inst.now) o) }
+        ensures nulls { OnOk result (AreNulls (rules_insts self.now) nulls.new) }
     {
         match concern_of(inst.opcode) {
             Concern::Declaration => {
                 if !is_sound_declaration(&self.definitions, self.ids, number, inst) {
-                    return Some(Rule::Y2);
+                    return Ok(Some(Rule::Y2));
                 }
-                if known.repeats { Some(Rule::Y3) } else { None }
+                if known.repeats {
+                    return Ok(Some(Rule::Y3));
+                }
+                Ok(None)
             }
-            Concern::Constant => unless(is_sound_constant(&self.definitions, inst), Rule::Y4),
-            Concern::Function => unless(
+            Concern::Constant => {
+                let keeps = is_sound_constant(&self.definitions, nulls, inst)?;
+                Ok(unless(keeps, Rule::Y4))
+            }
+            Concern::Function => Ok(unless(
                 self.keeps_functions(number, inst, known.parameters),
                 Rule::Y6,
-            ),
-            Concern::Return => unless(self.keeps_returns(number, inst), Rule::Y7),
-            Concern::Call => unless(self.keeps_calls(inst), Rule::Y8),
-            Concern::Nothing => None,
+            )),
+            Concern::Return => Ok(unless(self.keeps_returns(number, inst), Rule::Y7)),
+            Concern::Call => Ok(unless(self.keeps_calls(inst), Rule::Y8)),
+            Concern::Nothing => Ok(None),
         }
     }
 }

@@ -3,21 +3,28 @@ use Rattle.std.proofs.Common.{◌≡◌, ◌++◌, inl, inr, ℕ, List, [], ◌�
 use Rattle.std.specs.Prelude.{slice_index}
 use Rattle.spv_table.specs.Table.{Table}
 use Rattle.spv_module.specs.Operand.{Argument, Id, PlainInst}
+use Rattle.spv_module.specs.declared.profile.Profile.TheVariants as profile
 use Rattle.spv_module.specs.declared.fault.Rule.{Rule}
 use Rattle.spv_module.specs.declared.fault.Rule.TheVariants.{Y9}
-use Rattle.spv_extended.specs.declared.reach.Reach.TheVariants.{Profile, Extended}
+use Rattle.spv_extended.specs.declared.reach.Reach.TheVariants.{Profile, Extended, OpenCl}
+use Rattle.spv_extended.proofs.Brokens.{moved}
 use Rattle.spv_extended.specs.Broken as extended
 use Rattle.spv_extended.specs.Example.{call, imports}
 use Rattle.spv_extended.specs.Facts.{facts_of}
 use Rattle.spv_extended.specs.Opened.{opened, opened_inst}
 use Rattle.spv_extended.specs.Sets.{set_in}
-use Rattle.spv_extended.proofs.Brokens.{of_reach}
+use Rattle.spv_flow.specs.declared.branches.fork.Fork.{Fork}
+use Rattle.spv_flow.specs.declared.branches.fork.Fork.TheVariants.{Distinct}
+use Rattle.spv_flow.specs.branches.Broken as flow
 use Rattle.spv_layout.specs.First.{stage_of}
+use Rattle.spv_layout.specs.Plan.{IsLaidOut}
 use Rattle.spv_layout.specs.Stage as stages
-use Rattle.spv_check.proofs.Firsts.{calls_stage, flow_stage, ids_stage, layout_stage}
+use Rattle.spv_check.proofs.Firsts.{calls_stage, flow_stage, ids_stage, layout_stage, planned}
+use Rattle.spv_check.proofs.Kept.{LayoutLaw, laid}
 use Rattle.spv_check.proofs.Miscalls.{not_asked}
 use Rattle.spv_check.proofs.Stages.{types_stage}
-use Rattle.spv_check.specs.Broken.{Broken}
+use Rattle.spv_check.specs.Broken.{Broken, IsSound}
+use Rattle.spv_check.specs.Fork.{fork_of}
 use Rattle.spv_check.specs.Valid.{IsValid}
 use Rattle.spv_check.specs.types.Broken as types
 use Rattle.spv_opening.proofs.Alike.{alike_opened}
@@ -41,13 +48,14 @@ types_broken G is _ _ (types.of_types r n i e never) =
 
 pub broken_too : (G : Table) (bound : ℕ) (is : List PlainInst) (r : Rule) (n : ℕ) → Broken G Profile bound is r n
     → Broken G Extended bound (opened is) r n
-broken_too G bound is _ _ (Broken.of_layout r n b) = Broken.of_layout r n (layout_broken G (set_in is) is r n b)
+broken_too G bound is _ _ (Broken.of_layout r n b) = Broken.of_layout r n
+    (layout_broken profile.Own G (set_in is) is r n b)
 broken_too G bound is _ _ (Broken.of_ids r n b) = Broken.of_ids r n (ids_broken G bound (set_in is) is r n b)
 broken_too G bound is _ _ (Broken.of_types r n b) = Broken.of_types r n (types_broken G is r n b)
-broken_too G bound is _ _ (Broken.of_flow r n b) = Broken.of_flow r n (flow_broken G (set_in is) is r n b)
+broken_too G bound is _ _ (Broken.of_flow r n b) = Broken.of_flow r n (flow_broken Distinct G (set_in is) is r n b)
 broken_too G bound is _ _ (Broken.of_calls r n b) =
     Broken.of_calls r n (calls_broken is (opened is) (alike_opened (set_in is) is) r n b)
-broken_too G bound is _ _ (Broken.of_extended r n b) = let e : Profile ≡ Extended = of_reach Profile is r n b in cc
+broken_too G bound is _ _ (Broken.of_extended r n b) = absurd (not_asked Profile is refl r n b)
 
 pub valid_too : (G : Table) (bytes : List ℕ) → IsValid G Extended bytes → IsValid G Profile bytes
 valid_too G bytes v = record {
@@ -60,19 +68,58 @@ valid_too G bytes v = record {
       (sym v.reading.seen) (broken_too G (slice_index v.words 3) v.reading.spelled r n b));
 }
 
+-- What is valid there is a kernel of OpenCL.
+
+-- what is broken however much is asked of the labels of an OpBranchConditional is broken where most is
+strict : (fork : Fork) (G : Table) (is : List PlainInst) (r : Rule) (n : ℕ) → flow.Broken fork G is r n
+    → flow.Broken Distinct G is r n
+strict fork G is _ _ (flow.no_label n k x op used none) = flow.no_label n k x op used none
+strict fork G is _ _ (flow.to_entry n x m target d e) = flow.to_entry n x m target d e
+strict fork G is _ _ (flow.parents n phi not) = flow.parents n phi not
+strict fork G is _ _ (flow.same_labels n x e op u w) = flow.same_labels n x refl op u w
+strict fork G is _ _ (flow.missing n m) = flow.missing n m
+strict fork G is _ _ (flow.pair_missing n m) = flow.pair_missing n m
+
+wide_sound : LayoutLaw → ((G : Table) (is : List PlainInst) → IsLaidOut profile.Own G is
+    → IsLaidOut profile.OpenCl G is)
+    → (G : Table) (minor bound : ℕ) (is : List PlainInst) → IsSound G Extended bound is
+    → IsSound G (OpenCl minor) bound is
+wide_sound law wider G minor bound is s _ _ (Broken.of_layout r n b) =
+    planned (OpenCl minor) G is (law.not_both profile.OpenCl)
+    (wider G is (laid law G Extended (record { bound = bound; insts = is }) s)) r n b
+wide_sound law wider G minor bound is s _ _ (Broken.of_ids r n b) = s r n (Broken.of_ids r n b)
+wide_sound law wider G minor bound is s _ _ (Broken.of_types r n b) = s r n (Broken.of_types r n b)
+wide_sound law wider G minor bound is s _ _ (Broken.of_flow r n b) =
+    s r n (Broken.of_flow r n (strict (fork_of (OpenCl minor)) G is r n b))
+wide_sound law wider G minor bound is s _ _ (Broken.of_calls r n b) = s r n (Broken.of_calls r n b)
+wide_sound law wider G minor bound is s _ _ (Broken.of_extended r n b) =
+    s r n (Broken.of_extended r n (moved (OpenCl minor) Extended is r n refl b))
+
+pub valid_wider : LayoutLaw
+    → ((G : Table) (is : List PlainInst) → IsLaidOut profile.Own G is → IsLaidOut profile.OpenCl G is)
+    → (G : Table) (minor : ℕ) (bytes : List ℕ) → IsValid G Extended bytes → IsValid G (OpenCl minor) bytes
+valid_wider law wider G minor bytes v = record {
+  words = v.words;
+  order = v.order;
+  is_module = v.is_module;
+  insts = v.insts;
+  reading = record { spelled = v.reading.spelled; listing = v.reading.listing; seen = v.reading.seen };
+  sound = wide_sound law wider G minor (slice_index v.words 3) v.insts v.sound;
+}
+
 -- Y9 is of the stage that the profile does not ask.
 
 not_extended : (G : Table) (bound : ℕ) (is : List PlainInst) (r : Rule) (n : ℕ) → stage_of r ≡ stages.of_extended
     → Broken G Profile bound is r n → ⊥
 not_extended G bound is _ _ s (Broken.of_layout r n b) =
-    elim (layout_stage G is r n b) [ inl e ↦ omega (arith, e, s) | inr e ↦ omega (arith, e, s) ]
+    elim (layout_stage Profile G is r n b) [ inl e ↦ omega (arith, e, s) | inr e ↦ omega (arith, e, s) ]
 not_extended G bound is _ _ s (Broken.of_ids r n b) = let e = ids_stage G bound is r n b in omega (arith, e, s)
 not_extended G bound is _ _ s (Broken.of_types r n b) =
     elim (types_stage G is r n b) [ inl e ↦ omega (arith, e, s) | inr e ↦ omega (arith, e, s) ]
 not_extended G bound is _ _ s (Broken.of_flow r n b) =
-    elim (flow_stage G is r n b) [ inl e ↦ omega (arith, e, s) | inr e ↦ omega (arith, e, s) ]
+    elim (flow_stage Profile G is r n b) [ inl e ↦ omega (arith, e, s) | inr e ↦ omega (arith, e, s) ]
 not_extended G bound is _ _ s (Broken.of_calls r n b) = let e = calls_stage is r n b in omega (arith, e, s)
-not_extended G bound is _ _ s (Broken.of_extended r n b) = not_asked is r n b
+not_extended G bound is _ _ s (Broken.of_extended r n b) = not_asked Profile is refl r n b
 
 pub not_y9 : (G : Table) (bound : ℕ) (is : List PlainInst) (n : ℕ) → Broken G Profile bound is Y9 n → ⊥
 not_y9 G bound is n b = not_extended G bound is Y9 n refl b

@@ -5,7 +5,7 @@ ghost use Rattle.spv_table.specs.Table.{Table};
 ghost use Rattle.spv_module.specs.Operand.{Id, PlainInst};
 ghost use Rattle.spv_module.specs.declared.fault.Rule.{Rule};
 ghost use Rattle.spv_module.specs.declared.fault.Rule.TheVariants.{G1, Y9};
-ghost use Rattle.spv_extended.specs.declared.reach.Reach.TheVariants.{Extended, Profile};
+ghost use Rattle.spv_extended.specs.declared.reach.Reach.TheVariants.{Extended, OpenCl, Profile};
 ghost use Rattle.spv_extended.specs.Example.{call, imports};
 ghost use Rattle.spv_flow.specs.calls.Example.{looped};
 ghost use Rattle.spv_check.specs.Valid.{IsValid};
@@ -25,6 +25,15 @@ pub fn refused_too()
     // So what is valid there is valid by the profile.
     ensures valid { (G : Table) (bytes : List ℕ) → IsValid G Extended bytes → IsValid G Profile bytes }
 {}
+
+/// A module that is valid where its extended instructions are looked at is valid as a kernel of OpenCL, of whatever
+/// version: the rows and the places of the profile are among those of OpenCL.
+pub fn wider_too()
+    ensures { (G : Table) (minor : ℕ) (bytes : List ℕ) → IsValid G Extended bytes → IsValid G (OpenCl minor) bytes }
+{
+    spv_layout::laws::member_or_dead();
+    spv_layout::laws::own_profile();
+}
 
 /// Worked examples of rules that are broken by both reaches, and by one alone.
 pub fn refused_examples()

@@ -1,3 +1,4 @@
 pub mod Viewings
+pub mod Verdicts
 pub mod lemmas
 pub mod Beginnings

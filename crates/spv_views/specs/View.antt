@@ -11,7 +11,7 @@ use Rattle.spv_module.specs.Malformed.{IsMalformed}
 use Rattle.spv_module.specs.Module.{plain_insts}
 use Rattle.spv_module.specs.declared.fault.Rule.{Rule}
 use Rattle.spv_module.specs.declared.module.Module.{Module}
-use Rattle.spv_extended.specs.declared.reach.Reach.TheVariants.{Profile}
+use Rattle.spv_extended.specs.declared.reach.Reach.{Reach}
 use Rattle.spv_lines.specs.Text.{ShownLines}
 use Rattle.spv_inst.specs.Outcome.{IsHeaderOf}
 use Rattle.spv_layout.specs.First.{stage_of}
@@ -21,13 +21,13 @@ use Rattle.spv_check.specs.Verdict.{IsVerdict}
 use Rattle.spv_check.specs.declared.verdict_line.Judgment.{Judgment}
 use Rattle.spv_check.specs.declared.verdict_line.Judgment.TheVariants.{Valid, Refused, Broken}
 use Rattle.spv_fault_lines.specs.declared.fact.Detail.TheVariants.{Short}
-use Rattle.spv_explain.specs.Stream.{IsExplanation, IsModuleOf}
+use Rattle.spv_explain.specs.Stream.{IsExplanation, IsModuleOf, IsWalk}
 use Rattle.spv_explain.specs.declared.stream.Explanation.{Explanation}
 use Rattle.spv_names.specs.Chosen.{IsChosen, is_function}
 use Rattle.spv_names.specs.declared.chosen.Chosen.{Chosen}
 use Rattle.spv_names.specs.declared.chosen.NameError.TheVariants.{Absent, Several}
 use Rattle.spv_annotate.specs.Document.{IsSubject, Subject, document}
-use Rattle.spv_annotate.specs.Page.{IsPage, walk_of}
+use Rattle.spv_annotate.specs.Page.{IsPage}
 use Rattle.spv_annotate.specs.Piece.{text_of}
 use Rattle.spv_annotate.specs.declared.finding.Finding as annotate
 use Rattle.spv_pictures.specs.Blocks.{block_graph_text}
@@ -92,34 +92,34 @@ shows_beginning (Text color) None = true
 shows_beginning (Page title) None = true
 shows_beginning how function = false
 
--- The verdict on the bytes, under the table, breaks none of these rules; or it breaks one.
-pub record AreLaidOut (G : Table) (bytes : List ℕ) : Type 0 where
+-- The verdict on the bytes, under the table, as far as they are looked at, breaks none of these rules; or it breaks one.
+pub record AreLaidOut (G : Table) (reach : Reach) (bytes : List ℕ) : Type 0 where
   pub judgment : Judgment
-  pub verdict : IsVerdict G Profile bytes (line_of judgment)
+  pub verdict : IsVerdict G reach bytes (line_of judgment)
   pub keeps : KeepsLayout judgment
 
-pub record AreMislaid (G : Table) (bytes : List ℕ) : Type 0 where
+pub record AreMislaid (G : Table) (reach : Reach) (bytes : List ℕ) : Type 0 where
   pub judgment : Judgment
-  pub verdict : IsVerdict G Profile bytes (line_of judgment)
+  pub verdict : IsVerdict G reach bytes (line_of judgment)
   pub breaks : ¬ (KeepsLayout judgment)
 
 -- Where a function is asked for, functions can be told apart.
-abbrev pub AreLaidOutFor : Table → List ℕ → Option Chosen → Type 0
-AreLaidOutFor G bytes None = Unit {0}
-AreLaidOutFor G bytes (Some chosen) = AreLaidOut G bytes
+abbrev pub AreLaidOutFor : Table → Reach → List ℕ → Option Chosen → Type 0
+AreLaidOutFor G reach bytes None = Unit {0}
+AreLaidOutFor G reach bytes (Some chosen) = AreLaidOut G reach bytes
 
 -- No text is written of the bytes: they are no words; they are those of no list of instructions, and the beginning of
 -- one is not shown; or a function is asked for, and where one begins and ends cannot be told.
-pub data HasNoText (how : View) (G : Table) (bytes : List ℕ) : Option Chosen → Type 0 where
+pub data HasNoText (how : View) (G : Table) (reach : Reach) (bytes : List ℕ) : Option Chosen → Type 0 where
   wordless : (function : Option Chosen) → ((order : Order) (words : List ℕ) → ¬ (IsModule order bytes words))
-      → HasNoText how G bytes function
+      → HasNoText how G reach bytes function
   unlisted : (function : Option Chosen) → shows_beginning how function ≡ false
-      → ((m : Module) → ¬ (AreListed G bytes m)) → HasNoText how G bytes function
-  mislaid : (chosen : Chosen) → AreMislaid G bytes → HasNoText how G bytes (Some chosen)
+      → ((m : Module) → ¬ (AreListed G bytes m)) → HasNoText how G reach bytes function
+  mislaid : (chosen : Chosen) → AreMislaid G reach bytes → HasNoText how G reach bytes (Some chosen)
 
 -- what the graph marks: the instruction of the fault and the labels of the blocks of its walk
 abbrev pub mark_in : annotate.Finding → graph.Finding → Type 0
-mark_in f g = (g.inst ≡ f.inst) × (g.walk.now ≡ walk_of (Some f))
+mark_in f g = (g.inst ≡ f.inst) × (g.walk.now ≡ f.walk.now)
 
 abbrev pub IsMark : Option annotate.Finding → Option graph.Finding → Type 0
 IsMark None None = Unit {0}
@@ -127,10 +127,10 @@ IsMark (Some f) (Some g) = mark_in f g
 IsMark _ _ = ⊥
 
 -- The text is that of the pieces of the module's document, with what is told of its fault.
-pub record IsAnnotated (G : Table) (m : Module) (finding : Option annotate.Finding) (function : Option ℕ) (color : Bool)
-    (text : List ℕ) : Type 0 where
+pub record IsAnnotated (G : Table) (reach : Reach) (m : Module) (finding : Option annotate.Finding) (function : Option ℕ)
+    (color : Bool) (text : List ℕ) : Type 0 where
   pub subject : Subject
-  pub of : IsSubject G m finding function subject
+  pub of : IsSubject G reach m finding function subject
   pub all : text ≡ flat_map (text_of color) (document subject)
 
 -- It draws the blocks of a function.
@@ -143,63 +143,68 @@ pub record IsBlockGraph (G : Table) (m : Module) (finding : Option annotate.Find
   pub all : text ≡ block_graph_text marks (plain_insts m) lines id
 
 -- It is the text of a module with comments, the page, the graph of its calls or that of a function's blocks.
-abbrev pub IsWritten : View → Table → Module → Option annotate.Finding → Option ℕ → List ℕ → Type 0
-IsWritten (Text color) G m finding function text = IsAnnotated G m finding function color text
-IsWritten (Page title) G m finding function text = IsPage G m title.now finding function text
-IsWritten Graph G m finding None text = text ≡ call_graph_text (plain_insts m)
-IsWritten Graph G m finding (Some id) text = IsBlockGraph G m finding id text
+abbrev pub IsWritten : View → Table → Reach → Module → Option annotate.Finding → Option ℕ → List ℕ → Type 0
+IsWritten (Text color) G reach m finding function text = IsAnnotated G reach m finding function color text
+IsWritten (Page title) G reach m finding function text = IsPage G reach m title.now finding function text
+IsWritten Graph G reach m finding None text = text ≡ call_graph_text (plain_insts m)
+IsWritten Graph G reach m finding (Some id) text = IsBlockGraph G m finding id text
 
--- The same with what explains the verdict on the bytes.
-pub record IsTextOf (how : View) (G : Table) (function : Option ℕ) (bytes : List ℕ) (m : Module)
+-- What explains the verdict on the bytes is told, with the walk of its evidence; the graph of the calls needs no verdict.
+pub data IsTold (G : Table) (reach : Reach) (bytes : List ℕ) : View → Option ℕ → Option annotate.Finding → Type 0 where
+  explained : (how : View) (function : Option ℕ) (finding : Option annotate.Finding) (e : Explanation) (walk : List ℕ)
+      → IsExplanation Short G reach bytes e → IsWalk Short G reach bytes e walk → IsFindingOf e walk finding
+      → IsTold G reach bytes how function finding
+  calls : IsTold G reach bytes Graph None None
+
+-- The text is written of the module of the bytes, with what is told.
+pub record IsTextOf (how : View) (G : Table) (reach : Reach) (function : Option ℕ) (bytes : List ℕ) (m : Module)
     (text : List ℕ) : Type 0 where
-  pub explanation : Explanation
-  pub explains : IsExplanation Short G Profile bytes explanation
   pub finding : Option annotate.Finding
-  pub of : IsFindingOf explanation finding
-  pub written : IsWritten how G m finding function text
+  pub told : IsTold G reach bytes how function finding
+  pub written : IsWritten how G reach m finding function text
 
 -- This is what is written of all of these bytes, under the grammar table, and whether it is the text of a whole module.
-pub data IsViewing (how : View) (G : Table) (function : Option Chosen) (bytes : List ℕ) : List ℕ → Bool
+pub data IsViewing (how : View) (G : Table) (reach : Reach) (function : Option Chosen) (bytes : List ℕ) : List ℕ → Bool
     → Type 0 where
   -- there is none: their verdict line
-  judged : (line : List ℕ) → HasNoText how G bytes function → IsVerdict G Profile bytes line
-      → IsViewing how G function bytes line false
+  judged : (line : List ℕ) → HasNoText how G reach bytes function → IsVerdict G reach bytes line
+      → IsViewing how G reach function bytes line false
   -- they are those of no list of instructions: the instructions before the one that is malformed, and what explains it
   begun : (m : Module) (text : List ℕ) → shows_beginning how function ≡ true → AreBegun G bytes m
-      → IsTextOf how G None bytes m text → IsViewing how G function bytes text false
+      → IsTextOf how G reach None bytes m text → IsViewing how G reach function bytes text false
   -- there is one, and it has the function that is asked for
-  viewed : (m : Module) (id : Option ℕ) (text : List ℕ) → AreListed G bytes m → AreLaidOutFor G bytes function
-      → IsPart (plain_insts m) function id → IsTextOf how G id bytes m text
-      → IsViewing how G function bytes text true
+  viewed : (m : Module) (id : Option ℕ) (text : List ℕ) → AreListed G bytes m → AreLaidOutFor G reach bytes function
+      → IsPart (plain_insts m) function id → IsTextOf how G reach id bytes m text
+      → IsViewing how G reach function bytes text true
 
 -- A writer that held the bytes `old` now also holds what is written of the bytes, and nothing else; the answer tells
 -- whether it is the text of a module.
-pub record Views (how : View) (G : Table) (function : Option Chosen) (bytes old : List ℕ) (new : Option (List ℕ))
+pub record Views (how : View) (G : Table) (reach : Reach) (function : Option Chosen) (bytes old : List ℕ) (new : Option (List ℕ))
     (answer : Bool) : Type 0 where
   pub output : List ℕ
-  pub viewing : IsViewing how G function bytes output answer
+  pub viewing : IsViewing how G reach function bytes output answer
   pub written : new ≡ Some (old ++ output)
 
 -- A writer that held the bytes `old` now also holds a beginning of what is written, and nothing else.
-pub record BeginsViewing (how : View) (G : Table) (function : Option Chosen) (bytes old : List ℕ)
+pub record BeginsViewing (how : View) (G : Table) (reach : Reach) (function : Option Chosen) (bytes old : List ℕ)
     (new : Option (List ℕ)) : Type 0 where
   pub output : List ℕ
   pub answer : Bool
-  pub viewing : IsViewing how G function bytes output answer
+  pub viewing : IsViewing how G reach function bytes output answer
   pub count : ℕ
   pub fits : count ≤ length output
   pub written : new ≡ Some (old ++ take count output)
 
 -- A function is asked for, and the bytes are a module in which functions can be told apart, and which has no such one.
-pub record LacksFunction (G : Table) (bytes : List ℕ) (function : Option Chosen) : Type 0 where
+pub record LacksFunction (G : Table) (reach : Reach) (bytes : List ℕ) (function : Option Chosen) : Type 0 where
   pub of : Module
   pub listed : AreListed G bytes of
-  pub laid : AreLaidOutFor G bytes function
+  pub laid : AreLaidOutFor G reach bytes function
   pub none : IsNoPart (plain_insts of) function
 
 -- The same, and the function is asked for by a name that several have.
-pub record NamesSeveral (G : Table) (bytes : List ℕ) (function : Option Chosen) : Type 0 where
+pub record NamesSeveral (G : Table) (reach : Reach) (bytes : List ℕ) (function : Option Chosen) : Type 0 where
   pub of : Module
   pub listed : AreListed G bytes of
-  pub laid : AreLaidOutFor G bytes function
+  pub laid : AreLaidOutFor G reach bytes function
   pub several : AreParts (plain_insts of) function

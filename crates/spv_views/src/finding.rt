@@ -1,6 +1,7 @@
 //! What the view of a module tells of its fault.
-ghost use Rattle.std.specs.Prelude.{◌≡◌, ◌++◌, IfOk, option_map, string_bytes};
-ghost use Rattle.spv_check.specs.Verdict.{fault_line};
+ghost use Rattle.std.specs.Prelude.{◌≡◌, ◌++◌, List, ℕ, IfOk, option_map, string_bytes};
+ghost use Rattle.spv_check.specs.Text.{line_of};
+ghost use Rattle.spv_check.specs.declared.verdict_line.Judgment.TheVariants.{Broken};
 ghost use Rattle.spv_views.specs.Finding.{told_in, told_of};
 ghost use Rattle.spv_views.specs.inner.Finding.{tells};
 
@@ -8,7 +9,6 @@ use spv_annotate::Finding;
 use spv_check::Judgment;
 use spv_explain::Explanation;
 use spv_module::Fault;
-use spv_rules::Code;
 use std::alloc::{AllocError, Global};
 
 /// What is told of the fault of a module.
@@ -20,41 +20,40 @@ pub struct Found {
     lines: String,
 }
 
-/// The line of a fault, and after it these lines.
-fn lines_of(alloc: Global, fault: Fault, lines: &str) -> Result<String, AllocError>
-    ensures { IfOk result (λ t. string_bytes t ≡ fault_line fault.rule fault.inst fault.word ++ lines.now) }
+/// The line of a fault, and after it those that explain it.
+fn lines_of(alloc: Global, fault: Fault, explanation: &Explanation) -> Result<String, AllocError>
+    requires { explanation.now.judgment ≡ Broken fault }
+    ensures { IfOk result (λ t. string_bytes t ≡ line_of (Broken fault) ++ string_bytes explanation.now.lines) }
 {
-    let mut text = format!(in alloc;
-        "fault {} inst {} word {}\n",
-        Code::Rule(fault.rule).name(),
-        fault.inst,
-        fault.word
-    )?;
-    text.push_str(lines)?;
-    Ok(text)
+    let bytes = explanation.bytes(alloc)?;
+    match String::from_utf8(bytes) {
+        Ok(lines) => Ok(lines),
+        Err(_) => unreachable!(),
+    }
 }
 
 /// What is told of the fault of a module, where its verdict is one.
 pub fn found_in(alloc: Global, explanation: &Explanation) -> Result<Option<Found>, AllocError>
-    ensures { IfOk result (λ f. option_map tells f ≡ told_of explanation.now) }
+    ensures { (walk : List ℕ) → IfOk result (λ f. option_map (tells walk) f ≡ told_of explanation.now walk) }
 {
     match explanation.judgment {
         Judgment::Broken(fault) => Ok(Some(Found {
             inst: fault.inst,
-            lines: lines_of(alloc, fault, &explanation.lines)?,
+            lines: lines_of(alloc, fault, explanation)?,
         })),
         Judgment::Valid | Judgment::Refused(_) => Ok(None),
     }
 }
 
-/// The same, lent.
-pub fn lent(found: &Option<Found>) -> Option<Finding<'_>>
-    ensures { option_map told_in result ≡ option_map tells found.now }
+/// The same, lent, with the blocks of the walk that shows it.
+pub fn lent<'f>(found: &'f Option<Found>, walk: &'f [u32]) -> Option<Finding<'f>>
+    ensures { option_map told_in result ≡ option_map (tells walk.now) found.now }
 {
     match found {
         Some(found) => Some(Finding {
             inst: found.inst,
             lines: &found.lines,
+            walk,
         }),
         None => None,
     }

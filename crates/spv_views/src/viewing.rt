@@ -1,6 +1,6 @@
 //! What is written of the bytes of a stream for people to look at.
 ghost use Rattle.std.specs.Prelude.{◌≡◌, ◌≢◌, ◌≤◌, ◌⊎◌, ◌↔◌, ◌++◌, [], ℕ, List, Some};
-ghost use Rattle.std.specs.Prelude.{IfErr, IfOk, IfSome, IsErr, IsErrOf, IsTrue, None, OnOk, drop, length};
+ghost use Rattle.std.specs.Prelude.{IfErr, IfOk, IfSome, IsErr, IsErrOf, IsTrue, None, Ok, OnOk, drop, length};
 ghost use Rattle.std.specs.Prelude.{false, string_bytes, take, true};
 ghost use Rattle.std.specs.Io.KnownBytes.{Appends};
 ghost use Rattle.spv_words.specs.Header.{IsModule};
@@ -10,32 +10,33 @@ ghost use Rattle.spv_module.specs.Instruction.{IsListing};
 ghost use Rattle.spv_module.specs.Module.{plain_insts};
 ghost use Rattle.spv_module.specs.Operand.{PlainInst};
 ghost use Rattle.spv_module.specs.declared.module.Module.{Module};
-ghost use Rattle.spv_extended.specs.declared.reach.Reach.TheVariants.{Profile};
 ghost use Rattle.spv_lines.specs.Text.{ShownLines};
 ghost use Rattle.spv_layout.specs.Place.{IsShort};
+ghost use Rattle.spv_check.specs.declared.verdict_line.Judgment.TheVariants as judgment;
 ghost use Rattle.spv_check.specs.Outcome.{HasFailed, IsUntouched, OfKnown};
-ghost use Rattle.spv_fault_lines.specs.declared.fact.Detail.TheVariants.{Short};
-ghost use Rattle.spv_explain.specs.Stream.{IsExplanation};
 ghost use Rattle.spv_annotate.specs.Document.{IsSpelled};
 ghost use Rattle.spv_views.specs.View.{BeginsViewing, IsBlockGraph, IsPart, IsViewing, IsWritten, KeepsLayout};
 ghost use Rattle.spv_views.specs.View as view;
 ghost use Rattle.spv_views.specs.View.{LacksFunction, NamesSeveral, Views};
 ghost use Rattle.spv_views.specs.inner.Beginning.{IsBegun};
 ghost use Rattle.spv_views.specs.inner.Viewed as viewed;
-ghost use Rattle.spv_views.specs.inner.Viewed.{IsLaid, IsMislaid, IsReading, IsWrittenBy, WhyNoPart, is_text};
+ghost use Rattle.spv_views.specs.inner.Viewed.{IsLaid, IsMislaid, IsReading, IsToldOf, IsWrittenBy, WhyNoPart, is_text};
 ghost use Rattle.spv_views.specs.inner.Viewed.{output_of, viewed_refusal};
+ghost use Rattle.spv_views.specs.declared.view.View.TheVariants as graph;
+ghost use Rattle.spv_views.specs.declared.viewing.Viewed.TheVariants as line;
 ghost use Rattle.spv_views.specs.declared.view.ViewError.TheVariants as trouble;
 
 use crate::beginning::beginning_of;
 use crate::finding::{found_in, lent};
 use crate::view::{View, ViewError};
-use spv_annotate::{Finding, annotate, page, walk_labels};
+use spv_annotate::{Finding, annotate, page};
 use spv_check::{Judgment, line_for};
-use spv_explain::{Detail, Explanation, Told, explained};
-use spv_inst::{decode, one_listing};
+use spv_explain::{Detail, Told, explained};
+use spv_extended::Reach;
+use spv_inst::{decode, listed_or_dead, one_listing};
 use spv_layout::laws::word_counts;
 use spv_lines::shown_reads_back;
-use spv_module::{Module, Rule, Stop};
+use spv_module::{Fault, Module, Rule, Stop};
 use spv_names::{Chosen, NameError, function_of, has_function};
 use spv_pictures::{block_graph, call_graph};
 use spv_table::Table;
@@ -73,6 +74,13 @@ fn refused(code: WordError) -> Result<Viewed, ViewError>
         WordError::W9 => Err(ViewError::Memory),
         _ => Ok(Viewed::Line(Judgment::Refused(code))),
     }
+}
+
+/// What is written of words that have a fault: the verdict line.
+fn broken(fault: Fault) -> Result<Viewed, ViewError>
+    ensures { result ≡ Ok (line.Line (judgment.Broken fault)) }
+{
+    Ok(Viewed::Line(Judgment::Broken(fault)))
 }
 
 /// Whether a rule is of the stages behind the layout.
@@ -121,11 +129,10 @@ fn blocks_of(
     ensures { (lines : List (List ℕ)) → ShownLines table.now [] (plain_insts «module».now) lines
         → IfOk result (λ t. IsBlockGraph table.now «module».now finding.entry id (string_bytes t)) }
 {
-    let walk = walk_labels(alloc, finding)?;
     let marks = match finding {
         Some(found) => Some(spv_pictures::Finding {
             inst: found.inst,
-            walk: &walk,
+            walk: found.walk,
         }),
         None => None,
     };
@@ -137,6 +144,7 @@ fn text_with(
     alloc: Global,
     table: &Table,
     how: View<'_>,
+    reach: Reach,
     function: Option<u32>,
     module: &Module<'_>,
     finding: Option<Finding<'_>>,
@@ -144,11 +152,11 @@ fn text_with(
     requires spelled { IsSpelled table.now (plain_insts «module».now) }
     requires words { IsShort (plain_insts «module».now) }
     ensures { (lines : List (List ℕ)) → ShownLines table.now [] (plain_insts «module».now) lines
-        → IfOk result (λ t. IsWritten how.entry table.now «module».now finding.entry function (string_bytes t)) }
+        → IfOk result (λ t. IsWritten how.entry table.now reach «module».now finding.entry function (string_bytes t)) }
 {
     match how {
-        View::Text { color } => annotate(alloc, table, module, finding, function, color),
-        View::Page { title } => page(alloc, table, module, title, finding, function),
+        View::Text { color } => annotate(alloc, table, module, reach, finding, function, color),
+        View::Page { title } => page(alloc, table, module, reach, title, finding, function),
         View::Graph => match function {
             Some(id) => blocks_of(alloc, table, module, id, finding),
             None => call_graph(alloc, module),
@@ -161,17 +169,20 @@ fn text_of(
     alloc: Global,
     table: &Table,
     how: View<'_>,
+    reach: Reach,
     function: Option<u32>,
     module: &Module<'_>,
-    explanation: &Explanation,
+    told: &Told<'_>,
 ) -> Result<String, AllocError>
     requires spelled { IsSpelled table.now (plain_insts «module».now) }
     requires words { IsShort (plain_insts «module».now) }
     ensures { (lines : List (List ℕ)) → ShownLines table.now [] (plain_insts «module».now) lines
-        → IfOk result (λ t. IsWrittenBy how.entry table.now «module».now explanation.now function (string_bytes t)) }
+        → IfOk result (λ t. IsWrittenBy how.entry table.now reach «module».now told.now.explanation
+        told.now.walk.items function (string_bytes t)) }
 {
-    let found = found_in(alloc, explanation)?;
-    text_with(alloc, table, how, function, module, lent(&found))
+    let found = found_in(alloc, &told.explanation)?;
+    let finding = lent(&found, &told.walk);
+    text_with(alloc, table, how, reach, function, module, finding)
 }
 
 /// Whether the beginning of a module is shown, where its words are no list of instructions.
@@ -189,12 +200,13 @@ fn begun(
     alloc: Global,
     table: &Table,
     how: View<'_>,
+    reach: Reach,
     image: &Image,
-    explanation: &Explanation,
+    told: &Told<'_>,
 ) -> Result<String, ViewError>
     requires { (is : List PlainInst) → ¬ (IsListing table.now is (drop 5 image.now)) }
     ensures begun { IfOk result (λ t. (m : Module) × IsBegun table.now image.now m
-        × IsWrittenBy how.entry table.now m explanation.now None (string_bytes t)) }
+        × IsWrittenBy how.entry table.now reach m told.now.explanation told.now.walk.items None (string_bytes t)) }
     ensures only { IfErr result (λ e. e ≡ trouble.Memory) }
 {
     one_listing();
@@ -210,7 +222,7 @@ fn begun(
         Err(Stop::Fault(_)) => unreachable!(),
         Err(Stop::Memory) => return Err(ViewError::Memory),
     };
-    let text = text_of(alloc, table, how, None, &module, explanation)?;
+    let text = text_of(alloc, table, how, reach, None, &module, told)?;
     Ok(text)
 }
 
@@ -220,21 +232,22 @@ fn viewed_unlisted(
     alloc: Global,
     table: &Table,
     how: View<'_>,
+    reach: Reach,
     function: Option<Chosen<'_>>,
     image: &Image,
-    explanation: &Explanation,
+    told: &Told<'_>,
 ) -> Result<Viewed, ViewError>
     requires { (is : List PlainInst) → ¬ (IsListing table.now is (drop 5 image.now)) }
     ensures viewed { (bytes : List ℕ) (order : Order) → IsModule order bytes image.now
-        → IsExplanation Short table.now Profile bytes explanation.now
-        → IfOk result (λ v. IsViewing how.entry table.now function.entry bytes (output_of v) (is_text v)) }
+        → IsToldOf table.now reach bytes told.now
+        → IfOk result (λ v. IsViewing how.entry table.now reach function.entry bytes (output_of v) (is_text v)) }
     ensures only { IfErr result (λ e. e ≡ trouble.Memory) }
 {
     spv_words::laws::one_word_list();
     if !shows_beginning(how, function) {
-        return Ok(Viewed::Line(explanation.judgment));
+        return Ok(Viewed::Line(told.explanation.judgment));
     }
-    let text = begun(alloc, table, how, image, explanation)?;
+    let text = begun(alloc, table, how, reach, image, told)?;
     Ok(Viewed::Beginning(text))
 }
 
@@ -269,32 +282,69 @@ fn viewed_told(
     alloc: Global,
     table: &Table,
     how: View<'_>,
+    reach: Reach,
     function: Option<Chosen<'_>>,
     image: &Image,
     told: &Told<'_>,
 ) -> Result<Viewed, ViewError>
     requires { IsReading table.now image.now told.now }
     ensures viewed { (bytes : List ℕ) (order : Order) → IsModule order bytes image.now
-        → IsExplanation Short table.now Profile bytes told.now.explanation
-        → IfOk result (λ v. IsViewing how.entry table.now function.entry bytes (output_of v) (is_text v)) }
+        → IsToldOf table.now reach bytes told.now
+        → IfOk result (λ v. IsViewing how.entry table.now reach function.entry bytes (output_of v) (is_text v)) }
     ensures stranger { (bytes : List ℕ) (order : Order) → IsModule order bytes image.now
-        → IsExplanation Short table.now Profile bytes told.now.explanation
-        → IsErrOf result trouble.NoFunction → LacksFunction table.now bytes function.entry }
+        → IsToldOf table.now reach bytes told.now
+        → IsErrOf result trouble.NoFunction → LacksFunction table.now reach bytes function.entry }
     ensures several { (bytes : List ℕ) (order : Order) → IsModule order bytes image.now
-        → IsExplanation Short table.now Profile bytes told.now.explanation
-        → IsErrOf result trouble.SeveralFunctions → NamesSeveral table.now bytes function.entry }
+        → IsToldOf table.now reach bytes told.now
+        → IsErrOf result trouble.SeveralFunctions → NamesSeveral table.now reach bytes function.entry }
     ensures only { IfErr result (λ e. e ≢ trouble.Failed) }
 {
     shown_reads_back();
     word_counts();
     let Some(module) = &told.module else {
-        return viewed_unlisted(alloc, table, how, function, image, &told.explanation);
+        return viewed_unlisted(alloc, table, how, reach, function, image, told);
     };
     if is_mislaid(function, told.explanation.judgment) {
         return Ok(Viewed::Line(told.explanation.judgment));
     }
     let id = id_in(module, function)?;
-    let text = text_of(alloc, table, how, id, module, &told.explanation)?;
+    let text = text_of(alloc, table, how, reach, id, module, told)?;
+    Ok(Viewed::Text(text))
+}
+
+/// Whether the graph of a module's calls is asked for.
+fn is_of_calls(how: View<'_>, function: Option<Chosen<'_>>) -> bool
+    ensures { result ≡ true → (how.entry ≡ graph.Graph) × (function.entry ≡ None) }
+{
+    match (how, function) {
+        (View::Graph, None) => true,
+        _ => false,
+    }
+}
+
+/// The graph of the calls of the words of a module, which needs no verdict; or the verdict line of words that are no list
+/// of instructions.
+fn calls_viewed(
+    alloc: Global,
+    table: &Table,
+    reach: Reach,
+    image: &Image,
+) -> Result<Viewed, ViewError>
+    ensures viewed { (bytes : List ℕ) (order : Order) → IsModule order bytes image.now
+        → IfOk result (λ v. IsViewing graph.Graph table.now reach None bytes (output_of v) (is_text v)) }
+    ensures only { IfErr result (λ e. e ≡ trouble.Memory) }
+{
+    spv_words::laws::one_word_list();
+    listed_or_dead();
+    shown_reads_back();
+    word_counts();
+    let _words = image.len();
+    let module = match decode(alloc, table, image) {
+        Ok(module) => module,
+        Err(Stop::Fault(fault)) => return broken(fault),
+        Err(Stop::Memory) => return Err(ViewError::Memory),
+    };
+    let text = text_with(alloc, table, View::Graph, reach, None, &module, None)?;
     Ok(Viewed::Text(text))
 }
 
@@ -308,20 +358,24 @@ pub fn view_image(
     alloc: Global,
     table: &Table,
     how: View<'_>,
+    reach: Reach,
     function: Option<Chosen<'_>>,
     image: &Image,
 ) -> Result<Viewed, ViewError>
     ensures viewed { (bytes : List ℕ) (order : Order) → IsModule order bytes image.now
-        → IfOk result (λ v. IsViewing how.entry table.now function.entry bytes (output_of v) (is_text v)) }
+        → IfOk result (λ v. IsViewing how.entry table.now reach function.entry bytes (output_of v) (is_text v)) }
     ensures stranger { (bytes : List ℕ) (order : Order) → IsModule order bytes image.now
-        → IsErrOf result trouble.NoFunction → LacksFunction table.now bytes function.entry }
+        → IsErrOf result trouble.NoFunction → LacksFunction table.now reach bytes function.entry }
     ensures several { (bytes : List ℕ) (order : Order) → IsModule order bytes image.now
-        → IsErrOf result trouble.SeveralFunctions → NamesSeveral table.now bytes function.entry }
+        → IsErrOf result trouble.SeveralFunctions → NamesSeveral table.now reach bytes function.entry }
     ensures only { IfErr result (λ e. e ≢ trouble.Failed) }
 {
+    if is_of_calls(how, function) {
+        return calls_viewed(alloc, table, reach, image);
+    }
     let _words = image.len();
-    match explained(alloc, table, Detail::Short, image) {
-        Ok(told) => viewed_told(alloc, table, how, function, image, &told),
+    match explained(alloc, table, reach, Detail::Short, image) {
+        Ok(told) => viewed_told(alloc, table, how, reach, function, image, &told),
         Err(_) => Err(ViewError::Memory),
     }
 }
@@ -331,15 +385,16 @@ fn viewed_on<R: Source>(
     alloc: Global,
     table: &Table,
     how: View<'_>,
+    reach: Reach,
     function: Option<Chosen<'_>>,
     r: &mut R,
 ) -> Result<Viewed, ViewError>
     ensures known { IfSome (R.remaining r.old)
-        (λ bytes. IfOk result (λ v. IsViewing how.entry table.now function.entry bytes (output_of v) (is_text v))) }
+        (λ bytes. IfOk result (λ v. IsViewing how.entry table.now reach function.entry bytes (output_of v) (is_text v))) }
     ensures stranger { IsErrOf result trouble.NoFunction
-        → IfSome (R.remaining r.old) (λ bytes. LacksFunction table.now bytes function.entry) }
+        → IfSome (R.remaining r.old) (λ bytes. LacksFunction table.now reach bytes function.entry) }
     ensures several { IsErrOf result trouble.SeveralFunctions
-        → IfSome (R.remaining r.old) (λ bytes. NamesSeveral table.now bytes function.entry) }
+        → IfSome (R.remaining r.old) (λ bytes. NamesSeveral table.now reach bytes function.entry) }
     ensures count { HasFailed R.failures r.old r.new ↔ IsErrOf result trouble.Failed }
 {
     spv_words::laws::one_refusal();
@@ -347,7 +402,7 @@ fn viewed_on<R: Source>(
         Ok((image, _)) => image,
         Err(code) => return refused(code),
     };
-    view_image(alloc, table, how, function, &image)
+    view_image(alloc, table, how, reach, function, &image)
 }
 
 impl Viewed {
@@ -399,27 +454,28 @@ pub fn view_stream<R: Source, W: Sink>(
     alloc: Global,
     table: &Table,
     how: View<'_>,
+    reach: Reach,
     function: Option<Chosen<'_>>,
     r: &mut R,
     w: &mut W,
 ) -> Result<bool, ViewError>
     // The writer has got what is written of all the bytes that the reader still gave.
     ensures viewed { OfKnown (R.remaining r.old) (W.contents w.old)
-        (λ bytes old. IfOk result (λ answer. Views how.entry table.now function.entry bytes old (W.contents w.new) answer)) }
+        (λ bytes old. IfOk result (λ answer. Views how.entry table.now reach function.entry bytes old (W.contents w.new) answer)) }
     // The answer is `Failed` exactly where a read or a write failed.
     ensures count { (HasFailed R.failures r.old r.new ⊎ HasFailed W.failures w.old w.new)
         ↔ IsErrOf result trouble.Failed }
     ensures stranger { IsErrOf result trouble.NoFunction
-        → IfSome (R.remaining r.old) (λ bytes. LacksFunction table.now bytes function.entry) }
+        → IfSome (R.remaining r.old) (λ bytes. LacksFunction table.now reach bytes function.entry) }
     ensures several { IsErrOf result trouble.SeveralFunctions
-        → IfSome (R.remaining r.old) (λ bytes. NamesSeveral table.now bytes function.entry) }
+        → IfSome (R.remaining r.old) (λ bytes. NamesSeveral table.now reach bytes function.entry) }
     // With an error a writer that did not fail is as it was.
     ensures unwritten { IsErr result → IsUntouched W.failures w.old w.new }
     // After a failed write it has got a beginning.
     ensures begun { HasFailed W.failures w.old w.new → OfKnown (R.remaining r.old) (W.contents w.old)
-        (λ bytes old. BeginsViewing how.entry table.now function.entry bytes old (W.contents w.new)) }
+        (λ bytes old. BeginsViewing how.entry table.now reach function.entry bytes old (W.contents w.new)) }
 {
-    let viewed = viewed_on(alloc, table, how, function, r)?;
+    let viewed = viewed_on(alloc, table, how, reach, function, r)?;
     match viewed.write(w) {
         Ok(()) => Ok(viewed.is_text()),
         Err(_) => Err(ViewError::Failed),

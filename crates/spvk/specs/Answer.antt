@@ -5,8 +5,9 @@ use Rattle.spv_extended.specs.declared.reach.Reach.{Reach}
 use Rattle.spv_check.specs.declared.verdict_line.Judgment.{Judgment}
 use Rattle.spv_check.specs.Verdict.{IsVerdict}
 use Rattle.spv_check.specs.Text.{line_of}
-use Rattle.spvk.specs.Flags.{asked_by, taken}
-use Rattle.spvk.specs.declared.flags.Asked.{Asked}
+use Rattle.spv_scope.specs.Scope.{reach_of, taken}
+use Rattle.spv_scope.specs.declared.scope.Scope.{Scope}
+use Rattle.spvk.specs.Flags.{asked_by}
 use Rattle.spvk.specs.declared.numbers.Answer.{Answer}
 use Rattle.spvk.specs.declared.numbers.Verdict.{Verdict}
 use Rattle.spvk.specs.Numbers.{nowhere, numbers_of}
@@ -33,10 +34,10 @@ abbrev pub AnswersAt : Ptr → Table → Reach → List ℕ → Answer → Type 
 AnswersAt null_ptr G reach bytes answer = answer ≡ status_alone 2
 AnswersAt (block_ptr b o) G reach bytes answer = Answers G reach bytes answer
 
--- The answer by what flags ask for: status 5 where a bit is set that is no flag.
-abbrev pub AnswersAsked : Option Asked → Table → List ℕ → Answer → Type 0
+-- The answer by what flags ask for: status 5 where they ask for nothing that there is.
+abbrev pub AnswersAsked : Option Scope → Table → List ℕ → Answer → Type 0
 AnswersAsked None G bytes answer = answer ≡ status_alone 5
-AnswersAsked (Some a) G bytes answer = Answers G a.reach (taken a.newest bytes) answer
+AnswersAsked (Some scope) G bytes answer = Answers G (reach_of scope bytes) (taken scope bytes) answer
 
 -- The same by flags, and by the table behind a pointer: status 2 where it is null.
 abbrev pub AnswersWith : Ptr → Table → ℕ → List ℕ → Answer → Type 0

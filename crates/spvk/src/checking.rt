@@ -6,16 +6,17 @@ ghost use types.Logic.{sem};
 ghost use Rattle.spvk.specs.Held.{shown};
 ghost use Rattle.spvk.specs.Answer.{Answers, AnswersAsked, AnswersAt, AnswersWith, status_alone};
 ghost use Rattle.spvk.specs.Flags as spec;
-ghost use Rattle.spvk.specs.Flags.{taken};
+ghost use Rattle.spv_scope.specs.Scope.{reach_of, taken};
 ghost use Rattle.spv_extended.specs.declared.reach.Reach.TheVariants.{Profile};
 ghost use Rattle.spv_words.specs.Version.{as_1_6};
 
-use crate::flags::{Asked, asked_by};
+use crate::flags::asked_by;
 use crate::judging::judge;
 use crate::numbers::{Answer, NOWHERE, Verdict, numbers};
 use crate::status::{MEMORY, NO_FLAG, NO_GRAMMAR, OK};
 use crate::versions::copy_as_1_6;
 use spv_extended::Reach;
+use spv_scope::Scope;
 use spv_table::Table;
 use std::alloc::Global;
 use std::ptr;
@@ -75,13 +76,14 @@ pub(crate) fn answer_as_1_6_by(alloc: Global, table: &Table, bytes: &[u8]) -> An
 }
 
 /// The answer of a check as it is asked for.
-fn answer_asked(alloc: Global, table: &Table, asked: Asked, bytes: &[u8]) -> Answer
-    ensures { Answers table.now asked.reach (taken asked.newest bytes.now) result }
+fn answer_asked(alloc: Global, table: &Table, scope: Scope, bytes: &[u8]) -> Answer
+    ensures { Answers table.now (reach_of scope bytes.now) (taken scope bytes.now) result }
 {
-    if asked.newest {
-        answer_as_1_6_of(alloc, table, asked.reach, bytes)
+    let reach = scope.reach(bytes);
+    if scope.takes_as_1_6() {
+        answer_as_1_6_of(alloc, table, reach, bytes)
     } else {
-        answer_of(alloc, table, asked.reach, bytes)
+        answer_of(alloc, table, reach, bytes)
     }
 }
 
@@ -90,7 +92,7 @@ fn answer_with_by(alloc: Global, table: &Table, bytes: &[u8], flags: u32) -> Ans
     ensures { AnswersAsked (spec.asked_by flags) table.now bytes.now result }
 {
     match asked_by(flags) {
-        Some(asked) => answer_asked(alloc, table, asked, bytes),
+        Some(scope) => answer_asked(alloc, table, scope, bytes),
         None => alone(NO_FLAG),
     }
 }
@@ -135,7 +137,7 @@ pub unsafe extern "C" fn spvk_raw_check_as_1_6(
     }
 }
 
-/// The same by flags: `SPVK_AS_1_6` (1), `SPVK_EXTENDED` (2), or both; 0 for none.
+/// The same by flags: `SPVK_AS_1_6` (1), `SPVK_EXTENDED` (2), or both, or `SPVK_OPENCL` (4); 0 for none.
 #[unsafe(no_mangle)]
 pub unsafe extern "C" fn spvk_raw_check_with(
     alloc: Global,

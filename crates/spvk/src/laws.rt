@@ -2,7 +2,7 @@
 ghost use Rattle.std.specs.Prelude.{◌≡◌, ◌≢◌, ℕ, List, Option, None, Some, codes, false, true};
 ghost use Rattle.spv_table.specs.Table.{Table as TableView};
 ghost use Rattle.spv_extended.specs.declared.reach.Reach.{Reach};
-ghost use Rattle.spv_extended.specs.declared.reach.Reach.TheVariants.{Extended, Profile};
+ghost use Rattle.spv_scope.specs.declared.scope.Scope.TheVariants.{Own, Extended, OpenCl};
 ghost use Rattle.spv_grammar.specs.Reason.{IsReason as IsReasonOf};
 ghost use Rattle.spv_grammar.specs.declared.error.GrammarError.TheVariants.{J4};
 ghost use Rattle.spv_lines.specs.declared.asm_error.AsmCode.TheVariants.{S2};
@@ -14,7 +14,7 @@ ghost use Rattle.spvk.specs.Answer.{Answers, AnswersAsked, AnswersAt, AnswersWit
 ghost use Rattle.spvk.specs.Assemble.{AssemblesAt};
 ghost use Rattle.spvk.specs.Explain.{IsExplaining};
 ghost use Rattle.spvk.specs.Faults.{text_code_number};
-ghost use Rattle.spvk.specs.Flags.{asked_by, taken};
+ghost use Rattle.spvk.specs.Flags.{asked_by};
 ghost use Rattle.spvk.specs.Grammar.{IsReason};
 ghost use Rattle.spvk.specs.GrammarReason.{ExplainsGrammar, IsExplained};
 ghost use Rattle.spvk.specs.Held.{boxed, lent};
@@ -22,7 +22,7 @@ ghost use Rattle.spvk.specs.Make.{Makes, MakesAsked, MakesAt, MakesWith};
 ghost use Rattle.spvk.specs.Numbers.{code_number, nowhere, numbers_of, rule_number};
 ghost use Rattle.spvk.specs.Object.{IsTelling};
 ghost use Rattle.spvk.specs.Rules.{PutsIfAny};
-ghost use Rattle.spvk.specs.Show.{IsShowing};
+ghost use Rattle.spvk.specs.Show.{IsShowing, IsShowingForOpenCl};
 ghost use Rattle.spvk.specs.Status.{status_of, status_text};
 ghost use Rattle.spvk.specs.declared.buffer.Buffer.{Buffer};
 ghost use Rattle.spvk.specs.declared.image.Assembled.{Assembled};
@@ -79,32 +79,40 @@ pub fn answer_examples()
 
 /// What flags ask for.
 pub fn flag_examples()
-    ensures none { asked_by 0 ≡ Some (record { newest = false; reach = Profile }) }
-    ensures both { asked_by 3 ≡ Some (record { newest = true; reach = Extended }) }
-    ensures no_flag { asked_by 4 ≡ None }
-    ensures as_they_are { (bytes : List ℕ) → taken false bytes ≡ bytes }
+    ensures none { asked_by 0 ≡ Some (Own false) }
+    ensures both { asked_by 3 ≡ Some (Extended true) }
+    ensures opencl { asked_by 4 ≡ Some OpenCl }
+    ensures in_opencl { asked_by 6 ≡ Some OpenCl }
+    ensures not_together { asked_by 5 ≡ None }
+    ensures no_flag { asked_by 8 ≡ None }
     ensures heeded { asked_by 2 ≢ asked_by 0 }
     // A bit that is no flag is told, by status 5, and not taken for none.
-    ensures told { (G : TableView) (bytes : List ℕ) → AnswersAsked (asked_by 4) G bytes (status_alone 5) }
+    ensures told { (G : TableView) (bytes : List ℕ) → AnswersAsked (asked_by 8) G bytes (status_alone 5) }
     ensures not_taken { (G : TableView) (bytes : List ℕ) → ¬ (AnswersAsked (asked_by 2) G bytes (status_alone 5)) }
-    ensures null { (G : TableView) (bytes : List ℕ) → AnswersWith null_ptr G 4 bytes (status_alone 2) }
-    ensures null_first { (G : TableView) (bytes : List ℕ) → ¬ (AnswersWith null_ptr G 4 bytes (status_alone 5)) }
+    ensures null { (G : TableView) (bytes : List ℕ) → AnswersWith null_ptr G 8 bytes (status_alone 2) }
+    ensures null_first { (G : TableView) (bytes : List ℕ) → ¬ (AnswersWith null_ptr G 8 bytes (status_alone 5)) }
 {}
 
 /// What was there stays where nothing is answered.
 pub fn kept_examples()
-    ensures memory { (G : TableView) (bytes : List ℕ) (old : Text) → Makes (IsShowing G bytes) old old 1 }
-    ensures changed { (G : TableView) (bytes : List ℕ) (old new : Text) → old ≢ new
-        → ¬ (Makes (IsShowing G bytes) old new 1) }
-    ensures shown { (G : TableView) (bytes : List ℕ) (old : Text) → MakesAt null_ptr (IsShowing G bytes) old old 2 }
+    ensures memory { (G : TableView) (r : Reach) (bytes : List ℕ) (old : Text)
+        → Makes (IsShowing G r bytes) old old 1 }
+    ensures changed { (G : TableView) (r : Reach) (bytes : List ℕ) (old new : Text) → old ≢ new
+        → ¬ (Makes (IsShowing G r bytes) old new 1) }
+    ensures shown { (G : TableView) (r : Reach) (bytes : List ℕ) (old : Text)
+        → MakesAt null_ptr (IsShowing G r bytes) old old 2 }
+    ensures shown_for_opencl { (G : TableView) (bytes : List ℕ) (old : Text)
+        → MakesAt null_ptr (IsShowingForOpenCl G bytes) old old 2 }
+    ensures not_shown_for_opencl { (G : TableView) (bytes : List ℕ) (old : Text)
+        → ¬ (MakesAt null_ptr (IsShowingForOpenCl G bytes) old old 0) }
     ensures explained { (G : TableView) (r : Reach) (bytes : List ℕ) (old : Text)
         → MakesAt null_ptr (IsExplaining G r bytes) old old 2 }
     ensures not_done { (G : TableView) (r : Reach) (bytes : List ℕ) (old : Text)
         → ¬ (MakesAt null_ptr (IsExplaining G r bytes) old old 0) }
     ensures flagged { (G : TableView) (bytes : List ℕ) (old : Text)
-        → MakesAsked (asked_by 4) (IsExplaining G) bytes old old 5 }
+        → MakesAsked (asked_by 8) (IsExplaining G) bytes old old 5 }
     ensures not_flagged { (G : TableView) (bytes : List ℕ) (old : Text)
-        → ¬ (MakesAsked (asked_by 4) (IsExplaining G) bytes old old 0) }
+        → ¬ (MakesAsked (asked_by 8) (IsExplaining G) bytes old old 0) }
     ensures explained_with { (G : TableView) (bytes : List ℕ) (old : Text)
         → MakesWith null_ptr (IsExplaining G) 0 bytes old old 2 }
     ensures not_with { (G : TableView) (bytes : List ℕ) (old : Text)
@@ -114,9 +122,9 @@ pub fn kept_examples()
     ensures not_told { (G : TableView) (r : Reach) (bytes : List ℕ) (old : Text)
         → ¬ (MakesAt null_ptr (IsTelling G r bytes) old old 0) }
     ensures told_no_flag { (G : TableView) (bytes : List ℕ) (old : Text)
-        → MakesAsked (asked_by 4) (IsTelling G) bytes old old 5 }
+        → MakesAsked (asked_by 8) (IsTelling G) bytes old old 5 }
     ensures not_told_flag { (G : TableView) (bytes : List ℕ) (old : Text)
-        → ¬ (MakesAsked (asked_by 4) (IsTelling G) bytes old old 0) }
+        → ¬ (MakesAsked (asked_by 8) (IsTelling G) bytes old old 0) }
     ensures told_with { (G : TableView) (bytes : List ℕ) (old : Text)
         → MakesWith null_ptr (IsTelling G) 0 bytes old old 2 }
     ensures not_told_with { (G : TableView) (bytes : List ℕ) (old : Text)

@@ -5,13 +5,13 @@ ghost use Rattle.spvk.specs.inner.Making.{IsMade};
 ghost use Rattle.spv_words.specs.Version.{as_1_6};
 
 use crate::explaining::explained_bytes;
-use crate::flags::Asked;
 use crate::objects::object_of;
 use crate::showing::shown_bytes;
 use crate::status::{MEMORY, NO_FLAG, OK};
 use crate::text::Text;
 use crate::versions::copy_as_1_6;
 use spv_extended::Reach;
+use spv_scope::Scope;
 use spv_table::{Memory, Table};
 use std::alloc::Global;
 use std::mem;
@@ -40,7 +40,7 @@ fn made(
     match making {
         Making::Lines => explained_bytes(alloc, table, reach, bytes),
         Making::Object => object_of(alloc, table, reach, bytes),
-        Making::Shown => shown_bytes(alloc, table, bytes),
+        Making::Shown => shown_bytes(alloc, table, reach, bytes),
     }
 }
 
@@ -87,16 +87,17 @@ pub fn put_asked(
     alloc: Global,
     table: &Table,
     making: Making,
-    asked: Option<Asked>,
+    asked: Option<Scope>,
     bytes: &[u8],
     text: &mut Text,
 ) -> u32
     ensures { MakesAsked asked (IsMade making table.now) bytes.now text.old text.new result }
 {
-    let Some(Asked { newest, reach }) = asked else {
+    let Some(scope) = asked else {
         return NO_FLAG;
     };
-    if newest {
+    let reach = scope.reach(bytes);
+    if scope.takes_as_1_6() {
         put_as_1_6(alloc, table, making, reach, bytes, text)
     } else {
         put(alloc, table, making, reach, bytes, text)

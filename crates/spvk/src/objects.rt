@@ -96,7 +96,7 @@ pub unsafe extern "C" fn spvk_raw_explain_json_as_1_6(
     }
 }
 
-/// The same by flags: `SPVK_AS_1_6` (1), `SPVK_EXTENDED` (2), or both; 0 for none.
+/// The same by flags: `SPVK_AS_1_6` (1), `SPVK_EXTENDED` (2), or both, or `SPVK_OPENCL` (4); 0 for none.
 #[unsafe(no_mangle)]
 pub unsafe extern "C" fn spvk_raw_explain_json_with(
     alloc: Global,

@@ -1,11 +1,14 @@
 //! A verdict with a text, as C sees them.
 ghost use Rattle.std.specs.Prelude.{◌≡◌, None, Some, IfOk, string_bytes};
+ghost use Rattle.spv_scope.specs.Scope.{told_text};
 ghost use Rattle.spvk.specs.Numbers.{numbers_of};
 ghost use Rattle.spv_check.specs.declared.verdict_line.Judgment.TheVariants.{Valid};
 
 use crate::buffer::Buffer;
 use crate::numbers::{Verdict, numbers};
 use spv_check::Judgment;
+use spv_extended::Reach;
+use spv_scope::tell;
 use spv_table::Memory;
 use std::alloc::Global;
 
@@ -30,12 +33,15 @@ impl Text {
         }
     }
 
-    /// A verdict with a text. The error is that memory ran out.
-    pub fn of(alloc: Global, judgment: Judgment, text: String) -> Result<Text, Memory>
+    /// A verdict with the text of what was read, which tells the version that is looked at. The error is that memory ran
+    /// out.
+    pub fn of(alloc: Global, judgment: Judgment, reach: Reach, text: String) -> Result<Text, Memory>
         ensures verdict { IfOk result (λ t. t.verdict ≡ numbers_of judgment) }
-        ensures buffer { IfOk result (λ t. t.buffer.bytes ≡ Some (string_bytes text)) }
+        ensures buffer { IfOk result (λ t. t.buffer.bytes ≡ Some (told_text reach (string_bytes text))) }
     {
-        match Buffer::of(alloc, text.into_bytes()) {
+        let mut bytes = text.into_bytes();
+        tell(reach, &mut bytes);
+        match Buffer::of(alloc, bytes) {
             Ok(buffer) => Ok(Text {
                 verdict: numbers(judgment),
                 buffer,

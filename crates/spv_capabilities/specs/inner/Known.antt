@@ -17,10 +17,11 @@ use Rattle.spv_capabilities.specs.inner.Unkinded.{HasNoKinds}
 use Rattle.spv_capabilities.specs.Capable.{IsCoveredValue, IsCoveredMask, IsCoveredOperand}
 use Rattle.spv_capabilities.specs.Asked.{IsCoveredEntry}
 
--- C1, M1, E1 or E2 speak of an opcode other than that of OpFunction, or it has a width or a count that C2 asks for
+-- C1, M1, E1 or E2 speak of an opcode other than that of OpFunction, or it declares a type that C2 asks more of
 abbrev pub is_asked_more : ℕ → Bool
 is_asked_more n = nat_eq n opcode.MEMORY_MODEL || nat_eq n opcode.ENTRY_POINT || nat_eq n opcode.EXECUTION_MODE
     || nat_eq n opcode.TYPE_INT || nat_eq n opcode.TYPE_FLOAT || nat_eq n opcode.TYPE_VECTOR
+    || nat_eq n opcode.TYPE_IMAGE || nat_eq n opcode.TYPE_SAMPLER || nat_eq n opcode.EXECUTION_MODE_ID
 
 -- At an opcode nothing is asked but that its entry is covered.
 pub record IsAskedAlone (is : List PlainInst) (n : ℕ) : Type 0 where

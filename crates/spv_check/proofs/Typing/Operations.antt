@@ -17,7 +17,6 @@ use Rattle.spv_ops.specs.Table.{lines, places_of}
 use Rattle.spv_ops.specs.Typed.{IsTyped, IsTypedAt}
 use Rattle.spv_ops.specs.inner.Typed.{IsTypedIn}
 use Rattle.spv_ops.proofs.Judged.{told}
-use Rattle.spv_ops.proofs.Rows.{count, late_row}
 use Rattle.spv_type_rules.specs.declared.repeat.Seen.{Seen}
 use Rattle.spv_type_rules.specs.inner.Concern.{is_operation}
 use Rattle.spv_type_rules.specs.inner.Counted.{AreCounted}
@@ -45,19 +44,50 @@ free r h = cc
 abbrev is_known : ℕ → Bool
 is_known n = is_operation n || is_free (places_of n)
 
-all_known : all_from is_known 0 count ≡ true
-unfolding count lines
+-- an opcode from which on all are those of operations
+abbrev limit : ℕ
+limit = opcode.NAMED_BARRIER_INITIALIZE
+
+all_known : all_from is_known 0 limit ≡ true
+unfolding lines
 all_known = refl
 
 left_of : (a b : Bool) → a || b ≡ true → a ≡ false → b ≡ true
 left_of true b h e = cc
 left_of false b h e = h
 
+differs : (n m : ℕ) → m < n → nat_eq n m ≡ false
+differs n m h = ne_eqb n m (λ e. absurd (omega arith))
+
+late_operation : (n : ℕ) → limit ≤ n → is_operation n ≡ true
+late_operation n l =
+    let a : nat_le opcode.VARIABLE n ≡ true = le-leb opcode.VARIABLE n (omega arith) in
+    let b : nat_le n opcode.SELECTION_MERGE ≡ false = lt-leb n opcode.SELECTION_MERGE (omega arith) in
+    let c : nat_le opcode.LIFETIME_START n ≡ true = le-leb opcode.LIFETIME_START n (omega arith) in
+    let d : nat_le n opcode.SIZE_OF ≡ false = lt-leb n opcode.SIZE_OF (omega arith) in
+    let e : nat_le opcode.CREATE_PIPE_FROM_PIPE_STORAGE n ≡ true =
+    le-leb opcode.CREATE_PIPE_FROM_PIPE_STORAGE n (omega arith) in
+    let f : nat_le n opcode.GET_KERNEL_MAX_NUM_SUBGROUPS ≡ false =
+    lt-leb n opcode.GET_KERNEL_MAX_NUM_SUBGROUPS (omega arith) in
+    rw (
+      a,
+      b,
+      differs n opcode.UNDEF (omega arith),
+      differs n opcode.EXT_INST (omega arith),
+      differs n opcode.BRANCH_CONDITIONAL (omega arith),
+      differs n opcode.SWITCH (omega arith),
+      c,
+      d,
+      e,
+      f,
+      le-leb limit n l,
+    ) refl
+
 no_line : (n : ℕ) → is_operation n ≡ false → places_of n ≡ places.Free
-no_line n e = elim (cases_lt n count) [
+no_line n e = elim (cases_lt n limit) [
   | inl h ↦ free (places_of n) (left_of (is_operation n) (is_free (places_of n))
-      (one_from is_known count 0 n all_known (omega arith) (omega arith)) e)
-  | inr h ↦ late_row n h
+      (one_from is_known limit 0 n all_known (omega arith) h) e)
+  | inr h ↦ (let both_ways : true ≡ false = sym (late_operation n h) ∙ e in cc)
 ]
 
 untyped_kept : (G : Table) (is : List PlainInst) (n : ℕ) (i : PlainInst) → is_operation i.opcode ≡ false
@@ -147,10 +177,6 @@ is_other n = not (is_declared_once n) && (not (nat_eq n opcode.FUNCTION) && not 
 abbrev is_told : ℕ → Bool
 is_told n = not (is_operation n) || is_other n
 
--- the number past the last opcode of an operation
-abbrev limit : ℕ
-limit = opcode.LIFETIME_STOP + 1
-
 all_told : all_from is_told 0 limit ≡ true
 all_told = refl
 
@@ -175,14 +201,21 @@ early_other n h e =
       parameter = not_yes (nat_eq n opcode.FUNCTION_PARAMETER) q.1;
     }
 
-differs : (n m : ℕ) → m < n → nat_eq n m ≡ false
-differs n m h = ne_eqb n m (λ e. absurd (omega arith))
-
 late_once : (n : ℕ) → limit ≤ n → is_declared_once n ≡ false
-late_once n h =
-    let e : nat_le n opcode.TYPE_VECTOR ≡ false = lt-leb n opcode.TYPE_VECTOR (omega arith) in
+late_once n l =
+    let e : nat_le n opcode.TYPE_SAMPLED_IMAGE ≡ false = lt-leb n opcode.TYPE_SAMPLED_IMAGE (omega arith) in
     let f : nat_le opcode.TYPE_VOID n ≡ true = le-leb opcode.TYPE_VOID n (omega arith) in
-    rw (e, f, differs n opcode.TYPE_OPAQUE (omega arith), differs n opcode.TYPE_FUNCTION (omega arith)) refl
+    let g : nat_le n opcode.TYPE_PIPE ≡ false = lt-leb n opcode.TYPE_PIPE (omega arith) in
+    let h : nat_le opcode.TYPE_FUNCTION n ≡ true = le-leb opcode.TYPE_FUNCTION n (omega arith) in
+    rw (
+      e,
+      f,
+      differs n opcode.TYPE_OPAQUE (omega arith),
+      g,
+      h,
+      differs n opcode.TYPE_PIPE_STORAGE (omega arith),
+      differs n opcode.TYPE_NAMED_BARRIER (omega arith),
+    ) refl
 
 other : (n : ℕ) → is_operation n ≡ true → IsOther n
 other n e = elim (cases_lt n limit) [

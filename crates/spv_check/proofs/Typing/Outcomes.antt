@@ -53,7 +53,7 @@ numbers_used G zero k x r i at u =
     played G numbers int types_alone refl (tt, (tt, (tt, tt))) k x r (subst (λ (j : PlainInst). IsUse G j k x r) same u)
 numbers_used G (suc zero) k x r i at u =
     let same : i ≡ seven = cc in
-    played G numbers seven types_alone refl ((lit≤ tt, lit≤ tt), (tt, (tt, tt))) k x r
+    played G numbers seven types_alone refl (inl (lit≤ tt, lit≤ tt), (tt, (tt, tt))) k x r
     (subst (λ (j : PlainInst). IsUse G j k x r) same u)
 numbers_used G (suc (suc n)) k x r i at u = cc
 
@@ -66,12 +66,12 @@ int_capable : (r : Rule) (n : ℕ) → capabilities.Keeps table numbers r n int
 int_capable r n =
     capable.all_kept table numbers n int
     (λ e. absurd (omega (arith, e)))
-    (record { entry = tt; operands = (tt, (tt, (tt, tt))); widths = inl refl })
+    (record { entry = tt; operands = (tt, (tt, (tt, tt))); needs = tt })
     (λ e. absurd (omega (arith, e)))
     (λ e. absurd (omega (arith, e)))
     (record {
       entry = λ e. absurd (omega (arith, e));
-      mode = λ e. absurd (omega (arith, e));
+      mode = λ e. absurd (elim e [ inl q ↦ omega (arith, q) | inr q ↦ omega (arith, q) ]);
       linkage = λ e. absurd (omega (arith, e));
     })
     r
@@ -80,12 +80,12 @@ seven_capable : (r : Rule) (n : ℕ) → capabilities.Keeps table numbers r n se
 seven_capable r n =
     capable.all_kept table numbers n seven
     (λ e. absurd (omega (arith, e)))
-    (record { entry = tt; operands = (tt, (tt, (tt, tt))); widths = inl refl })
+    (record { entry = tt; operands = (tt, (tt, (tt, tt))); needs = tt })
     (λ e. absurd (omega (arith, e)))
     (λ e. absurd (omega (arith, e)))
     (record {
       entry = λ e. absurd (omega (arith, e));
-      mode = λ e. absurd (omega (arith, e));
+      mode = λ e. absurd (elim e [ inl q ↦ omega (arith, q) | inr q ↦ omega (arith, q) ]);
       linkage = λ e. absurd (omega (arith, e));
     })
     r

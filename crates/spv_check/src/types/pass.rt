@@ -12,6 +12,7 @@ use spv_capabilities::Entries;
 use spv_module::{Inst, Rule};
 use spv_ops::inst_holds;
 use spv_table::Memory;
+use spv_type_forms::Nulls;
 use spv_type_rules::{Known, Rules, Seen, is_operation, next_count};
 use std::alloc::Global;
 
@@ -41,6 +42,7 @@ pub fn first_fault<'a>(
         (λ f. IsFirstFault entries.old.table (map plain_inst insts.now) f.rule f.inst)) }
 {
     let mut seen = Seen::new(alloc, insts)?;
+    let mut nulls = Nulls::new(alloc);
     let mut parameters = 0;
     for n in 0..insts.len() as u32 {
         let inst = &insts[n as usize];
@@ -60,8 +62,11 @@ pub fn first_fault<'a>(
                 repeats: seen.repeats(alloc, inst)?,
                 parameters,
             };
-            if let Some(rule) = rules.first_at(n, inst, known) {
-                return Ok(Some(Found { rule, inst: n }));
+            if let Some(broken) = rules.first_at(n, inst, known, &mut nulls)? {
+                return Ok(Some(Found {
+                    rule: broken,
+                    inst: n,
+                }));
             }
             parameters = next_count(inst, parameters);
         }

@@ -8,6 +8,8 @@ use Rattle.spv_command_line.specs.declared.command_line.Naming.{Naming}
 use Rattle.spv_command_line.specs.declared.command_line.Naming.TheVariants.{OfSeveral, Always, Never}
 use Rattle.spv_command_line.specs.declared.command_line.UseError.{UseError}
 use Rattle.spv_command_line.specs.CommandLine.{IsAsked, IsCommandOf}
+use Rattle.spv_scope.specs.declared.scope.Scope.{Scope}
+use Rattle.spv_scope.specs.declared.scope.Scope.TheVariants.{Own, Extended, OpenCl}
 
 -- a name that is not of a command without files
 abbrev pub IsOfFiles : Text → Type 0
@@ -19,6 +21,13 @@ naming_of false false = Some OfSeveral
 naming_of true false = Some Always
 naming_of false true = Some Never
 naming_of true true = None
+
+-- as which version a module is read, and how far it is looked at, by three options of which two may not be set together
+abbrev pub scope_of : Bool → Bool → Bool → Option Scope
+scope_of true extended true = None
+scope_of false extended true = Some OpenCl
+scope_of as_1_6 true false = Some (Extended as_1_6)
+scope_of as_1_6 false false = Some (Own as_1_6)
 
 -- what is written, by an option that may be set
 abbrev pub form_of : Bool → Form

@@ -12,7 +12,7 @@ use Rattle.spv_commands.specs.declared.asked.Reads.TheVariants.{Nothing, Module,
 
 -- what a command reads of its file
 abbrev pub reads_of : Command → Reads
-reads_of (Asm grammar file out big explain) = Text
+reads_of (Asm grammar file out big explain opencl) = Text
 reads_of (Rules code json) = Nothing
 reads_of (Grammar file) = Nothing
 reads_of _ = Module
@@ -24,10 +24,10 @@ explains (tasks.Explain full) = true
 
 -- does a command explain a verdict
 abbrev pub is_explaining : Command → Bool
-is_explaining (Judge task grammar files as_1_6 extended naming quiet json) = explains task
+is_explaining (Judge task grammar files scope naming quiet json) = explains task
 is_explaining _ = false
 
 -- what a command shows people of its file
 abbrev pub how_of : Command → View
-how_of (Annotate grammar file as_1_6 function form color) = view_of form color file
+how_of (Annotate grammar file scope function form color) = view_of form color file
 how_of _ = views.Graph

@@ -1,5 +1,5 @@
 -- What is shown, as the code keeps it. (For the code alone.)
-use Rattle.std.specs.Prelude.{ℕ, List, Bool, true, false, Result, Ok, Err, string_bytes}
+use Rattle.std.specs.Prelude.{ℕ, List, Bool, true, false, Result, Ok, Err}
 use Rattle.spv_module.specs.declared.fault.Stop.{Stop}
 use Rattle.spv_module.specs.declared.fault.Stop.TheVariants.{Fault, Memory}
 use Rattle.spv_check.specs.declared.verdict_line.Judgment.TheVariants.{Broken}
@@ -11,7 +11,7 @@ use Rattle.spv_check.specs.Text.{line_of}
 
 -- the octets that are written
 abbrev pub output_of : Shown → List ℕ
-output_of (Text t) = string_bytes t
+output_of (Text t) = t.items
 output_of (Line v) = line_of v
 
 -- is it the text of a module

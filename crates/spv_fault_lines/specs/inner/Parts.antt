@@ -32,7 +32,7 @@ id_facts n e = []
 abbrev pub form_facts : ℕ → Evidence → List Fact
 form_facts n (evidence.Opcode opcode) = fact.Opcode opcode ∷ []
 form_facts n (evidence.Due opcode k kind) = fact.Opcode opcode ∷ fact.Failing k ∷ fact.Due kind ∷ []
-form_facts n (evidence.Shape opcode known) = fact.Opcode opcode ∷ fact.Row opcode ∷ []
+form_facts n (evidence.Shape opcode known) = fact.Opcode opcode ∷ fact.Row opcode known ∷ []
 form_facts n (evidence.Capability c implied) = fact.Capability c implied ∷ []
 form_facts n evidence.NoEntry = fact.NoEntry ∷ []
 form_facts n (evidence.Entry part) = fact.Part part ∷ []
@@ -72,7 +72,7 @@ word_facts ws n word =
 -- what is told behind the key and a space; nothing where more than a space stands before it, or none
 abbrev pub named_text : Table → List PlainInst → List (List ℕ) → Fact → List ℕ
 named_text G is lines (fact.At n) = inst_line lines n
-named_text G is lines (fact.Row opcode) = row_text opcode
+named_text G is lines (fact.Row opcode known) = row_text opcode known
 named_text G is lines (fact.Unended p) = unended_text is p
 named_text G is lines (fact.Failing k) = decimal k
 named_text G is lines (fact.Due kind) = due_text G kind

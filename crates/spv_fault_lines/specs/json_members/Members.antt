@@ -15,7 +15,7 @@ use Rattle.spv_fault_lines.specs.Conditions.{condition_text}
 use Rattle.spv_fault_lines.specs.Lines.{bit_name, capability_name, due_text, entry_part_text, key_of, listed_names}
 use Rattle.spv_fault_lines.specs.Lines.{name_at}
 use Rattle.spv_fault_lines.specs.Lines.{operand_at, result_of, side_text, thing_id, unended_text, value_text}
-use Rattle.spv_fault_lines.specs.Lines.{width_needs}
+use Rattle.spv_fault_lines.specs.Lines.{type_needs}
 use Rattle.spv_fault_lines.specs.Owners.{places_in}
 use Rattle.spv_fault_lines.specs.Refused.{found_text, help_text}
 use Rattle.spv_fault_lines.specs.Shapes.{role_text, row_text}
@@ -127,13 +127,13 @@ name_token text = string text ∷ []
 abbrev pub capability_token : Table → ℕ → List Token
 capability_token G c = string (capability_name G c) ∷ []
 
-abbrev pub names_tokens : Table → PlainInst → Option (List (List ℕ)) → List Token
-names_tokens G i (Some names) = flat_map name_token names
-names_tokens G i None = flat_map (capability_token G) (width_needs i.opcode i.operands)
+abbrev pub names_tokens : Table → PlainInst → Lister → Option (List (List ℕ)) → List Token
+names_tokens G i l (Some names) = flat_map name_token names
+names_tokens G i l None = flat_map (capability_token G) (type_needs l i.opcode i.operands)
 
 abbrev pub needed_tokens : Table → Option PlainInst → Lister → List Token
 needed_tokens G None l = []
-needed_tokens G (Some i) l = names_tokens G i (listed_names G i l)
+needed_tokens G (Some i) l = names_tokens G i l (listed_names G i l)
 
 -- {"value":4,"name":"Volatile"}: a bit
 abbrev pub bit_tokens : Table → Option Plain → ℕ → List Token
@@ -197,7 +197,7 @@ value_of G is lines (fact.Open p) = place_tokens is p
 value_of G is lines (fact.Words before words after) = words_tokens before words after
 value_of G is lines (fact.Word k w) = word_tokens k w
 value_of G is lines (fact.Opcode opcode) = opcode_tokens G opcode
-value_of G is lines (fact.Row opcode) = string (row_text opcode) ∷ []
+value_of G is lines (fact.Row opcode known) = string (row_text opcode known) ∷ []
 value_of G is lines (fact.MayCome opcodes end) = coming_tokens G opcodes end
 value_of G is lines (fact.Unended p) = string (unended_text is p) ∷ []
 value_of G is lines (fact.Operand n k) = operand_tokens G k (operand_at is n k)

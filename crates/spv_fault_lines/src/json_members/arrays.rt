@@ -221,7 +221,11 @@ fn push_needed(
     };
     match listed_names(about.table, inst, lister) {
         Some(names) => push_names(out, names),
-        None => push_capabilities(out, about, needs_of(inst.opcode, inst.operands.as_slice())),
+        None => push_capabilities(
+            out,
+            about,
+            needs_of(lister, inst.opcode, inst.operands.as_slice()),
+        ),
     }
 }
 

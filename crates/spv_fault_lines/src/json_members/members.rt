@@ -81,12 +81,12 @@ fn push_may_come(
     push_end(out, end)
 }
 
-/// Adds the operands that the row of an opcode asks for.
-fn push_row(out: &mut Output, alloc: Global, opcode: u16) -> Result<(), AllocError>
-    ensures { OnOk result (out.new ≡ out.old ++ string (row_text opcode) ∷ []) }
+/// Adds the operands that the row of an opcode asks for, if it is known.
+fn push_row(out: &mut Output, alloc: Global, opcode: u16, known: bool) -> Result<(), AllocError>
+    ensures { OnOk result (out.new ≡ out.old ++ string (row_text opcode known) ∷ []) }
 {
     let mut text = String::new(alloc);
-    push_row_of(&mut text, opcode)?;
+    push_row_of(&mut text, opcode, known)?;
     out.text(text.as_str())
 }
 
@@ -155,7 +155,7 @@ fn push_value(out: &mut Output, about: &About<'_, '_>, fact: &Fact) -> Result<()
         } => push_some_words(out, *before, words.as_slice(), *after),
         Fact::Word { offset, word } => push_word(out, *offset, *word),
         Fact::Opcode { opcode } => push_opcode(out, about.table, *opcode),
-        Fact::Row { opcode } => push_row(out, about.alloc, *opcode),
+        Fact::Row { opcode, known } => push_row(out, about.alloc, *opcode, *known),
         Fact::MayCome { opcodes, end } => push_may_come(out, about.table, opcodes.as_slice(), *end),
         Fact::Unended { place } => push_unended(out, about, *place),
         Fact::Operand { inst, operand }

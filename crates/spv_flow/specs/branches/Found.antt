@@ -7,10 +7,12 @@ use Rattle.spv_module.specs.declared.fault.Stop.TheVariants.{Fault, Memory}
 use Rattle.spv_layout.specs.Stage.{of_branches}
 use Rattle.spv_layout.specs.First.{IsFirst}
 use Rattle.spv_layout.specs.Place.{first_word_of}
+use Rattle.spv_flow.specs.declared.branches.fork.Fork.{Fork}
 use Rattle.spv_flow.specs.branches.Broken.{Broken}
 
 -- What a refusal by the rules F says: out of memory, or the first broken of these rules and the first word of its
 -- instruction.
-abbrev pub IsRefusal : Table → List PlainInst → Stop → Type 0
-IsRefusal G is Memory = Unit {0}
-IsRefusal G is (Fault f) = IsFirst (Broken G is) of_branches f.rule f.inst × (f.word ≡ first_word_of is f.inst)
+abbrev pub IsRefusal : Fork → Table → List PlainInst → Stop → Type 0
+IsRefusal fork G is Memory = Unit {0}
+IsRefusal fork G is (Fault f) =
+    IsFirst (Broken fork G is) of_branches f.rule f.inst × (f.word ≡ first_word_of is f.inst)

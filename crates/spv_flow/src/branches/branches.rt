@@ -20,6 +20,7 @@ ghost use Rattle.spv_flow.specs.branches.Found.{IsRefusal};
 
 use crate::branches::code::Code;
 use crate::branches::edges::Edges;
+use crate::branches::fork::Fork;
 use crate::branches::gather::{Overview, edges_for, survey};
 use crate::branches::rules::broken_at;
 use spv_ids::Ids;
@@ -47,6 +48,7 @@ fn marks_for(alloc: Global, count: usize, has_phis: bool) -> Result<Vec<bool>, A
 /// The first of the rules F that is broken. No block is marked before.
 fn first_broken(
     code: &Code<'_, '_>,
+    fork: Fork,
     survey: &Overview,
     edges: &Edges,
     marks: &mut [bool],
@@ -63,12 +65,12 @@ fn first_broken(
     requires marks { IsTrue survey.now.has_phis → length marks.old ≡ length code.now.insts.now }
     requires clean { (p : ℕ) → marked marks.old p ≡ false }
     ensures { (G : Table) → IsCode G code.now
-        → MatchOption result (IsUnbroken (Broken G (insts_of code.now)) of_branches)
-        (λ f. IsFirst (Broken G (insts_of code.now)) of_branches f.rule f.inst) }
+        → MatchOption result (IsUnbroken (Broken fork G (insts_of code.now)) of_branches)
+        (λ f. IsFirst (Broken fork G (insts_of code.now)) of_branches f.rule f.inst) }
 {
     let entries = survey.entries.as_slice();
     for at in 0..code.insts.len() {
-        if let Some(rule) = broken_at(code, edges, entries, marks, at as u32) {
+        if let Some(rule) = broken_at(code, fork, edges, entries, marks, at as u32) {
             return Some(Found {
                 rule,
                 inst: at as u32,
@@ -79,20 +81,21 @@ fn first_broken(
 }
 
 /// Surveys the instructions, and looks for the first of the rules F that is broken.
-fn first_fault(alloc: Global, code: &Code<'_, '_>) -> Result<Option<Found>, AllocError>
+fn first_fault(alloc: Global, code: &Code<'_, '_>, fork: Fork) -> Result<Option<Found>, AllocError>
     requires { (G : Table) × IsCode G code.now }
     ensures { IfOk result (λ o. (G : Table) → IsCode G code.now
-        → MatchOption o (IsUnbroken (Broken G (insts_of code.now)) of_branches)
-        (λ f. IsFirst (Broken G (insts_of code.now)) of_branches f.rule f.inst)) }
+        → MatchOption o (IsUnbroken (Broken fork G (insts_of code.now)) of_branches)
+        (λ f. IsFirst (Broken fork G (insts_of code.now)) of_branches f.rule f.inst)) }
 {
     let survey = survey(alloc, code.insts)?;
     let edges = edges_for(alloc, code, survey.has_phis)?;
     let mut marks = marks_for(alloc, code.insts.len(), survey.has_phis)?;
-    Ok(first_broken(code, &survey, &edges, &mut marks))
+    Ok(first_broken(code, fork, &survey, &edges, &mut marks))
 }
 
 /// Looks at the branches of a module: where they lead, and which parents each OpPhi names (SPIR-V Specification 1.6,
-/// sections 2.4 and 2.16). `plan` and `ids` are what `lay_out` and `number` answered of that module.
+/// sections 2.4 and 2.16). `plan` and `ids` are what `lay_out` and `number` answered of that module, and `fork` says
+/// whether F4 is asked.
 ///
 /// Time is linear in the words of the module. A block's predecessors are the blocks with a terminator that has the
 /// block's label as a target, each counted once.
@@ -107,6 +110,7 @@ pub fn check_branches(
     module: &Module<'_>,
     plan: &Plan,
     ids: &Ids,
+    fork: Fork,
 ) -> Result<(), Stop>
     // The condition of `lay_out`, and that the plan and the ids are what was answered, by some table.
     requires words { IsShort (plain_insts «module».now) }
@@ -114,14 +118,14 @@ pub fn check_branches(
         × AreIds G «module».now.header.bound (plain_insts «module».now) ids.now }
     ensures unbroken { (G : Table) → IsPlan G (plain_insts «module».now) plan.now
         → AreIds G «module».now.header.bound (plain_insts «module».now) ids.now
-        → IfOk result (λ _. IsUnbroken (Broken G (plain_insts «module».now)) of_branches) }
+        → IfOk result (λ _. IsUnbroken (Broken fork G (plain_insts «module».now)) of_branches) }
     ensures refused { (G : Table) → IsPlan G (plain_insts «module».now) plan.now
         → AreIds G «module».now.header.bound (plain_insts «module».now) ids.now
-        → IfErr result (λ s. IsRefusal G (plain_insts «module».now) s) }
+        → IfErr result (λ s. IsRefusal fork G (plain_insts «module».now) s) }
 {
     let insts = module.insts.as_slice();
     let code = Code { insts, plan, ids };
-    if let Some(found) = first_fault(alloc, &code)? {
+    if let Some(found) = first_fault(alloc, &code, fork)? {
         return Err(plan.stop_at(found.rule, found.inst));
     }
     Ok(())

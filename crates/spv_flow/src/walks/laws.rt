@@ -14,6 +14,7 @@ ghost use Rattle.spv_flow.specs.branches.Target.{IsOp};
 ghost use Rattle.spv_flow.specs.branches.Target as target;
 ghost use Rattle.spv_flow.specs.branches.Walk.{IsWalk, IsResultAmong};
 ghost use Rattle.spv_flow.specs.branches.Ready.{ComesFrom, IsReady};
+ghost use Rattle.spv_flow.specs.declared.branches.fork.Fork.{Fork};
 ghost use Rattle.spv_flow.specs.branches.Broken.{Broken};
 ghost use Rattle.spv_flow.specs.branches.Example.{two_blocks};
 ghost use Rattle.spv_flow.specs.walks.inner.Divided.{IsIn, IsBegin, IsGraphOf};
@@ -46,7 +47,8 @@ pub fn pairs_query_parents()
 
 /// Neither A1 nor A2 is broken, at any instruction, exactly where every instruction is ready.
 pub fn all_ready()
-    ensures { (G : Table) (is : List PlainInst) → IsUnbroken (Broken G is) of_values ↔ ((n : ℕ) → IsReady G is n) }
+    ensures { (fork : Fork) (G : Table) (is : List PlainInst)
+        → IsUnbroken (Broken fork G is) of_values ↔ ((n : ℕ) → IsReady G is n) }
 {}
 
 /// A function of two blocks: OpFunction, the first block's OpLabel and its branch, the second's OpLabel and OpReturn.

@@ -8,6 +8,7 @@ ghost use Rattle.spv_layout.specs.First.{IsUnbroken};
 ghost use Rattle.spv_layout.specs.Place.{word_count, IsShort, AreFew};
 ghost use Rattle.spv_layout.specs.Plan.{IsPlan};
 ghost use Rattle.spv_ids.specs.Outcome.{AreIds};
+ghost use Rattle.spv_flow.specs.declared.branches.fork.Fork.{Fork};
 ghost use Rattle.spv_flow.specs.branches.Broken.{Broken};
 ghost use Rattle.spv_flow.specs.walks.inner.Code.{insts_of, IsCode};
 ghost use Rattle.spv_flow.specs.walks.Found.{IsRefusal};
@@ -72,19 +73,19 @@ fn rule(code: &Code<'_, '_>, inst: u32) -> Rule
 /// `Memory` comes only where a growth of memory was refused.
 pub fn check_values(alloc: Global, module: &Module<'_>, plan: &Plan, ids: &Ids) -> Result<(), Stop>
     // The condition of `lay_out`, and that the plan and the ids are what was answered, by some table, of a module whose
-    // branches are sound.
+    // branches are sound, whether F4 is asked or not.
     requires words { IsShort (plain_insts «module».now) }
-    requires known { (G : Table) × IsPlan G (plain_insts «module».now) plan.now
+    requires known { (fork : Fork) × (G : Table) × IsPlan G (plain_insts «module».now) plan.now
         × AreIds G «module».now.header.bound (plain_insts «module».now) ids.now
-        × IsUnbroken (Broken G (plain_insts «module».now)) of_branches }
-    ensures unbroken { (G : Table) → IsPlan G (plain_insts «module».now) plan.now
+        × IsUnbroken (Broken fork G (plain_insts «module».now)) of_branches }
+    ensures unbroken { (fork : Fork) (G : Table) → IsPlan G (plain_insts «module».now) plan.now
         → AreIds G «module».now.header.bound (plain_insts «module».now) ids.now
-        → IsUnbroken (Broken G (plain_insts «module».now)) of_branches
-        → IfOk result (λ _. IsUnbroken (Broken G (plain_insts «module».now)) of_values) }
-    ensures refused { (G : Table) → IsPlan G (plain_insts «module».now) plan.now
+        → IsUnbroken (Broken fork G (plain_insts «module».now)) of_branches
+        → IfOk result (λ _. IsUnbroken (Broken fork G (plain_insts «module».now)) of_values) }
+    ensures refused { (fork : Fork) (G : Table) → IsPlan G (plain_insts «module».now) plan.now
         → AreIds G «module».now.header.bound (plain_insts «module».now) ids.now
-        → IsUnbroken (Broken G (plain_insts «module».now)) of_branches
-        → IfErr result (λ s. IsRefusal G (plain_insts «module».now) s) }
+        → IsUnbroken (Broken fork G (plain_insts «module».now)) of_branches
+        → IfErr result (λ s. IsRefusal fork G (plain_insts «module».now) s) }
 {
     let insts = module.insts.as_slice();
     let globals = plan.before_functions();

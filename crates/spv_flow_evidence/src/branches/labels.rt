@@ -7,6 +7,7 @@ ghost use Rattle.spv_flow.specs.branches.inner.Code.{insts_of, IsCode};
 ghost use Rattle.spv_flow.specs.branches.inner.Graph.{AreEntries, LacksLabel, LeadsToEntry};
 ghost use Rattle.spv_flow.specs.branches.Target.{IsOp};
 ghost use Rattle.spv_flow.specs.branches.Target as target;
+ghost use Rattle.spv_flow.specs.declared.branches.fork.Fork.TheVariants.{Free};
 ghost use Rattle.spv_flow_evidence.specs.branches.Evidence.{IsEvidence};
 ghost use Rattle.spv_flow_evidence.specs.branches.inner.Known.{KeepsDefinitions, IsEntryId};
 
@@ -19,7 +20,7 @@ pub fn label_evidence(code: &Code<'_, '_>, at: u32) -> Evidence
     requires op { IsOp (insts_of code.now) at target.is_branch ⊎ IsOp (insts_of code.now) at target.is_merge }
     requires defined { (G : Table) × IsCode G code.now × KeepsDefinitions G (insts_of code.now) at }
     requires broken { (G : Table) × IsCode G code.now × LacksLabel G (insts_of code.now) at }
-    ensures { (G : Table) → IsCode G code.now → IsEvidence G (insts_of code.now) rule.F1 at result }
+    ensures { (G : Table) → IsCode G code.now → IsEvidence Free G (insts_of code.now) rule.F1 at result }
 {
     let inst = &code.insts[at as usize];
     for k in 0..inst.operands.as_slice().len() {
@@ -56,7 +57,7 @@ pub fn entry_evidence(code: &Code<'_, '_>, entries: &[bool], at: u32) -> Evidenc
     requires count { length entries.now ≡ length code.now.insts.now }
     requires entries { AreEntries (insts_of code.now) entries.now (length code.now.insts.now) }
     requires broken { (G : Table) × IsCode G code.now × LeadsToEntry G (insts_of code.now) at }
-    ensures { (G : Table) → IsCode G code.now → IsEvidence G (insts_of code.now) rule.F2 at result }
+    ensures { (G : Table) → IsCode G code.now → IsEvidence Free G (insts_of code.now) rule.F2 at result }
 {
     let inst = &code.insts[at as usize];
     for k in 0..inst.operands.as_slice().len() {

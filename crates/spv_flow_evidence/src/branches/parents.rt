@@ -8,6 +8,7 @@ ghost use Rattle.spv_flow.specs.branches.inner.Code.{insts_of, IsCode};
 ghost use Rattle.spv_flow.specs.branches.inner.Edges.{marked};
 ghost use Rattle.spv_flow.specs.branches.Target.{IsOp, HasParents};
 ghost use Rattle.spv_flow.specs.branches.Target as target;
+ghost use Rattle.spv_flow.specs.declared.branches.fork.Fork.TheVariants.{Free};
 ghost use Rattle.spv_flow_evidence.specs.branches.Evidence.{ArePredecessors, IsEvidence};
 ghost use Rattle.spv_flow_evidence.specs.branches.inner.Known.{AreMarks, HasNames, marked_below, name_of};
 ghost use Rattle.spv_flow_evidence.specs.branches.inner.Known as known;
@@ -77,7 +78,7 @@ fn wrong_pair(
         → AreMarks G (insts_of code.now) block marks.now
         → MatchOption result (HasNames G (insts_of code.now) at marks.now names.new)
         (λ w. (ps : List ℕ) → ArePredecessors G (insts_of code.now) block ps
-        → IsEvidence G (insts_of code.now) rule.F3 at (known.told w ps)) }
+        → IsEvidence Free G (insts_of code.now) rule.F3 at (known.told w ps)) }
 {
     let inst = &code.insts[at as usize];
     for k in 0..inst.operands.as_slice().len() {
@@ -139,7 +140,7 @@ pub fn parents_evidence(alloc: Global, code: &Code<'_, '_>, at: u32) -> Result<E
     requires at { at < length code.now.insts.now }
     requires op { IsOp (insts_of code.now) at target.is_phi }
     requires broken { (G : Table) × IsCode G code.now × (¬ (HasParents G (insts_of code.now) at)) }
-    ensures { IfOk result (λ e. (G : Table) → IsCode G code.now → IsEvidence G (insts_of code.now) rule.F3 at e) }
+    ensures { IfOk result (λ e. (G : Table) → IsCode G code.now → IsEvidence Free G (insts_of code.now) rule.F3 at e) }
 {
     let Some(block) = code.block_of(at) else {
         unreachable!();

@@ -6,6 +6,7 @@ ghost use Rattle.spv_module.specs.Example.{small};
 ghost use Rattle.spv_module.specs.Operand.{PlainInst};
 ghost use Rattle.spv_module.specs.declared.fault.Rule.{Rule};
 ghost use Rattle.spv_module.specs.declared.fault.Rule.TheVariants.{A1, A2};
+ghost use Rattle.spv_flow.specs.declared.branches.fork.Fork.{Fork};
 ghost use Rattle.spv_flow.specs.branches.Broken.{Broken};
 ghost use Rattle.spv_flow.specs.branches.Example.{early, valued};
 ghost use Rattle.spv_evidence.specs.declared.evidence.Evidence.{Evidence};
@@ -14,8 +15,8 @@ ghost use Rattle.spv_flow_evidence.specs.walks.Evidence.{IsEvidence};
 
 /// Where there is evidence that a rule is broken, it is.
 pub fn suffices()
-    ensures { (G : Table) (is : List PlainInst) (r : Rule) (n : ℕ) (e : Evidence)
-        → IsEvidence G is r n e → Broken G is r n }
+    ensures { (fork : Fork) (G : Table) (is : List PlainInst) (r : Rule) (n : ℕ) (e : Evidence)
+        → IsEvidence G is r n e → Broken fork G is r n }
 {}
 
 /// A use before the definition, and an OpPhi that pairs its own result with its parent, under a small table.

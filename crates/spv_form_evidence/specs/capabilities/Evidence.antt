@@ -1,5 +1,5 @@
 -- Evidence for C1, C2, M1, E1 and E2: what shows that the rule is broken. [2.4, 2.16.1, 3.4, 3.5, 3.17, 3.31, 3.49.5]
-use Rattle.std.specs.Prelude.{◌≡◌, ◌≢◌, ℕ, List, Contains, Some, true, false, slice_get}
+use Rattle.std.specs.Prelude.{◌≡◌, ◌≢◌, ◌⊎◌, ℕ, List, Contains, Some, true, false, slice_get}
 use Rattle.spv_table.specs.Table.{Table}
 use Rattle.spv_module.specs.Operand.{Plain, Value, Mask, PlainInst}
 use Rattle.spv_module.specs.Spelling.{set_bits}
@@ -9,7 +9,7 @@ use Rattle.spv_module.specs.declared.opcode.TheConstants as opcode
 use Rattle.spv_layout.specs.Place.{IsDefinition}
 use Rattle.spv_ids.specs.Definition.{IsDefinedAt}
 use Rattle.spv_ids.specs.Order.{HasOpcode}
-use Rattle.spv_capabilities.specs.Capable.{Has, IsCoveredValue, needs_of}
+use Rattle.spv_capabilities.specs.Capable.{Has, IsCoveredValue, is_read_write, needs_of}
 use Rattle.spv_capabilities.specs.Entry.{IsSoundMode, ReturnsVoid, called_by, entered_by}
 use Rattle.spv_capabilities.specs.Asked.{IsOtherKind, IsCoveredEntry, HasNeeded, HasEntry, IsImported}
 use Rattle.spv_evidence.specs.declared.evidence.Evidence.{Evidence}
@@ -39,9 +39,17 @@ pub data IsUncovered (G : Table) (is : List PlainInst) (i : PlainInst) : Lister 
   bit : (k j m b : ℕ) → slice_get i.operands k ≡ Some (Mask j m) → IsOtherKind G j → Contains (set_bits m) b
       → ¬ (IsCoveredValue G is j b) → IsUncovered G is i (lister.Bit k b)
   -- its width or count
-  width : ¬ (HasNeeded G is (needs_of i)) → IsUncovered G is i lister.Width
+  width : i.opcode ≢ opcode.TYPE_IMAGE → i.opcode ≢ opcode.TYPE_SAMPLER → ¬ (HasNeeded G is (needs_of i))
+      → IsUncovered G is i lister.Width
+  -- the image or sampler type that it declares: the module has not ImageBasic (13)
+  type : (i.opcode ≡ opcode.TYPE_IMAGE) ⊎ (i.opcode ≡ opcode.TYPE_SAMPLER) → ¬ (Has G is 13)
+      → IsUncovered G is i lister.Type
+  -- the access qualifier ReadWrite of the image type that it declares: the module has not ImageReadWrite (14)
+  access : i.opcode ≡ opcode.TYPE_IMAGE → is_read_write (slice_get i.operands 8) ≡ true → ¬ (Has G is 14)
+      → IsUncovered G is i lister.Access
 
--- Instruction i, of number n, breaks this part of E2: an OpEntryPoint, OpExecutionMode or OpFunction.
+-- Instruction i, of number n, breaks this part of E2: an OpEntryPoint, OpExecutionMode, OpExecutionModeId or
+-- OpFunction.
 pub data IsUnsound (G : Table) (is : List PlainInst) (n : ℕ) (i : PlainInst) : EntryPart → Type 0 where
   -- the first operand of the OpEntryPoint is not the execution model Kernel (6)
   model : i.opcode ≡ opcode.ENTRY_POINT → ((k m : ℕ) → slice_get i.operands 0 ≡ Some (Value k m) → m ≢ 6)
@@ -58,8 +66,9 @@ pub data IsUnsound (G : Table) (is : List PlainInst) (n : ℕ) (i : PlainInst) :
   called : (x c : ℕ) (call : PlainInst) → entered_by i ≡ Some x → slice_get is c ≡ Some call
       → called_by call ≡ Some x
       → IsUnsound G is n i (part.Called c)
-  -- the function of the OpExecutionMode is that of no OpEntryPoint
-  unnamed : i.opcode ≡ opcode.EXECUTION_MODE → ¬ (IsSoundMode is i.operands) → IsUnsound G is n i part.Unnamed
+  -- the function of the OpExecutionMode or OpExecutionModeId is that of no OpEntryPoint
+  unnamed : (i.opcode ≡ opcode.EXECUTION_MODE) ⊎ (i.opcode ≡ opcode.EXECUTION_MODE_ID)
+      → ¬ (IsSoundMode is i.operands) → IsUnsound G is n i part.Unnamed
   -- the OpFunction is that of a definition, and an OpDecorate imports it
   imported : (a : IsImported G is n) → i.opcode ≡ opcode.FUNCTION → IsDefinition is n
       → IsUnsound G is n i (part.Imported a.place)

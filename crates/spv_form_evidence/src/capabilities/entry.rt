@@ -1,4 +1,4 @@
-//! The rule E2: which part of it an OpEntryPoint, an OpExecutionMode or an OpFunction breaks.
+//! The rule E2: which part of it an OpEntryPoint, an OpExecutionMode, an OpExecutionModeId or an OpFunction breaks.
 
 ghost use Rattle.std.specs.Prelude.{◌≡◌, ◌↔◌, ◌<◌, ℕ, IsTrue, MatchOption, Some, length};
 ghost use Rattle.std.specs.Prelude.{map, slice_get};
@@ -159,6 +159,7 @@ pub fn part(survey: &Survey<'_, '_>, insts: &[Inst<'_>], number: u32, inst: &Ins
     match inst.opcode {
         opcode::ENTRY_POINT => entry_part(survey, insts, inst.operands.as_slice()),
         opcode::EXECUTION_MODE => EntryPart::Unnamed,
+        opcode::EXECUTION_MODE_ID => EntryPart::Unnamed,
         _ => linkage_part(survey, insts, number),
     }
 }

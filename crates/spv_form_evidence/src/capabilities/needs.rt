@@ -1,4 +1,4 @@
-//! The rule C2: which entry, value, bit or width lists capabilities of which the module has none.
+//! The rule C2: which entry, value, bit or type needs capabilities of which the module has none.
 
 ghost use Rattle.std.specs.Prelude.{◌≡◌, ◌<◌, ◌/◌, ◌%◌, ◌^◌, ◌↔◌, IsTrue, MatchOption};
 ghost use Rattle.std.specs.Prelude.{Some, length, slice_get};
@@ -6,13 +6,14 @@ ghost use Rattle.std.specs.List.{AllByRecursion};
 ghost use Rattle.spv_module.specs.Operand.{PlainInst, Value, Mask};
 ghost use Rattle.spv_module.specs.Module.{plain_inst, plain_operand, plain_operands};
 ghost use Rattle.spv_capabilities.specs.Capable.{IsCapable, IsCoveredValue, IsCoveredMask, IsCoveredOperand};
-ghost use Rattle.spv_capabilities.specs.Asked.{IsOtherKind};
+ghost use Rattle.spv_capabilities.specs.Capable.{needs_of};
+ghost use Rattle.spv_capabilities.specs.Asked.{HasNeeded, IsOtherKind};
 ghost use Rattle.spv_form_evidence.specs.capabilities.Evidence.{IsUncovered};
 ghost use Rattle.spv_form_evidence.specs.capabilities.inner.Bits.{IsSet, IsUncoveredAt, IsUncoveredBit};
 
 use spv_capabilities::{Survey, is_capability_kind, is_covered_entry, is_covered_value};
 use spv_evidence::Lister;
-use spv_module::{Inst, Operand};
+use spv_module::{Inst, Operand, opcode};
 
 /// Whether the bit at a position is set in a mask.
 fn is_set(mask: u32, position: u32) -> bool
@@ -113,7 +114,24 @@ fn uncovered_operand(survey: &Survey<'_, '_>, operands: &[Operand<'_>]) -> Optio
     None
 }
 
-/// What is not covered at an instruction that breaks C2: its entry, or else the first operand, or else its width.
+/// What a type declaration needs and the module has not.
+fn unmet(survey: &Survey<'_, '_>, inst: &Inst<'_>) -> Lister
+    requires { ¬ (HasNeeded survey.now.table survey.now.insts (needs_of (plain_inst inst.now))) }
+    ensures { IsUncovered survey.now.table survey.now.insts (plain_inst inst.now) result }
+{
+    match inst.opcode {
+        opcode::TYPE_SAMPLER => Lister::Type,
+        opcode::TYPE_IMAGE => if survey.has(13) {
+            Lister::Access
+        } else {
+            Lister::Type
+        },
+        _ => Lister::Width,
+    }
+}
+
+/// What is not covered at an instruction that breaks C2: its entry, or else the first operand, or else what
+/// the type that it declares needs.
 pub fn lister(survey: &Survey<'_, '_>, inst: &Inst<'_>) -> Lister
     requires { ¬ (IsCapable survey.now.table survey.now.insts (plain_inst inst.now)) }
     ensures { IsUncovered survey.now.table survey.now.insts (plain_inst inst.now) result }
@@ -123,6 +141,6 @@ pub fn lister(survey: &Survey<'_, '_>, inst: &Inst<'_>) -> Lister
     }
     match uncovered_operand(survey, inst.operands.as_slice()) {
         Some(lister) => lister,
-        None => Lister::Width,
+        None => unmet(survey, inst),
     }
 }

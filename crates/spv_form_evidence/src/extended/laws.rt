@@ -1,11 +1,12 @@
 //! That evidence suffices, and worked examples. Each function does nothing: its contract is what is proved.
 
-ghost use Rattle.std.specs.Prelude.{◌≡◌, ℕ, List, [], Some, None};
+ghost use Rattle.std.specs.Prelude.{◌≡◌, ℕ, List, [], Some, None, IsTrue};
 ghost use Rattle.spv_module.specs.Operand.{PlainInst};
 ghost use Rattle.spv_module.specs.declared.fault.Rule.{Rule};
 ghost use Rattle.spv_module.specs.declared.fault.Rule.TheVariants.{Y9};
-ghost use Rattle.spv_extended.specs.declared.reach.Reach.TheVariants.{Extended};
+ghost use Rattle.spv_extended.specs.declared.reach.Reach.{Reach};
 ghost use Rattle.spv_extended.specs.Broken.{Broken};
+ghost use Rattle.spv_extended.specs.Reach.{opens};
 ghost use Rattle.spv_evidence.specs.declared.evidence.Evidence.{Evidence};
 ghost use Rattle.spv_evidence.specs.declared.evidence.Evidence.TheVariants.{Miscalled};
 ghost use Rattle.spv_form_evidence.specs.extended.Evidence.{IsEvidence, IsOutside};
@@ -13,7 +14,8 @@ ghost use Rattle.spv_form_evidence.specs.extended.Example.{calling, one, two};
 
 /// Evidence shows that the rule is broken at the instruction, where extended instructions are looked at.
 pub fn suffices()
-    ensures { (is : List PlainInst) (r : Rule) (n : ℕ) (e : Evidence) → IsEvidence is r n e → Broken Extended is r n }
+    ensures { (reach : Reach) (is : List PlainInst) (r : Rule) (n : ℕ) (e : Evidence) → IsTrue (opens reach)
+        → IsEvidence is r n e → Broken reach is r n }
 {}
 
 /// There is no other evidence at an instruction.

@@ -34,10 +34,10 @@ pub struct Failed {
 /// entry.
 ///
 /// An `AllocError` comes only where a growth of memory was refused.
-pub fn failed_operand(
+pub fn failed_operand<'t>(
     alloc: Global,
-    scene: &Scene<'_, '_, '_>,
-    entry: &Entry,
+    scene: &Scene<'t, '_, '_>,
+    entry: &'t Entry,
     place: Place,
 ) -> Result<Option<Failed>, AllocError>
     requires forms { scene.now.forms.now ≡ map form_of scene.now.table.now.kinds }
@@ -50,7 +50,7 @@ pub fn failed_operand(
         (λ f. Fails scene.now.table.now (start before place.opcode) (pattern_of entry.now)
         (between scene.now.image.now place.first place.end) f)) }
 {
-    let mut pending = Pending::new(alloc);
+    let mut pending: Pending<'t> = Pending::new(alloc);
     let mut operands = Vec::new(alloc);
     let mut known = Known::new(place.opcode);
     let mut at = place.first;

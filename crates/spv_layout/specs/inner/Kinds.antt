@@ -20,6 +20,14 @@ place_of kind_of.FunctionControl = 8
 place_of kind_of.MemoryAccess = 9
 place_of kind_of.LoopControl = 10
 place_of kind_of.SelectionControl = 11
+place_of kind_of.Dim = 12
+place_of kind_of.ImageFormat = 13
+place_of kind_of.AccessQualifier = 14
+place_of kind_of.SamplerAddressingMode = 15
+place_of kind_of.SamplerFilterMode = 16
+place_of kind_of.GroupOperation = 17
+place_of kind_of.PackedVectorFormat = 18
+place_of kind_of.ImageOperands = 19
 
 -- each number is that of the kind of the name
 pub record AreNumbered (k : Inside) : Type 0 where

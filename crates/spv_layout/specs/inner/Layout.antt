@@ -1,9 +1,9 @@
 -- Lines and merges among classes. [3.49.2, 3.49.17] (For the code alone.)
 use Rattle.std.specs.Prelude.{List, [], ◌∷◌, Bool, not, filter}
 use Rattle.spv_layout.specs.declared.class.Class.{Class}
-use Rattle.spv_layout.specs.declared.class.Class.TheVariants.{LoopMerge, SelectionMerge, Line, Label, Phi}
+use Rattle.spv_layout.specs.declared.class.Class.TheVariants.{LoopMerge, SelectionMerge, Line, Label, Phi, Extended}
 use Rattle.spv_layout.specs.Class.{is_among}
-use Rattle.spv_layout.specs.Expression.{Expression, ◌then◌, one, any}
+use Rattle.spv_layout.specs.Expression.{Expression, ◌then◌, one, mixed}
 use Rattle.spv_layout.specs.Layout.{body, ending}
 
 -- OpLoopMerge and OpSelectionMerge [3.49.17]
@@ -20,4 +20,4 @@ without_lines cs = filter (λ c. not (is_line c)) cs
 
 -- a block that is not the first of its definition: its label, its phis, a body and an end
 abbrev pub other_block : Expression
-other_block = one Label then any Phi then body then ending
+other_block = one Label then mixed (Phi ∷ Extended ∷ []) then body then ending

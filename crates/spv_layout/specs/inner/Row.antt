@@ -1,5 +1,6 @@
 -- Rows of the table of shapes, by their letters. (Own.) (For the code alone.)
 use Rattle.std.specs.Prelude.{ℕ, List, Option, Some, None, slice_get}
+use Rattle.spv_module.specs.declared.profile.Profile.TheVariants.{Own}
 use Rattle.spv_layout.specs.declared.class.Class.{Class}
 use Rattle.spv_layout.specs.declared.form.Role.TheVariants as role
 use Rattle.spv_layout.specs.declared.form.Form.{Form}
@@ -8,7 +9,8 @@ use Rattle.spv_layout.specs.declared.form.Named.{Named}
 use Rattle.spv_layout.specs.declared.form.Ending as declared
 use Rattle.spv_layout.specs.declared.form.Ending.TheVariants as code
 use Rattle.spv_layout.specs.declared.form.Row as declared_row
-use Rattle.spv_layout.specs.Row.{RowEnding, PlainRow, closed, file_and_text, maybe, maybe_others, others, repeated}
+use Rattle.spv_layout.specs.Row.{RowEnding, PlainRow, closed, file_and_text, maybe, maybe_others}
+use Rattle.spv_layout.specs.Row.{maybe_repeated, others, repeated}
 
 -- the row of a number, from 0, if there is a number and a row
 abbrev pub numbered : List PlainRow → Option ℕ → Option PlainRow
@@ -23,13 +25,24 @@ plain_ending code.FileAndText = file_and_text
 plain_ending (code.Repeated fs) = repeated fs.now
 plain_ending code.Others = others
 plain_ending (code.MaybeOthers f) = maybe_others f
+plain_ending (code.MaybeRepeated f g) = maybe_repeated f g
 
 abbrev pub plain_row : declared_row.Row → PlainRow
-plain_row r = record { from = r.from; to = r.to; class = r.class; fixed = r.fixed.now; ending = plain_ending r.ending }
+plain_row r =
+    record {
+      from = r.from;
+      to = r.to;
+      profile = r.profile;
+      class = r.class;
+      fixed = r.fixed.now;
+      ending =
+          plain_ending r.ending;
+    }
 
--- a row of these
+-- a row of these that belongs to the profile that is not OpenCL's
 abbrev pub row : ℕ → ℕ → Class → List Form → RowEnding → PlainRow
-row from to class fixed ending = record { from = from; to = to; class = class; fixed = fixed; ending = ending }
+row from to class fixed ending =
+    record { from = from; to = to; profile = Own; class = class; fixed = fixed; ending = ending }
 
 -- the letters of src/rows.rt: a result type
 abbrev pub T : Form

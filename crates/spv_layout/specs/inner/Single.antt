@@ -8,6 +8,7 @@ use Rattle.spv_layout.specs.declared.form.Form.TheVariants as form
 use Rattle.spv_layout.specs.declared.form.Row as declared
 use Rattle.spv_layout.specs.Place.{section_of, operand_words}
 use Rattle.spv_layout.specs.Row.{PlainRow, RowEnding, closed, maybe, file_and_text, repeated, others, maybe_others}
+use Rattle.spv_layout.specs.Row.{maybe_repeated}
 use Rattle.spv_layout.specs.inner.Row.{plain_row}
 use Rattle.spv_layout.specs.inner.Test.{are_row_sorts}
 
@@ -28,6 +29,7 @@ is_single_ending file_and_text = false
 is_single_ending (repeated fs) = are_single fs
 is_single_ending others = false
 is_single_ending (maybe_others f) = false
+is_single_ending (maybe_repeated f g) = is_single f && is_single g
 
 abbrev pub is_single_row : PlainRow → Bool
 is_single_row r = are_single r.fixed && is_single_ending r.ending

@@ -6,10 +6,10 @@ use Rattle.spv_layout.specs.declared.class.Class.TheVariants.{Capability, Extens
 use Rattle.spv_layout.specs.declared.class.Class.TheVariants.{ExecutionMode, Source, Name, Processed, Decoration}
 use Rattle.spv_layout.specs.declared.class.Class.TheVariants.{Declaration, Variable, Undef, Function, Parameter}
 use Rattle.spv_layout.specs.declared.class.Class.TheVariants.{FunctionEnd, Label, Phi, Body, Branch, BranchConditional}
-use Rattle.spv_layout.specs.declared.class.Class.TheVariants.{Switch, Return, LoopMerge, SelectionMerge, Line}
+use Rattle.spv_layout.specs.declared.class.Class.TheVariants.{Switch, Return, LoopMerge, SelectionMerge, Line, Extended}
 use Rattle.spv_layout.specs.declared.state.State.{State}
 use Rattle.spv_layout.specs.declared.state.State.TheVariants as at
-use Rattle.spv_layout.specs.Expression.{Expression, one_of, ◌then◌, ◌or◌, many, one, any, SpellsClasses}
+use Rattle.spv_layout.specs.Expression.{Expression, one_of, ◌then◌, ◌or◌, many, one, mixed, any, SpellsClasses}
 use Rattle.spv_layout.specs.Layout.{sections_1_to_8, sections_9_to_11, body, ending, declaration}
 use Rattle.spv_layout.specs.inner.Layout.{other_block}
 use Rattle.spv_layout.specs.Layout.{definition}
@@ -17,10 +17,10 @@ use Rattle.spv_layout.specs.inner.Layout.{is_merge, is_line, without_lines}
 
 -- the rest of a definition after a block, and after its first parameters
 abbrev pub after_block : Expression
-after_block = many other_block then one FunctionEnd then many definition
+after_block = many other_block then one FunctionEnd then any Extended then many definition
 
 abbrev pub after_parameters : Expression
-after_parameters = one Label then any Variable then body then ending then after_block
+after_parameters = one Label then mixed (Variable ∷ Extended ∷ []) then body then ending then after_block
 
 -- What a state leaves to come, lines aside; of a state of sections 1 to 8 the rest of these sections.
 abbrev pub residual : State → Expression
@@ -38,14 +38,14 @@ residual at.Processed = any Processed then any Decoration
 residual at.Decorations = any Decoration
 residual at.Declarations = sections_9_to_11
 residual at.Function =
-    (any Parameter then one FunctionEnd then many declaration then many definition) or
+    (any Parameter then one FunctionEnd then any Extended then many declaration then many definition) or
     (any Parameter then after_parameters)
-residual at.Declared = many declaration then many definition
+residual at.Declared = any Extended then many declaration then many definition
 residual at.Definition = any Parameter then after_parameters
-residual at.Defined = many definition
-residual at.Variables = any Variable then body then ending then after_block
-residual at.Phis = any Phi then body then ending then after_block
-residual at.Body = body then ending then after_block
+residual at.Defined = any Extended then many definition
+residual at.Variables = mixed (Variable ∷ Extended ∷ []) then body then ending then after_block
+residual at.Phis = mixed (Phi ∷ Extended ∷ []) then body then ending then after_block
+residual at.Body = mixed (Body ∷ Undef ∷ Extended ∷ []) then ending then after_block
 residual at.LoopMerge = one_of (Branch ∷ BranchConditional ∷ []) then after_block
 residual at.SelectionMerge = one_of (BranchConditional ∷ Switch ∷ []) then after_block
 residual at.Block = after_block
@@ -74,6 +74,7 @@ abbrev pub next_later : Class → Option State
 next_later Declaration = Some at.Declarations
 next_later Variable = Some at.Declarations
 next_later Undef = Some at.Declarations
+next_later Extended = Some at.Declarations
 next_later Line = Some at.Declarations
 next_later Function = Some at.Function
 next_later _ = None
@@ -81,6 +82,7 @@ next_later _ = None
 abbrev pub next_in_body : Class → Option State
 next_in_body Body = Some at.Body
 next_in_body Undef = Some at.Body
+next_in_body Extended = Some at.Body
 next_in_body Branch = Some at.Block
 next_in_body BranchConditional = Some at.Block
 next_in_body Switch = Some at.Block
@@ -139,6 +141,7 @@ next_of at.Function Label = Some at.Variables
 next_of at.Function _ = None
 next_of at.Declared Function = Some at.Function
 next_of at.Declared Line = Some at.Declared
+next_of at.Declared Extended = Some at.Declared
 next_of at.Declared _ = None
 next_of at.Definition Parameter = Some at.Definition
 next_of at.Definition Line = Some at.Definition
@@ -146,12 +149,15 @@ next_of at.Definition Label = Some at.Variables
 next_of at.Definition _ = None
 next_of at.Defined Function = Some at.Definition
 next_of at.Defined Line = Some at.Defined
+next_of at.Defined Extended = Some at.Defined
 next_of at.Defined _ = None
 next_of at.Variables Variable = Some at.Variables
 next_of at.Variables Line = Some at.Variables
+next_of at.Variables Extended = Some at.Variables
 next_of at.Variables c = next_in_body c
 next_of at.Phis Phi = Some at.Phis
 next_of at.Phis Line = Some at.Phis
+next_of at.Phis Extended = Some at.Phis
 next_of at.Phis c = next_in_body c
 next_of at.Body c = next_in_body c
 next_of at.LoopMerge Branch = Some at.Block

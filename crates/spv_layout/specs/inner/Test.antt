@@ -12,7 +12,7 @@ use Rattle.spv_layout.specs.declared.form.Kinded.{Kinded}
 use Rattle.spv_layout.specs.declared.form.Form.{Form}
 use Rattle.spv_layout.specs.declared.form.Form.TheVariants as form
 use Rattle.spv_layout.specs.Row.{PlainRow, RowEnding, closed, maybe, file_and_text, repeated, others, maybe_others}
-use Rattle.spv_layout.specs.Row.{has_masks}
+use Rattle.spv_layout.specs.Row.{maybe_repeated, has_masks}
 use Rattle.spv_layout.specs.Shape.{is_of, role_of}
 
 -- a number for each sort of operands
@@ -120,6 +120,10 @@ abbrev pub is_kind_and_others : Table → Form → List Plain → Bool
 is_kind_and_others G f [] = true
 is_kind_and_others G f (o ∷ os) = is_of G f o && are_others G os
 
+abbrev pub is_first_and_rounds : Table → Form → Form → List Plain → Bool
+is_first_and_rounds G f g [] = true
+is_first_and_rounds G f g (o ∷ os) = is_of G f o && are_rounds G (g ∷ []) [] os
+
 abbrev pub fits_ending : Table → RowEnding → List Plain → Bool
 fits_ending G closed os = is_empty os
 fits_ending G (maybe f) os = is_empty os || are_of G (f ∷ []) os
@@ -129,6 +133,7 @@ fits_ending G file_and_text os =
 fits_ending G (repeated fs) os = are_rounds G fs [] os
 fits_ending G others os = are_others G os
 fits_ending G (maybe_others f) os = is_kind_and_others G f os
+fits_ending G (maybe_repeated f g) os = is_first_and_rounds G f g os
 
 abbrev pub fits_row : Table → Option PlainRow → List Plain → Bool
 fits_row G None os = false
@@ -143,6 +148,7 @@ form_in file_and_text o n = Some (if is_text o then form.Text else form.Id role.
 form_in (repeated fs) o n = slice_get fs (n % length fs)
 form_in others o n = Some form.Other
 form_in (maybe_others f) o n = Some (if nat_eq n 0 then f else form.Other)
+form_in (maybe_repeated f g) o n = Some (if nat_eq n 0 then f else g)
 
 abbrev pub form_at : PlainRow → Plain → ℕ → Option Form
 form_at r o n = if nat_lt n (length r.fixed) then slice_get r.fixed n else form_in r.ending o (n - length r.fixed)

@@ -5,6 +5,7 @@ use Rattle.spv_module.specs.Operand as operand
 use Rattle.spv_layout.specs.declared.form.Form.{Form}
 use Rattle.spv_layout.specs.declared.form.Form.TheVariants as form
 use Rattle.spv_layout.specs.Row.{PlainRow, RowEnding, closed, maybe, file_and_text, repeated, others, maybe_others}
+use Rattle.spv_layout.specs.Row.{maybe_repeated}
 
 -- The operand is neither a value nor a mask.
 abbrev pub IsUnkinded : Plain → Type 0
@@ -30,6 +31,7 @@ is_unkinded_ending file_and_text = true
 is_unkinded_ending (repeated fs) = are_unkinded fs
 is_unkinded_ending others = false
 is_unkinded_ending (maybe_others f) = false
+is_unkinded_ending (maybe_repeated f g) = is_unkinded f && is_unkinded g
 
 abbrev pub is_unkinded_row : Option PlainRow → Bool
 is_unkinded_row None = false

@@ -2,6 +2,7 @@
 
 ghost use Rattle.std.specs.Prelude.{◌≡◌, ◌∷◌, [], ℕ, List};
 ghost use Rattle.spv_table.specs.Table.{Table};
+ghost use Rattle.spv_extended.specs.declared.reach.Reach.{Reach};
 ghost use Rattle.spv_flow.specs.calls.Calls.{IsEntryFunction};
 ghost use Rattle.spv_flow.specs.calls.Example.{functions};
 ghost use Rattle.spv_check.specs.Checked.{IsKept};
@@ -16,11 +17,12 @@ ghost use Rattle.spv_run.specs.Trace.{ending_of};
 
 use crate::laws::{promise_examples, run_never_gets_stuck};
 
-/// A checked module never gets stuck: from each entry point's function, for all choices and numbers of steps, the run
-/// ends otherwise, bound ids have their declared types, and there are no more frames than function definitions.
+/// A checked module never gets stuck, however far it is looked at: from each entry point's function, for all choices
+/// and numbers of steps, the run ends otherwise, bound ids have their declared types, and there are no more frames than
+/// function definitions.
 pub fn never_stuck()
-    ensures { (G : Table) (p : Program) → IsKept G p → (g : ℕ) → IsEntryFunction p.insts g
-        → (choices : List ℕ) → NeverGetsStuck G p.insts g choices }
+    ensures { (G : Table) (reach : Reach) (p : Program) → IsKept G reach p → (g : ℕ)
+        → IsEntryFunction p.insts g → (choices : List ℕ) → NeverGetsStuck G p.insts g choices }
 {
     run_never_gets_stuck();
 }

@@ -1,11 +1,10 @@
 -- How a command ends before its trouble is told. (For the code alone.)
 use Rattle.std.specs.Prelude.{◌≡◌, ◌⊎◌, ◌↔◌, List, ℕ, Bool, true, Option, Result, IfOk, IfErr, IsErr, IsErrOf}
-use Rattle.std.specs.Prelude.{option_map}
 use Rattle.spv_table.specs.Table.{Table}
 use Rattle.spv_command_line.specs.declared.command_line.Command.{Command}
 use Rattle.spv_commands.specs.Streams.{AnyFailed, IsDone, Reading, Writing}
 use Rattle.spv_commands.specs.Task.{Does, DoesByText, IsAmbiguous, IsAmbiguousByText, IsNoText, LacksEntry}
-use Rattle.spv_commands.specs.Task.{LacksAsked, LacksAskedByText, LacksEntryByText, taken_by}
+use Rattle.spv_commands.specs.Task.{LacksAsked, LacksAskedByText, LacksEntryByText}
 use Rattle.spv_commands.specs.Trouble.{trouble_text}
 use Rattle.spv_streams.specs.Begin.{BeginsByText, BeginsToDo}
 use Rattle.spv_streams.specs.Run.{IsErrorLine}
@@ -24,10 +23,6 @@ pub record EndsByTable (command : Command) (G : Table) (file : Reading) (out mad
     (result : Result Bool Trouble) : Type 0 where
   pub ends : IsDone (Does command G) (BeginsToDo command G) File file out made result
   pub only : IfErr result (IsReason command G file.left)
-
--- the file as the command takes its bytes
-abbrev pub reading_by : Command → Reading → Reading
-reading_by command file = record { left = option_map (taken_by command) file.left; failed = file.failed }
 
 -- By the text of a grammar file, or without one.
 pub record EndsByText (command : Command) (text : Option (List ℕ)) (file : Reading) (out made : Writing)

@@ -1,12 +1,17 @@
 -- Y4, operand by operand. [3.49.7]
-use Rattle.std.specs.Prelude.{◌≡◌, ◌+◌, ◌<◌, ℕ, List, [], ◌∷◌, Bool, true, false, Some, IsSomeAnd}
+use Rattle.std.specs.Prelude.{◌≡◌, ◌+◌, ◌<◌, ◌≤◌, ℕ, List, [], ◌∷◌, Bool, true, false, Some, IsSomeAnd}
 use Rattle.std.specs.Prelude.{◌-◌, ◌++◌, Option, None, length, nat_eq, nat_le, if◌then◌else◌, option_and_then}
 use Rattle.std.specs.Prelude.{option_to_list, slice_get}
-use Rattle.spv_module.specs.Operand.{Plain, Number, PlainInst, type_in}
+use Rattle.spv_module.specs.Operand.{Plain, Word, Number, Value, PlainInst, type_in}
 use Rattle.spv_module.specs.Width.{type_of}
 use Rattle.spv_type_forms.specs.Operands.{ids_in, after_head}
 use Rattle.spv_type_forms.specs.Parts.{part_of, count_of}
-use Rattle.spv_type_forms.specs.Types.{IsBool, IsNumber, IsData}
+use Rattle.spv_type_forms.specs.declared.form.Form.{Form}
+use Rattle.spv_type_forms.specs.declared.form.Form.TheVariants as form
+use Rattle.spv_type_forms.specs.declared.form.Object.TheVariants as object
+use Rattle.spv_type_forms.specs.Form.{form_of}
+use Rattle.spv_type_forms.specs.Types.{IsBool, IsNumber, IsObject}
+use Rattle.spv_type_forms.specs.Null.{IsNullable}
 use Rattle.spv_type_rules.specs.declared.constant.Constant.{Constant}
 use Rattle.spv_type_rules.specs.declared.constant.Constant.TheVariants as kind
 use Rattle.spv_conditions.specs.declared.condition.Kind.TheVariants as sort
@@ -34,7 +39,10 @@ AsksOf is kind.Number r (Number low high words ∷ []) k =
     (k ≡ 0 → IsNumber is r) × (k ≡ 2 → FitsWidth is r low)
 AsksOf is kind.Composite r os k = AsksParts is false r (ids_in os) k
 AsksOf is kind.SpecComposite r os k = AsksParts is true r (ids_in os) k
-AsksOf is kind.Null r os k = k ≡ 0 → IsData is r
+AsksOf is kind.Null r os k = k ≡ 0 → IsNullable is r
+AsksOf is kind.Sampler r (Value a mode ∷ Word n ∷ Value f filter ∷ []) k =
+    (k ≡ 0 → IsObject is object.Sampler r) × (k ≡ 3 → n ≤ 1)
+AsksOf is kind.PipeStorage r os k = k ≡ 0 → IsObject is object.PipeStorage r
 AsksOf is _ r os k = ⊥
 
 -- the same of the operands of an instruction
@@ -53,7 +61,22 @@ abbrev pub condition_at : Constant → ℕ → Condition
 condition_at kind.Bool k = condition.Kind sort.Bool
 condition_at kind.Number k = if nat_eq k 0 then condition.Kind sort.Number else condition.FitsWidth
 condition_at kind.Null k = condition.Kind sort.Data
+condition_at kind.Sampler k = if nat_eq k 0 then condition.Kind (sort.Object object.Sampler) else condition.Normalized
+condition_at kind.PipeStorage k = condition.Kind (sort.Object object.PipeStorage)
 condition_at c k = if nat_eq k 0 then condition.Count else condition.Constituent
+
+-- of a null value: its type is a data type, or where it is the type of objects, an array or a struct, one that has a
+-- null value [3.49.7 OpConstantNull]
+abbrev pub null_condition : Option Form → Condition
+null_condition (Some (form.Object o)) = condition.Nullable
+null_condition (Some (form.Array e l)) = condition.Nullable
+null_condition (Some form.Struct) = condition.Nullable
+null_condition f = condition.Kind sort.Data
+
+-- the same of the constant i
+abbrev pub condition_in : List PlainInst → Constant → PlainInst → ℕ → Condition
+condition_in is kind.Null i k = null_condition (option_and_then (form_of is) (type_in i.operands))
+condition_in is c i k = condition_at c k
 
 -- whether operand k is a constituent of a composite constant [3.49.7]
 abbrev pub is_constituent : Constant → ℕ → Bool

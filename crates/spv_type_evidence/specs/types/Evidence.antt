@@ -31,7 +31,7 @@ pub data Shows (G : Table) (is : List PlainInst) (n : ℕ) (i : PlainInst) : Rul
   -- the operand at which the constant first fails, what is asked of it, the types that are wanted and found, and those
   -- that are read
   constant : (k : ℕ) (m : Option ℕ) (f : constants.FailsFirst is i k) → IsDefinedBy is i (Some k) m
-      → Shows G is n i rule.Y4 (evidence.Condition (constants.condition_at f.kind k) (Some k) m
+      → Shows G is n i rule.Y4 (evidence.Condition (constants.condition_in is f.kind i k) (Some k) m
       (constants.wanted_at is f.kind i k) (constants.found_at is f.kind i k)
       (constants.read_at is f.kind i k))
   -- the type of the OpFunction differs from its result type and its parameters

@@ -7,6 +7,8 @@ ghost use Rattle.spv_module.specs.Module.{plain_inst, plain_operands};
 ghost use Rattle.spv_layout.specs.Place.{AreFew};
 ghost use Rattle.spv_type_forms.specs.Operands as of_operands;
 ghost use Rattle.spv_type_forms.specs.Operands.{ids_in};
+ghost use Rattle.spv_type_forms.specs.Form.{form_of};
+ghost use Rattle.spv_type_forms.specs.Null.{IsNullable};
 ghost use Rattle.spv_type_forms.specs.Parts.{count_of};
 ghost use Rattle.spv_type_rules.specs.inner.Constant.{IsSoundConstant};
 ghost use Rattle.spv_type_rules.specs.declared.constant.Constant.TheVariants as kind;
@@ -16,12 +18,13 @@ ghost use Rattle.spv_type_evidence.specs.types.Constant.{Asks, AsksOf, AsksParts
 ghost use Rattle.spv_type_evidence.specs.types.Evidence.{Shows};
 ghost use Rattle.spv_type_evidence.specs.types.inner.First.{IsFirstOf};
 
-use crate::types::operands::low_in;
+use crate::types::operands::{low_in, normalized_in};
 use spv_evidence::{Condition, Evidence, Kind, Listed, defined_by, named_at, reads_within};
 use spv_ids::Ids;
 use spv_module::{Inst, Operand};
 use spv_type_forms::{
-    Definitions, after_head, count, id_count, is_data, is_number, parts_of, type_in,
+    Definitions, Form, Nulls, Object, after_head, count, id_count, is_number, is_object, parts_of,
+    type_in,
 };
 use spv_type_rules::{Constant, constant_of, fits_width, is_bool, is_typed_part};
 use std::alloc::{AllocError, Global};
@@ -89,6 +92,22 @@ fn first_of_number(definitions: &Definitions, r: u32, operands: &[Operand]) -> O
     }
 }
 
+/// Where an OpConstantSampler of the type `r` first fails, if it does.
+fn first_of_sampler(definitions: &Definitions, r: u32, operands: &[Operand]) -> Option<u32>
+    ensures { IsFirstOf (AsksOf definitions.now kind.Sampler r (plain_operands operands.now)) result }
+{
+    let Some(normalized) = normalized_in(operands) else {
+        return Some(0);
+    };
+    if !is_object(definitions, Object::Sampler, r) {
+        Some(0)
+    } else if normalized > 1 {
+        Some(3)
+    } else {
+        None
+    }
+}
+
 /// Operand 0, unless what is asked of it holds.
 fn first_unless(holds: bool) -> Option<u32>
     ensures { IsFirstOf (λ k. k ≡ 0 → IsTrue holds) result }
@@ -96,37 +115,63 @@ fn first_unless(holds: bool) -> Option<u32>
     if holds { None } else { Some(0) }
 }
 
+/// Where an OpConstantNull of the type `r` fails, if it does.
+///
+/// The error comes when out of memory.
+fn first_of_null(
+    alloc: Global,
+    definitions: &Definitions,
+    r: u32,
+) -> Result<Option<u32>, AllocError>
+    requires { AreFew definitions.now }
+    ensures { IfOk result (λ o. IsFirstOf (λ k. k ≡ 0 → IsNullable definitions.now r) o) }
+{
+    let mut nulls = Nulls::new(alloc);
+    let nullable = nulls.is_nullable(definitions, r)?;
+    Ok(first_unless(nullable))
+}
+
 /// Where a constant of the type `r` first fails, if it does, by what follows the type and the result.
+///
+/// The error comes when out of memory.
 fn first_failing(
+    alloc: Global,
     definitions: &Definitions,
     constant: Constant,
     r: u32,
     operands: &[Operand],
-) -> Option<u32>
-    requires { AreFew (ids_in (plain_operands operands.now)) }
-    ensures { IsFirstOf (AsksOf definitions.now constant r (plain_operands operands.now)) result }
+) -> Result<Option<u32>, AllocError>
+    requires insts { AreFew definitions.now }
+    requires few { AreFew (ids_in (plain_operands operands.now)) }
+    ensures { IfOk result (λ o. IsFirstOf (AsksOf definitions.now constant r (plain_operands operands.now)) o) }
 {
     match constant {
-        Constant::Bool => first_unless(is_bool(definitions, r)),
-        Constant::Number => first_of_number(definitions, r, operands),
-        Constant::Composite => first_of_parts(definitions, false, r, operands),
-        Constant::SpecComposite => first_of_parts(definitions, true, r, operands),
-        Constant::Null => first_unless(is_data(definitions, r)),
+        Constant::Bool => Ok(first_unless(is_bool(definitions, r))),
+        Constant::Number => Ok(first_of_number(definitions, r, operands)),
+        Constant::Composite => Ok(first_of_parts(definitions, false, r, operands)),
+        Constant::SpecComposite => Ok(first_of_parts(definitions, true, r, operands)),
+        Constant::Null => first_of_null(alloc, definitions, r),
+        Constant::Sampler => Ok(first_of_sampler(definitions, r, operands)),
+        Constant::PipeStorage => Ok(first_unless(is_object(definitions, Object::PipeStorage, r))),
     }
 }
 
 /// The operand at which a constant first fails, if it does.
+///
+/// The error comes when out of memory.
 fn first_of_constant(
+    alloc: Global,
     definitions: &Definitions,
     constant: Constant,
     operands: &[Operand],
-) -> Option<u32>
-    requires { AreFew (ids_in (of_operands.after_head (plain_operands operands.now))) }
-    ensures { IsFirstOf (Asks definitions.now constant (plain_operands operands.now)) result }
+) -> Result<Option<u32>, AllocError>
+    requires insts { AreFew definitions.now }
+    requires few { AreFew (ids_in (of_operands.after_head (plain_operands operands.now))) }
+    ensures { IfOk result (λ o. IsFirstOf (Asks definitions.now constant (plain_operands operands.now)) o) }
 {
     match type_in(operands) {
-        Some(r) => first_failing(definitions, constant, r, after_head(operands)),
-        None => Some(0),
+        Some(r) => first_failing(alloc, definitions, constant, r, after_head(operands)),
+        None => Ok(Some(0)),
     }
 }
 
@@ -150,6 +195,41 @@ fn condition_at(constant: Constant, operand: u32) -> Condition
             }
         }
         Constant::Null => Condition::Kind(Kind::Data),
+        Constant::Sampler => if head {
+            Condition::Kind(Kind::Object(Object::Sampler))
+        } else {
+            Condition::Normalized
+        },
+        Constant::PipeStorage => Condition::Kind(Kind::Object(Object::PipeStorage)),
+    }
+}
+
+/// What is asked of the type of a null value: it is a data type, or where it is the type of objects, an array or a
+/// struct, one that has a null value.
+fn null_condition(definitions: &Definitions, r: u32) -> Condition
+    ensures { result ≡ spec.null_condition (form_of definitions.now r) }
+{
+    match definitions.form(r) {
+        Some(Form::Object(_) | Form::Array { .. } | Form::Struct) => Condition::Nullable,
+        _ => Condition::Kind(Kind::Data),
+    }
+}
+
+/// What is asked of an operand of an instruction, by its name.
+fn condition_in(
+    definitions: &Definitions,
+    constant: Constant,
+    inst: &Inst,
+    operand: u32,
+) -> Condition
+    ensures { result ≡ spec.condition_in definitions.now constant (plain_inst inst.now) operand }
+{
+    match constant {
+        Constant::Null => match type_in(inst.operands.as_slice()) {
+            Some(r) => null_condition(definitions, r),
+            None => Condition::Kind(Kind::Data),
+        },
+        _ => condition_at(constant, operand),
     }
 }
 
@@ -213,6 +293,7 @@ pub fn constant_evidence(
     inst: &Inst,
 ) -> Result<Evidence, AllocError>
     requires ids { (x : ℕ) → IsDefinitionOf definitions.now x (definition_in ids.now x) }
+    requires insts { AreFew definitions.now }
     requires few { AreFew (ids_in (of_operands.after_head (plain_inst inst.now).operands)) }
     requires broken { ¬ (IsSoundConstant definitions.now (plain_inst inst.now)) }
     ensures { IfOk result (λ e. (G : Table) (n : ℕ) → Shows G definitions.now n (plain_inst inst.now) Y4 e) }
@@ -220,7 +301,8 @@ pub fn constant_evidence(
     let Some(constant) = constant_of(inst.opcode) else {
         unreachable!();
     };
-    let Some(operand) = first_of_constant(definitions, constant, inst.operands.as_slice()) else {
+    let operands = inst.operands.as_slice();
+    let Some(operand) = first_of_constant(alloc, definitions, constant, operands)? else {
         unreachable!();
     };
     let wanted = wanted_at(definitions, constant, inst, operand);
@@ -228,7 +310,7 @@ pub fn constant_evidence(
     let composite = composite_at(constant, inst, operand);
     let types = reads_within(alloc, definitions, composite, wanted, found)?;
     Ok(Evidence::Condition {
-        condition: condition_at(constant, operand),
+        condition: condition_in(definitions, constant, inst, operand),
         operand: Some(operand),
         defined: defined_by(ids, inst, Some(operand)),
         wanted,

@@ -1,28 +1,31 @@
 //! Evidence for Y2.
 
-ghost use Rattle.std.specs.Prelude.{◌≡◌, ◌≤◌, ◌<◌, ◌+◌, ◌↔◌, ℕ, [], IsTrue, length};
+ghost use Rattle.std.specs.Prelude.{◌≡◌, ◌≤◌, ◌<◌, ◌+◌, ◌↔◌, ℕ, [], IsTrue, IsSomeAnd, length};
 ghost use Rattle.spv_table.specs.Table.{Table};
 ghost use Rattle.spv_module.specs.declared.fault.Rule.TheVariants.{Y2};
 ghost use Rattle.spv_module.specs.Module.{plain_inst, plain_operands};
 ghost use Rattle.spv_ids.specs.Outcome.{IsDefinitionOf, definition_in};
+ghost use Rattle.spv_type_forms.specs.Objects as objects;
+ghost use Rattle.spv_type_rules.specs.Declaration.{IsSampled};
 ghost use Rattle.spv_type_rules.specs.inner.Declaration.{IsSoundDeclaration};
 ghost use Rattle.spv_type_rules.specs.declared.declaration.Declaration.TheVariants as kind;
 ghost use Rattle.spv_type_evidence.specs.types.Declaration as spec;
-ghost use Rattle.spv_type_evidence.specs.types.Declaration.{Asks, AsksData, IsScalar};
+ghost use Rattle.spv_type_evidence.specs.types.Declaration.{Asks, AsksData, AsksImage, IsScalar};
 ghost use Rattle.spv_type_evidence.specs.types.Evidence.{Shows};
 ghost use Rattle.spv_type_evidence.specs.types.inner.First.{IsFirstOf};
 
 use crate::types::first::first_of_two;
 use crate::types::operands::{
-    array_in, float_in, forward_in, int_in, members_in, pointee_in, signature_in, vector_in,
+    array_in, float_in, forward_in, image_type_in, int_in, members_in, pointee_in, signature_in,
+    vector_in,
 };
 use spv_evidence::{Condition, Evidence, Kind, Listed, defined_by};
 use spv_ids::Ids;
 use spv_module::{Inst, Operand};
-use spv_type_forms::{Definitions, Form, is_data};
+use spv_type_forms::{Definitions, Form, Image, image_in, image_of, is_data};
 use spv_type_rules::{
     Declaration, declaration_of, is_float_width, is_int_width, is_length, is_pointee,
-    is_pointer_after, is_returned, is_vector_count,
+    is_pointer_after, is_returned, is_sampled, is_sampled_type, is_vector_count,
 };
 use std::alloc::Global;
 
@@ -159,6 +162,55 @@ fn first_of_function(definitions: &Definitions, operands: &[Operand]) -> Option<
     }
 }
 
+/// The operand of the first word of an image type that fails, if one does.
+fn first_in_image(definitions: &Definitions, image: Image) -> Option<u32>
+    ensures { IsFirstOf (λ k. AsksImage definitions.now k image) result }
+{
+    if !is_sampled_type(definitions, image.sampled_type) {
+        Some(1)
+    } else if image.depth > 2 {
+        Some(3)
+    } else if image.arrayed > 1 {
+        Some(4)
+    } else if image.multisampled > 1 {
+        Some(5)
+    } else if image.sampled > 2 {
+        Some(6)
+    } else {
+        None
+    }
+}
+
+/// Where an OpTypeImage first fails, if it does.
+fn first_of_image(definitions: &Definitions, operands: &[Operand]) -> Option<u32>
+    ensures { IsFirstOf (Asks definitions.now 0 kind.Image (plain_operands operands.now)) result }
+{
+    match image_in(operands) {
+        Some(image) => first_in_image(definitions, image),
+        None => Some(0),
+    }
+}
+
+/// Whether an id declares an image type of images that may be sampled.
+fn declares_sampled(definitions: &Definitions, t: u32) -> bool
+    ensures { IsTrue result ↔ IsSomeAnd (objects.image_of definitions.now t) IsSampled }
+{
+    match image_of(definitions, t) {
+        Some(image) => is_sampled(image),
+        None => false,
+    }
+}
+
+/// Where an OpTypeSampledImage first fails, if it does.
+fn first_of_sampled_image(definitions: &Definitions, operands: &[Operand]) -> Option<u32>
+    ensures { IsFirstOf (Asks definitions.now 0 kind.SampledImage (plain_operands operands.now)) result }
+{
+    match image_type_in(operands) {
+        Some(image) => first_of_two(declares_sampled(definitions, image), true),
+        None => Some(0),
+    }
+}
+
 /// The operand at which a declaration at the instruction of a number first fails, if it does.
 fn first_failing(
     definitions: &Definitions,
@@ -180,6 +232,21 @@ fn first_failing(
         Declaration::Pointer => first_of_pointer(definitions, operands),
         Declaration::Function => first_of_function(definitions, operands),
         Declaration::Forward => first_of_forward(definitions, ids, number, operands),
+        Declaration::Image => first_of_image(definitions, operands),
+        Declaration::SampledImage => first_of_sampled_image(definitions, operands),
+    }
+}
+
+/// What is asked of an operand of an image type, by its name.
+fn image_condition(operand: u32) -> Condition
+    ensures { result ≡ spec.image_condition operand }
+{
+    match operand {
+        1 => Condition::SampledType,
+        3 => Condition::Depth,
+        4 => Condition::Arrayed,
+        5 => Condition::SampleCount,
+        _ => Condition::SampledUse,
     }
 }
 
@@ -213,6 +280,8 @@ fn condition_after(declaration: Declaration, operand: u32) -> Condition
             Condition::Kind(Kind::Data)
         },
         Declaration::Forward => Condition::Forward,
+        Declaration::Image => image_condition(operand),
+        Declaration::SampledImage => Condition::Dimension,
     }
 }
 

@@ -3,7 +3,8 @@
 ghost use Rattle.std.specs.Prelude.{◌≡◌, ◌↔◌, ℕ, List, [], ◌∷◌, Some, None, slice_get};
 ghost use Rattle.std.specs.Prelude.{IsSomeAnd};
 ghost use Rattle.spv_table.specs.Table.{Table};
-ghost use Rattle.spv_module.specs.Operand.{Plain, PlainInst, type_in};
+ghost use Rattle.spv_module.specs.Operand.{Plain, PlainInst, OfType, type_in};
+ghost use Rattle.spv_module.specs.declared.opcode.TheConstants as opcode;
 ghost use Rattle.spv_module.specs.declared.fault.Rule.{Rule};
 ghost use Rattle.spv_module.specs.declared.fault.Rule.TheVariants.{Y2, Y3, Y8};
 ghost use Rattle.spv_type_rules.specs.declared.declaration.Declaration.{Declaration};
@@ -15,11 +16,14 @@ ghost use Rattle.spv_type_forms.specs.Operands.{after_head};
 ghost use Rattle.spv_evidence.specs.declared.evidence.Evidence.{Evidence};
 ghost use Rattle.spv_evidence.specs.declared.evidence.Evidence.TheVariants.{Condition, Earlier, Mismatch};
 ghost use Rattle.spv_evidence.specs.declared.condition.Condition.TheVariants.{VectorCount, Scalar, FitsWidth};
+ghost use Rattle.spv_evidence.specs.declared.condition.Condition.TheVariants.{Normalized, Nullable};
+ghost use Rattle.spv_evidence.specs.declared.condition.Condition.TheVariants as condition;
+ghost use Rattle.spv_conditions.specs.declared.condition.Kind.TheVariants.{Data};
 ghost use Rattle.spv_evidence.specs.declared.evidence.Side.TheVariants as side;
 ghost use Rattle.spv_type_evidence.specs.types.Declaration as declaration;
 ghost use Rattle.spv_type_evidence.specs.types.Constant as constant;
-ghost use Rattle.spv_type_forms.specs.Example.{small};
-ghost use Rattle.spv_type_rules.specs.declared.constant.Constant.TheVariants.{Composite, Number};
+ghost use Rattle.spv_type_forms.specs.Example.{small, pipes, inst};
+ghost use Rattle.spv_type_rules.specs.declared.constant.Constant.TheVariants.{Composite, Number, Null, Sampler};
 ghost use Rattle.spv_type_evidence.specs.types.Evidence.{IsEvidence};
 ghost use Rattle.spv_type_evidence.specs.types.Example.{composite};
 ghost use Rattle.spv_type_evidence.specs.types.Example.{with_vector, with_again, with_short_call};
@@ -47,6 +51,11 @@ pub fn operands_make()
 pub fn constant_examples()
     ensures width { constant.condition_at Number 2 ≡ FitsWidth }
     ensures no_width { ¬ (constant.condition_at Number 0 ≡ FitsWidth) }
+    ensures normalized { constant.condition_at Sampler 3 ≡ Normalized }
+    // %2 is an array of pipes, which have no null value, and %9 declares nothing.
+    ensures null { constant.condition_in pipes Null (inst opcode.CONSTANT_NULL (OfType 2 ∷ [])) 0 ≡ Nullable }
+    ensures no_data { constant.condition_in pipes Null (inst opcode.CONSTANT_NULL (OfType 9 ∷ [])) 0
+        ≡ condition.Kind Data }
 {}
 
 /// What is read where a constituent of a composite constant fails: %9 = OpConstantComposite %3 %18 %18 of the vector

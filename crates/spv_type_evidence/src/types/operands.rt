@@ -82,6 +82,16 @@ pub fn forward_in(operands: &[Operand]) -> Option<(u32, u32)>
     }
 }
 
+/// The image type of an OpTypeSampledImage.
+pub fn image_type_in(operands: &[Operand]) -> Option<u32>
+    ensures { result ≡ spec.image_type_in (plain_operands operands.now) }
+{
+    match operands {
+        [Operand::Result(_), Operand::Id(image)] => Some(*image),
+        _ => None,
+    }
+}
+
 /// The members of an OpTypeStruct.
 pub fn members_in<'o, 'a>(operands: &'o [Operand<'a>]) -> Option<&'o [Operand<'a>]>
     ensures { option_map (λ os. plain_operands os.now) result ≡ spec.members_in (plain_operands operands.now) }
@@ -111,6 +121,20 @@ pub fn low_in(operands: &[Operand]) -> Option<u32>
 {
     match operands {
         [Operand::Number { low, .. }] => Some(*low),
+        _ => None,
+    }
+}
+
+/// What tells whether the coordinates of an OpConstantSampler are normalized, by what follows its type and its result.
+pub fn normalized_in(operands: &[Operand]) -> Option<u32>
+    ensures { result ≡ spec.normalized_in (plain_operands operands.now) }
+{
+    match operands {
+        [
+            Operand::Value { .. },
+            Operand::Word(normalized),
+            Operand::Value { .. },
+        ] => Some(*normalized),
         _ => None,
     }
 }

@@ -36,6 +36,8 @@ form_meant (meaning.Workgroup p) = Some (form.Pointer 4 p)
 form_meant (meaning.CrossWorkgroup p) = Some (form.Pointer 5 p)
 form_meant (meaning.Local p) = Some (form.Pointer 7 p)
 form_meant (meaning.Generic p) = Some (form.Pointer 8 p)
+form_meant (meaning.Object o) = Some (form.Object o)
+form_meant (meaning.SampledImage i) = Some (form.SampledImage i)
 form_meant _ = None
 
 -- whether it is that of a type

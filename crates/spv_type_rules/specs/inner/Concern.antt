@@ -11,8 +11,10 @@ is_between a b n = nat_le a n && nat_le n b
 
 abbrev pub concern_of : ℕ → Concern
 concern_of n =
-    if is_between opcode.TYPE_VOID opcode.TYPE_FORWARD_POINTER n then Declaration
-    else (if is_between opcode.CONSTANT_TRUE opcode.SPEC_CONSTANT_COMPOSITE n then Constant
+    if is_between opcode.TYPE_VOID opcode.TYPE_FORWARD_POINTER n || nat_eq n opcode.TYPE_PIPE_STORAGE
+    || nat_eq n opcode.TYPE_NAMED_BARRIER then Declaration
+    else (if is_between opcode.CONSTANT_TRUE opcode.SPEC_CONSTANT_COMPOSITE n || nat_eq n opcode.CONSTANT_PIPE_STORAGE
+    then Constant
     else (if nat_eq n opcode.FUNCTION || nat_eq n opcode.FUNCTION_PARAMETER then Function
     else (if nat_eq n opcode.FUNCTION_CALL then Call
     else (if nat_eq n opcode.RETURN || nat_eq n opcode.RETURN_VALUE then Return
@@ -21,5 +23,8 @@ concern_of n =
 -- what may have a row of types
 abbrev pub is_operation : ℕ → Bool
 is_operation n =
-    is_between opcode.VARIABLE opcode.SELECTION_MERGE n || nat_eq n opcode.UNDEF || nat_eq n opcode.BRANCH_CONDITIONAL
-    || nat_eq n opcode.SWITCH || nat_eq n opcode.LIFETIME_START || nat_eq n opcode.LIFETIME_STOP
+    is_between opcode.VARIABLE opcode.SELECTION_MERGE n || nat_eq n opcode.UNDEF || nat_eq n opcode.EXT_INST
+    || nat_eq n opcode.BRANCH_CONDITIONAL || nat_eq n opcode.SWITCH
+    || is_between opcode.LIFETIME_START opcode.SIZE_OF n
+    || is_between opcode.CREATE_PIPE_FROM_PIPE_STORAGE opcode.GET_KERNEL_MAX_NUM_SUBGROUPS n
+    || nat_le opcode.NAMED_BARRIER_INITIALIZE n

@@ -4,11 +4,13 @@ use Rattle.spv_module.specs.declared.opcode.TheConstants as opcode
 use Rattle.spv_module.specs.Operand.{PlainInst}
 use Rattle.spv_type_forms.specs.Parts.{after_result}
 
--- OpTypeVoid, Bool, Int, Float and Vector, OpTypeOpaque and OpTypeFunction [2.8]
+-- OpTypeVoid to OpTypeSampledImage, OpTypeOpaque, OpTypeFunction to OpTypePipe, OpTypePipeStorage and
+-- OpTypeNamedBarrier [2.8]
 abbrev pub is_declared_once : ℕ → Bool
 is_declared_once n =
-    (nat_le opcode.TYPE_VOID n && nat_le n opcode.TYPE_VECTOR) || nat_eq n opcode.TYPE_OPAQUE
-    || nat_eq n opcode.TYPE_FUNCTION
+    (nat_le opcode.TYPE_VOID n && nat_le n opcode.TYPE_SAMPLED_IMAGE) || nat_eq n opcode.TYPE_OPAQUE
+    || (nat_le opcode.TYPE_FUNCTION n && nat_le n opcode.TYPE_PIPE)
+    || nat_eq n opcode.TYPE_PIPE_STORAGE || nat_eq n opcode.TYPE_NAMED_BARRIER
 
 -- the same opcode and the same operands, the result aside [2.8]
 abbrev pub AreAlike : PlainInst → PlainInst → Type 0

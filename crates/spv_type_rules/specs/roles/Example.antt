@@ -13,7 +13,15 @@ few =
     inst opcode.STRING (Result 4 ∷ []) ∷
     []
 
--- the first two of them
+-- %1 = OpTypeSampler, %2 = OpTypeNamedBarrier, %3 = OpDecorationGroup
+abbrev pub objects : List PlainInst
+objects =
+    inst opcode.TYPE_SAMPLER (Result 1 ∷ []) ∷
+    inst opcode.TYPE_NAMED_BARRIER (Result 2 ∷ []) ∷
+    inst opcode.DECORATION_GROUP (Result 3 ∷ []) ∷
+    []
+
+-- the first two of the few
 abbrev pub typed : List PlainInst
 typed = inst opcode.TYPE_VOID (Result 1 ∷ []) ∷ inst opcode.UNDEF (OfType 1 ∷ Result 2 ∷ []) ∷ []
 

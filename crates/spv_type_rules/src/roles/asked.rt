@@ -41,12 +41,14 @@ fn early(number: u16) -> Option<Asked>
             Role::Value,
             Role::Any,
         ),
-        // OpTypeVector, Struct, Pointer, Function and ForwardPointer, and OpFunction: types.
+        // OpTypeVector, Struct, Pointer, Function, ForwardPointer, Image and SampledImage, and OpFunction: types.
         opcode::TYPE_VECTOR
         | opcode::TYPE_STRUCT
         | opcode::TYPE_POINTER
         | opcode::TYPE_FUNCTION
         | opcode::TYPE_FORWARD_POINTER
+        | opcode::TYPE_IMAGE
+        | opcode::TYPE_SAMPLED_IMAGE
         | opcode::FUNCTION => ask(Role::OfType, Role::OfType, Role::OfType),
         // OpTypeArray: a type, and its length.
         opcode::TYPE_ARRAY => ask(Role::OfType, Role::Value, Role::Value),
@@ -79,7 +81,22 @@ fn late(number: u16) -> Option<Asked>
         ),
         // OpBranchConditional and OpSwitch: a value, and labels.
         opcode::BRANCH_CONDITIONAL | opcode::SWITCH => ask(Role::Value, Role::Any, Role::Any),
-        opcode::PHI => None,
+        // OpExecutionModeId: a function.
+        opcode::EXECUTION_MODE_ID => ask(Role::Function, Role::Any, Role::Any),
+        // Images, groups, pipes, queues and events, and dot products: values.
+        opcode::IMAGE_TEXEL_POINTER
+        | opcode::SAMPLED_IMAGE..=opcode::IMAGE_QUERY_SAMPLES
+        | opcode::GROUP_ASYNC_COPY..=opcode::ENQUEUE_MARKER
+        | opcode::RETAIN_EVENT..=opcode::BUILD_ND_RANGE
+        | opcode::ATOMIC_FLAG_TEST_AND_SET..=opcode::CREATE_PIPE_FROM_PIPE_STORAGE
+        | opcode::NAMED_BARRIER_INITIALIZE..=opcode::MEMORY_NAMED_BARRIER
+        | opcode::GROUP_NON_UNIFORM_ELECT..=opcode::PTR_DIFF
+        | opcode::S_DOT..=opcode::SU_DOT_ACC_SAT => ask(Role::Value, Role::Value, Role::Value),
+        // What is enqueued, or asked of a kernel: values, and a function among them.
+        opcode::ENQUEUE_KERNEL..=opcode::GET_KERNEL_PREFERRED_WORK_GROUP_SIZE_MULTIPLE
+        | opcode::GET_KERNEL_LOCAL_SIZE_FOR_SUBGROUP_COUNT
+        | opcode::GET_KERNEL_MAX_NUM_SUBGROUPS
+        | opcode::PHI => None,
         _ => ask(Role::Any, Role::Any, Role::Any),
     }
 }
@@ -100,8 +117,8 @@ pub fn asks_values(number: u16) -> bool
 }
 
 /// The roles that an opcode's row of the table of shapes asks for, which a proof compares with the table: one `match`
-/// in place of a walk over the row's forms, since each instruction of a module asks. None for OpSource and OpPhi, whose
-/// ids are not told so. At opcodes that ask for values `asks_values` tells it.
+/// in place of a walk over the row's forms, since each instruction of a module asks. None for OpSource, OpPhi and those
+/// that take a function among values, whose ids are not told so. At opcodes that ask for values `asks_values` tells it.
 #[inline(always)]
 pub fn asked_besides(number: u16) -> Option<Asked>
     requires { spec.asks_values number ≡ false }

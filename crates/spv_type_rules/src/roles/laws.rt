@@ -9,7 +9,7 @@ ghost use Rattle.spv_layout.specs.declared.form.Role.TheVariants as role;
 ghost use Rattle.spv_type_rules.specs.roles.Broken.{Broken};
 ghost use Rattle.spv_type_rules.specs.roles.Outcome.{AreInRole, IsRefusal};
 ghost use Rattle.spv_type_rules.specs.roles.Role.{Plays};
-ghost use Rattle.spv_type_rules.specs.roles.Example.{few, stray, typed, with_extended, with_set};
+ghost use Rattle.spv_type_rules.specs.roles.Example.{few, stray, typed, objects, with_extended, with_set};
 ghost use Rattle.spv_type_forms.specs.Example.{lone_variable};
 ghost use Rattle.spv_module.specs.declared.fault.Rule.TheVariants.{Y1};
 
@@ -24,6 +24,12 @@ pub fn role_examples()
     ensures of_type { Plays few role.OfType 1 }
     ensures no_type { ¬ (Plays few role.OfType 2) }
     // %2 is a value, and the function %3 is none.
+    ensures sampler { Plays objects role.OfType 1 }
+    ensures barrier { Plays objects role.OfType 2 }
+    // A decoration group may be anything that is asked for in no role.
+    ensures group { Plays objects role.Any 3 }
+    ensures no_group { ¬ (Plays objects role.OfType 3) }
+    ensures group_value { ¬ (Plays objects role.Value 3) }
     ensures value { Plays few role.Value 2 }
     ensures no_value { ¬ (Plays few role.Value 3) }
     ensures function { Plays few role.Function 3 }

@@ -17,12 +17,17 @@ fn is_value(inst: &Inst<'_>) -> bool
     inst.opcode != opcode::FUNCTION && type_in(inst.operands.as_slice()).is_some()
 }
 
-/// Whether an instruction is a type declaration: their opcodes stand together.
+/// Whether an instruction is a type declaration: all but two of their opcodes stand together.
 #[inline(always)]
 fn is_type(inst: &Inst<'_>) -> bool
     ensures { IsTrue result ↔ IsTypeDeclaration (plain_inst inst.now) }
 {
-    inst.opcode >= opcode::TYPE_VOID && inst.opcode <= opcode::TYPE_FUNCTION
+    match inst.opcode {
+        opcode::TYPE_VOID..=opcode::TYPE_PIPE
+        | opcode::TYPE_PIPE_STORAGE
+        | opcode::TYPE_NAMED_BARRIER => true,
+        _ => false,
+    }
 }
 
 /// Whether the definition of an id has an opcode.

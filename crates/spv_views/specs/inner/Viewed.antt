@@ -9,7 +9,9 @@ use Rattle.spv_check.specs.declared.verdict_line.Judgment.TheVariants.{Refused}
 use Rattle.spv_check.specs.Text.{line_of}
 use Rattle.spv_table.specs.Table.{Table}
 use Rattle.spv_words.specs.Header.{greatest_length}
-use Rattle.spv_explain.specs.Stream.{IsModuleIn}
+use Rattle.spv_extended.specs.declared.reach.Reach.{Reach}
+use Rattle.spv_fault_lines.specs.declared.fact.Detail.TheVariants.{Short}
+use Rattle.spv_explain.specs.Stream.{IsExplanation, IsModuleIn, IsWalk}
 use Rattle.spv_explain.specs.declared.stream.Told.{Told}
 use Rattle.spv_module.specs.declared.module.Module.{Module}
 use Rattle.spv_explain.specs.declared.stream.Explanation.{Explanation}
@@ -30,12 +32,17 @@ pub record IsReading (G : Table) (words : List ℕ) (t : Told) : Type 0 where
   pub size : length words ≤ greatest_length
   pub read : IsModuleIn G words t.«module»
 
--- The text is written with what is told of the fault of this explanation.
-pub record IsWrittenBy (how : View) (G : Table) (m : Module) (e : Explanation) (function : Option ℕ) (text : List ℕ)
-    : Type 0 where
+-- What is told explains the verdict on the bytes, with the walk of its evidence.
+pub record IsToldOf (G : Table) (reach : Reach) (bytes : List ℕ) (t : Told) : Type 0 where
+  pub explains : IsExplanation Short G reach bytes t.explanation
+  pub walks : IsWalk Short G reach bytes t.explanation t.walk.items
+
+-- The text is written with what is told of the fault of this explanation, and with this walk.
+pub record IsWrittenBy (how : View) (G : Table) (reach : Reach) (m : Module) (e : Explanation) (walk : List ℕ)
+    (function : Option ℕ) (text : List ℕ) : Type 0 where
   pub finding : Option Finding
-  pub of : IsFindingOf e finding
-  pub written : IsWritten how G m finding function text
+  pub of : IsFindingOf e walk finding
+  pub written : IsWritten how G reach m finding function text
 
 -- A function is asked for, and by the verdict functions cannot be told apart; or they can.
 abbrev pub IsMislaid : Option Chosen → Judgment → Type 0

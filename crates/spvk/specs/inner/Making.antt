@@ -12,4 +12,4 @@ use Rattle.spvk.specs.declared.text.Text.{Text}
 abbrev pub IsMade : Making → Table → Reach → List ℕ → Text → Type 0
 IsMade Lines G reach bytes t = IsExplaining G reach bytes t
 IsMade Object G reach bytes t = IsTelling G reach bytes t
-IsMade Shown G reach bytes t = IsShowing G bytes t
+IsMade Shown G reach bytes t = IsShowing G reach bytes t

@@ -6,7 +6,7 @@ pub returns : goal.returns
 returns c = record {
   kernel = λ e. (has_kernel, has_no_other 1 (λ e. absurd (omega (arith, e))) (λ e. absurd (omega (arith, e))));
   no_kernel = λ k. has_no_kernel (k refl).0;
-  capable = record { entry = inr (inl has_kernel); operands = (tt, tt); widths = inl refl };
+  capable = record { entry = inr (inl has_kernel); operands = (tt, tt); needs = tt };
   not_capable = λ k. elim k.entry [ inl e ↦ cc | inr n ↦ elim n [ inl h ↦ has_no_kernel h | inr z ↦ z ] ];
   linkage = λ e. inr has_linkage;
   no_linkage = λ k. elim (k refl) [

@@ -1,6 +1,7 @@
 use Rattle.std.proofs.Common.{◌≡◌, Some, refl, inl, inr, arith}
 use Rattle.spv_capabilities.specs.Capable.{IsCoveredMask}
-use Rattle.spv_capabilities.proofs.Worked.{has_kernel, has_vectors, has_no_other, has_no_kernel}
+use Rattle.spv_capabilities.proofs.Worked.{has_kernel, has_vectors, has_images, no_read_write}
+use Rattle.spv_capabilities.proofs.Worked.{has_no_other, has_no_kernel}
 use Rattle.spv_capabilities.proofs.laws.covered_examples.Goals as goal
 
 pub returns : goal.returns
@@ -16,14 +17,15 @@ returns c = record {
   ];
   no_bit = λ o. tt;
   capability = λ o. absurd (o refl);
-  vector = inr (inl has_vectors);
-  short = λ h. elim h [
-    | inl e ↦ cc
-    | inr n ↦
-        elim n [
-          | inl k ↦ has_no_other 22 (λ e. absurd (omega (arith, e))) (λ e. absurd (omega (arith, e))) k
-          | inr z ↦
-              z
-        ]
+  vector = (inl has_vectors, tt);
+  short = λ h. elim h.0 [
+    | inl k ↦ has_no_other 22 (λ e. absurd (omega (arith, e))) (λ e. absurd (omega (arith, e))) k
+    | inr z ↦ z
   ];
+  image = (inl has_images, tt);
+  sampler = λ h. elim h.0 [
+    | inl k ↦ has_no_other 13 (λ e. absurd (omega (arith, e))) (λ e. absurd (omega (arith, e))) k
+    | inr z ↦ z
+  ];
+  read_write = λ h. elim h.1.0 [ inl k ↦ no_read_write k | inr z ↦ z ];
 }

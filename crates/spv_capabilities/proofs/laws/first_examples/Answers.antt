@@ -1,4 +1,4 @@
-use Rattle.std.proofs.Common.{[], ◌∷◌, refl, inl, arith, lit<}
+use Rattle.std.proofs.Common.{[], ◌∷◌, refl, inl, inr, arith, lit<}
 use Rattle.spv_module.specs.Operand.{Result}
 use Rattle.spv_module.specs.declared.fault.Rule.TheVariants as rule
 use Rattle.spv_module.specs.declared.opcode.TheConstants as opcode
@@ -14,12 +14,12 @@ returns c = record {
   some = λ k. has_no_kernel (k rule.C1 refl).0;
   none = all_kept small linked 0 (inst opcode.TYPE_VOID (Result 1 ∷ []))
       (λ e. absurd (omega (arith, e)))
-      (record { entry = tt; operands = (tt, tt); widths = inl refl })
+      (record { entry = tt; operands = (tt, tt); needs = tt })
       (λ e. absurd (omega (arith, e)))
       (λ e. absurd (omega (arith, e)))
       (record {
         entry = λ e. absurd (omega (arith, e));
-        mode = λ e. absurd (omega (arith, e));
+        mode = λ e. absurd (elim e [ inl q ↦ omega (arith, q) | inr q ↦ omega (arith, q) ]);
         linkage = λ e. absurd (omega (arith, e));
       });
 }

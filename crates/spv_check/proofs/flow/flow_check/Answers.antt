@@ -8,14 +8,15 @@ use Rattle.spv_check.proofs.flow.flow_check.Goals as goal
 pub returns-in_err-check_branches-clause-refused : goal.returns-in_err-check_branches-clause-refused
 returns-in_err-check_branches-clause-refused c = λ G p a.
     let q = err_from_is_err_and c.from_residual.result c.from_residual.ensures.1 in
-    rw (q.1, q.2) (by_branches G (plain_insts c.args.module.now) _ (c.in_err-check_branches.ensures.refused G p a))
+    rw (q.1, q.2) (by_branches c.args.fork G (plain_insts c.args.module.now) _
+    (c.in_err-check_branches.ensures.refused G p a))
 
 pub returns-in-Some-clause-refused : goal.returns-in-Some-clause-refused
 returns-in-Some-clause-refused c = λ G p a.
     let u = c.in_ok-check_branches.ensures.unbroken G p a in
-    let v = c.in_ok-check_values.ensures.unbroken G p a u in
+    let v = c.in_ok-check_values.ensures.unbroken c.args.fork G p a u in
     let f = rw c.in-Some.is at c.in_ok-call.ensures.first in
-    by_calls G (plain_insts c.args.module.now) c.stop_at.result c.in-Some.call u v f
+    by_calls c.args.fork G (plain_insts c.args.module.now) c.stop_at.result c.in-Some.call u v f
     (c.stop_at.ensures (plain_insts c.args.module.now) p.place)
 
 pub count_definitions-requires-clause-few : goal.count_definitions-requires-clause-few

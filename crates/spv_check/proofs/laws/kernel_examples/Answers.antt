@@ -10,9 +10,9 @@ pub returns : goal.returns
 returns c = record {
   sound = sound;
   kept = kept;
-  not_kept = λ G bound k. k.calls G1 8 refl inside;
+  not_kept = λ G reach bound k. k.calls G1 8 refl inside;
   parts = parts;
-  other_parts = λ G m places ids flow e a. let b : m.header.bound ≡ 6 = a.bound in omega (arith, e, b);
+  other_parts = λ G reach m places ids flow e a. let b : m.header.bound ≡ 6 = a.bound in omega (arith, e, b);
   checked = checked;
   other_bound = λ k. let e : 6 ≡ 5 = k.bound in omega (arith, e);
   valid = valid;

@@ -4,7 +4,7 @@ use Rattle.spv_module.specs.Module.{plain_insts}
 use Rattle.spv_layout.specs.Place.{IsShort}
 use Rattle.spv_check.proofs.Readings.{KeepsWords, opened_short}
 use Rattle.spv_check.proofs.reading.read.Goals as goal
-use Rattle.spv_check.proofs.reading.read.Goals.{in-Profile, in-Extended+in_ok-open-in-Extended}
+use Rattle.spv_check.proofs.reading.read.Goals.{then-opens+in_ok-open, else-opens}
 
 pub returns-clause-short : goal.returns-clause-short
 returns-clause-short c =
@@ -19,8 +19,7 @@ returns-clause-short c =
       count = c.opening_keeps.ensures.count;
       words = c.opening_keeps.ensures.sums _ (λ x. refl) (λ x. refl);
     } in
-    elim c.match-reach.branch [
-      | in-Profile w ↦ rw w.module-is short
-      | in-Extended+in_ok-open-in-Extended w ↦
-          rw (w.module-is, w.in_ok-open-in-Extended.ensures.opened) (opened_short law is short)
+    elim c.if-opens.branch [
+      | then-opens+in_ok-open w ↦ rw (w.module-is, w.in_ok-open.ensures.opened) (opened_short law is short)
+      | else-opens w ↦ rw w.module-is short
     ]

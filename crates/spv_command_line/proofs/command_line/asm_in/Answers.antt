@@ -12,4 +12,4 @@ returns-in_default c = λ environment e.
 pub returns : goal.returns
 returns c = λ environment e.
     let out : first_of (codes "out") (rows_of (found_of c.args.found.now)) ≡ Some c.in-Some.out.now = sym (first_value-rows (found_of c.args.found.now) (codes "out")) ∙ sym c.in-Some.ensures in
-    (e, out, c.is_set.ensures, c.is_set-2.ensures)
+    (e, out, c.is_set.ensures, c.is_set-2.ensures, c.is_set-3.ensures)

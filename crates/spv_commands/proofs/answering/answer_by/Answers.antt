@@ -3,10 +3,9 @@ use Rattle.spv_commands.proofs.answering.answer_by.Goals as goal
 
 pub returns-in-Ok : goal.returns-in-Ok
 returns-in-Ok c = λ text given.
-    let does = rw (c.take_as.ensures, c.is_as_1_6.ensures) at c.reply_to.ensures.does in
-    let why = rw (c.take_as.ensures, c.is_as_1_6.ensures) at c.reply_to.ensures.why in
-    rw c.in-Ok.is (answers_bytes c.args.command.now text c.args.table.now c.in-Ok.bytes.items _ given does why)
+    rw c.in-Ok.is (answers_bytes c.args.command.now text c.args.table.now c.in-Ok.bytes.items _ given
+    c.reply_to.ensures.does c.reply_to.ensures.why)
 
 pub returns-in-Err : goal.returns-in-Err
-returns-in-Err c = λ text given. rw (c.in-Err.is, c.from.ensures)
-    (answers_unread c.args.command.now text c.args.table.now c.in-Err.why given)
+returns-in-Err c = λ text given. rw (c.in-Err.is, c.file_trouble.ensures)
+    (answers_unread c.args.command.now text c.args.table.now c.in-Err.trouble given)

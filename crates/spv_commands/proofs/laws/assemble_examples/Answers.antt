@@ -5,7 +5,7 @@ use Rattle.spv_commands.proofs.laws.assemble_examples.Goals as goal
 pub returns : goal.returns
 returns c = record {
   assembles = short_assembled;
-  assembles_none = λ G o explain old new held kept. short_unmade G o explain old new held kept _ refl;
+  assembles_none = λ G o explain opencl old new held kept. short_unmade G o explain opencl old new held kept _ refl;
   begins = short_begun;
   begins_none = nothing_begun;
 }

@@ -5,8 +5,8 @@ use Rattle.spv_commands.proofs.laws.show_examples.Goals as goal
 
 pub returns : goal.returns
 returns c = record {
-  shows = λ G. short_shown G c.examples.ensures.size_first;
-  shows_text = λ G new t. no_text G _ t.output _ refl
+  shows = λ G reach. short_shown G reach c.examples.ensures.size_first;
+  shows_text = λ G reach new t. no_text G reach _ t.output _ refl
       (λ o ws h. c.one_refusal.ensures.never W2 o _ ws h c.examples.ensures.size_first) t.showing;
-  begins = λ G. short_begun_showing G c.examples.ensures.size_first;
+  begins = λ G reach. short_begun_showing G reach c.examples.ensures.size_first;
 }

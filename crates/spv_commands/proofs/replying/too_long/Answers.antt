@@ -15,5 +15,5 @@ returns-clause-gives c = λ G bytes reads h.
     let explains : is_explaining c.args.command.now ≡ true =
     cc (c.is_explaining.ensures, c.if-not-is_explaining.false) in
     too_long_explained c.args.command.now G bytes c.explaining.result explains
-    (λ detail reach. c.explaining.ensures.gives detail G reach bytes
-    (c.in_ok-explanation.ensures.explains detail G reach bytes h))
+    (λ detail reach read long. c.explaining.ensures.gives detail G reach read
+    (c.in_ok-explanation.ensures.explains detail G reach read long)) h

@@ -7,16 +7,16 @@ use Rattle.spv_commands.proofs.replying.viewed.Goals as goal
 
 pub returns-in-Err-clause-gives : goal.returns-in-Err-clause-gives
 returns-in-Err-clause-gives c =
-    gives (Views c.args.how c.args.table.now c.args.function) c.args.bytes.items
+    gives (Views c.args.how c.args.table.now c.args.reach c.args.function) c.args.bytes.items
     (refused_line c.in-Err.code) false c.fault.result c.fault.ensures.out c.fault.ensures.done c.fault.ensures.made
-    (views_refused c.args.how c.args.table.now c.args.function c.args.bytes.items c.in-Err.code
+    (views_refused c.args.how c.args.table.now c.args.reach c.args.function c.args.bytes.items c.in-Err.code
     c.one_refusal.ensures.never c.in-Err.ensures.refused)
 
 pub returns-in-Ok-Text-clause-gives : goal.returns-in-Ok-Text-clause-gives
 returns-in-Ok-Text-clause-gives c =
     let viewing = rw c.in-Ok-Text.field-0-is at
     (c.in-Ok-Text.ensures.viewed c.args.bytes.items c.in-Ok.field-0-1 c.in-Ok.ensures.gives) in (
-      rw c.into_bytes.ensures.value (views_it c.args.how c.args.table.now c.args.function c.args.bytes.items _ _
+      rw c.into_bytes.ensures.value (views_it c.args.how c.args.table.now c.args.reach c.args.function c.args.bytes.items _ _
           viewing),
       refl,
     )
@@ -26,7 +26,7 @@ returns-in-Ok-Beginning-clause-gives c =
     let viewing = rw c.in-Ok-Beginning.field-0-is at
     (c.in-Ok-Beginning.ensures.viewed c.args.bytes.items c.in-Ok.field-0-1 c.in-Ok.ensures.gives) in (
       rw c.into_bytes-in-Ok-Beginning.ensures.value
-          (views_it c.args.how c.args.table.now c.args.function c.args.bytes.items _ _ viewing),
+          (views_it c.args.how c.args.table.now c.args.reach c.args.function c.args.bytes.items _ _ viewing),
       refl,
     )
 
@@ -34,9 +34,9 @@ pub returns-in-Ok-Line-clause-gives : goal.returns-in-Ok-Line-clause-gives
 returns-in-Ok-Line-clause-gives c =
     let viewing = rw c.in-Ok-Line.field-0-is at
     (c.in-Ok-Line.ensures.viewed c.args.bytes.items c.in-Ok.field-0-1 c.in-Ok.ensures.gives) in
-    gives (Views c.args.how c.args.table.now c.args.function) c.args.bytes.items (line_of c.in-Ok-Line.judgment) false _
+    gives (Views c.args.how c.args.table.now c.args.reach c.args.function) c.args.bytes.items (line_of c.in-Ok-Line.judgment) false _
     c.fault-in-Ok-Line.ensures.out c.fault-in-Ok-Line.ensures.done c.fault-in-Ok-Line.ensures.made
-    (views_it c.args.how c.args.table.now c.args.function c.args.bytes.items _ _ viewing)
+    (views_it c.args.how c.args.table.now c.args.reach c.args.function c.args.bytes.items _ _ viewing)
 
 pub returns-in-Err-NoFunction-clause-only : goal.returns-in-Err-NoFunction-clause-only
 returns-in-Err-NoFunction-clause-only c =

@@ -1,6 +1,6 @@
 use Rattle.std.proofs.Common.{◌≡◌}
 use Rattle.spv_commands.specs.declared.trouble.Trouble.TheVariants as trouble
-use Rattle.spv_commands.proofs.Tracings.{by_profile, checked_by, fault_traced, has_several, lacks_id}
+use Rattle.spv_commands.proofs.Tracings.{checked_by, fault_traced, has_several, lacks_id}
 use Rattle.spv_commands.proofs.Tracings.{only_two, run_traced}
 use Rattle.spv_commands.proofs.tracing.traced_of.Goals as goal
 
@@ -35,6 +35,4 @@ returns-in-Ok-trace-clause-traced c = λ bytes order h.
     c.in-Ok-Valid.field-0-is c.in-Ok-Valid.ensures.verdict in
     run_traced c.args.table.now c.args.reach c.args.function c.args.choices.now c.args.limit bytes c.args.image.now
     order c.in-Ok-Valid.checked c.in-Ok.id c.in-Ok-trace.run' h checked c.in-Ok.ensures.id
-    (c.in-Ok-trace.ensures.each c.args.table.now
-    (by_profile c.args.table.now c.args.reach c.in-Ok-Valid.checked.bound c.in-Ok-Valid.checked.insts
-    checked.sound))
+    (c.in-Ok-trace.ensures.each c.args.table.now c.args.reach checked.sound)

@@ -1,6 +1,7 @@
 use Rattle.std.proofs.Common.{refl}
 use Rattle.spv_module.specs.Module.{plain_insts}
 use Rattle.spv_module.specs.declared.fault.Stop.TheVariants as stop
+use Rattle.spv_check.specs.Fork.{fork_of}
 use Rattle.spv_explain.proofs.Shown.{extended_shown, id_shown, layout_shown, refused_broken, the_miscall}
 use Rattle.spv_explain.proofs.evidence.evidence_of.Goals as goal
 
@@ -10,54 +11,57 @@ layout_evidence-requires c =
     let is = plain_insts c.args.module.now in
     let f = c.args.fault in
     let r = rw c.in-Decoded.is at c.requires.refused in
-    record { broken = (G, refused_broken G is (stop.Fault f) f refl r.1) }
+    record { broken = (G, rw c.profile_of.ensures (refused_broken c.args.reach G is (stop.Fault f) f refl r)) }
 
 pub returns-in_ok-layout_evidence-in-Decoded : goal.returns-in_ok-layout_evidence-in-Decoded
-returns-in_ok-layout_evidence-in-Decoded c = λ reach refused.
+returns-in_ok-layout_evidence-in-Decoded c =
     let G = c.args.table.now in
+    let reach = c.args.reach in
     let is = plain_insts c.args.module.now in
     let f = c.args.fault in
-    let r = rw c.in-Decoded.is at refused in
-    layout_shown G reach _ is f _ (c.in_ok-layout_evidence-in-Decoded.ensures G
-    (refused_broken G is (stop.Fault f) f refl r))
+    let r = rw c.in-Decoded.is at c.requires.refused in
+    let shown = rw c.profile_of.ensures at c.in_ok-layout_evidence-in-Decoded.ensures in
+    layout_shown G reach _ is f _ (shown G (refused_broken reach G is (stop.Fault f) f refl r))
 
 pub id_evidence-requires-clause-first : goal.id_evidence-requires-clause-first
 id_evidence-requires-clause-first c =
     let r = rw c.in-Placed.is at c.requires.refused in
-    (c.args.table.now, r.1.0, r.1.1.0)
+    (c.args.table.now, r.0, r.1.0)
 
 pub returns-in_ok-id_evidence-in-Placed : goal.returns-in_ok-id_evidence-in-Placed
-returns-in_ok-id_evidence-in-Placed c = λ reach refused.
-    let r = rw c.in-Placed.is at refused in
-    id_shown c.args.table.now reach _ _ c.args.fault _ (c.in_ok-id_evidence-in-Placed.ensures c.args.table.now r.0)
+returns-in_ok-id_evidence-in-Placed c =
+    let r = rw c.in-Placed.is at c.requires.refused in
+    id_shown c.args.table.now c.args.reach _ _ c.args.fault _
+    (c.in_ok-id_evidence-in-Placed.ensures c.args.table.now r.0)
 
 pub typing_evidence-requires-clause-plan : goal.typing_evidence-requires-clause-plan
-typing_evidence-requires-clause-plan c = let r = rw c.in-Numbered.is at c.requires.refused in r.1.0
+typing_evidence-requires-clause-plan c = let r = rw c.in-Numbered.is at c.requires.refused in r.0
 
 pub typing_evidence-requires-clause-ids : goal.typing_evidence-requires-clause-ids
-typing_evidence-requires-clause-ids c = let r = rw c.in-Numbered.is at c.requires.refused in r.1.1
+typing_evidence-requires-clause-ids c = let r = rw c.in-Numbered.is at c.requires.refused in r.1
 
 pub typing_evidence-requires-clause-refused : goal.typing_evidence-requires-clause-refused
-typing_evidence-requires-clause-refused c = let r = rw c.in-Numbered.is at c.requires.refused in r.1.2
+typing_evidence-requires-clause-refused c = let r = rw c.in-Numbered.is at c.requires.refused in r.2
 
 pub flow_evidence-requires-clause-known : goal.flow_evidence-requires-clause-known
 flow_evidence-requires-clause-known c =
     let r = rw c.in-Typed.is at c.requires.refused in
-    (c.args.table.now, r.1.0, r.1.1, r.1.2.0)
+    (fork_of c.args.reach, c.args.table.now, r.0, r.1, r.2.0)
 
 pub returns-in-Typed : goal.returns-in-Typed
-returns-in-Typed c = λ reach refused.
-    let r = rw c.in-Typed.is at refused in
-    c.flow_evidence.ensures c.args.table.now reach r.0 r.1 r.2.0
+returns-in-Typed c =
+    let r = rw c.in-Typed.is at c.requires.refused in
+    c.flow_evidence.ensures c.args.table.now c.args.reach r.0 r.1 r.2.0
 
 pub extended_evidence-requires : goal.extended_evidence-requires
 extended_evidence-requires c =
     let is = plain_insts c.args.module.now in
     let r = rw c.in-Sound.is at c.requires.refused in
-    record { broken = (the_miscall r.0 is c.args.fault.rule c.args.fault.inst r.1.0.broken).2 }
+    record { broken = (the_miscall c.args.reach is c.args.fault.rule c.args.fault.inst r.0.broken).2 }
 
 pub returns-in_ok-extended_evidence-in-Sound : goal.returns-in_ok-extended_evidence-in-Sound
-returns-in_ok-extended_evidence-in-Sound c = λ reach refused.
+returns-in_ok-extended_evidence-in-Sound c =
     let is = plain_insts c.args.module.now in
-    let r = rw c.in-Sound.is at refused in
-    extended_shown c.args.table.now reach _ is c.args.fault _ r.0.broken c.in_ok-extended_evidence-in-Sound.ensures
+    let r = rw c.in-Sound.is at c.requires.refused in
+    extended_shown c.args.table.now c.args.reach _ is c.args.fault _ r.0.broken
+    c.in_ok-extended_evidence-in-Sound.ensures

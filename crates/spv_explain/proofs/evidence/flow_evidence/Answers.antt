@@ -1,14 +1,15 @@
 use Rattle.std.proofs.Common.{◌∙◌, sym}
 use Rattle.spv_module.specs.Module.{plain_insts}
+use Rattle.spv_check.specs.Fork.{fork_of}
 use Rattle.spv_explain.proofs.Stages.{branches_of, the_call, values_of}
 use Rattle.spv_explain.proofs.Shown.{branch_shown, call_shown, walk_shown}
 use Rattle.spv_explain.proofs.evidence.flow_evidence.Goals as goal
 
 pub returns-then-is_of_values : goal.returns-then-is_of_values
 returns-then-is_of_values c = λ G reach plan ids first.
-    let v = values_of G (plain_insts c.args.module.now) c.args.fault.rule c.args.fault.inst
+    let v = values_of (fork_of reach) G (plain_insts c.args.module.now) c.args.fault.rule c.args.fault.inst
     (sym c.is_of_values.ensures ∙ c.if-is_of_values.true) first in
-    walk_shown G reach _ _ c.args.fault _ (c.in_ok-walk_evidence.ensures G plan ids v.0)
+    walk_shown G reach _ _ c.args.fault _ (c.in_ok-walk_evidence.ensures (fork_of reach) G plan ids v.0)
 
 pub returns-then-is_of_calls : goal.returns-then-is_of_calls
 returns-then-is_of_calls c = λ G reach plan ids first.
@@ -18,6 +19,6 @@ returns-then-is_of_calls c = λ G reach plan ids first.
 pub returns : goal.returns
 returns c = λ G reach plan ids first.
     branch_shown G reach _ _ c.args.fault _
-    (c.in_ok-branch_evidence.ensures G plan
-    (branches_of G (plain_insts c.args.module.now) c.args.fault.rule c.args.fault.inst
+    (c.in_ok-branch_evidence.ensures (fork_of reach) G plan
+    (branches_of (fork_of reach) G (plain_insts c.args.module.now) c.args.fault.rule c.args.fault.inst
     (sym c.is_of_values.ensures ∙ c.if-is_of_values.false) (sym c.is_of_calls.ensures ∙ c.if-is_of_calls.false) first))

@@ -32,7 +32,7 @@ evidence_of-requires-clause-refused c =
     let reach = c.args.reach in
     let m = c.in-Ok.module in
     let j = subst (λ j. IsJudged G reach m.header.bound (plain_insts m) j) c.in-Broken.is c.in_ok-checked.ensures in
-    (reach, rw (j.same_bound, j.same_insts) j.refused)
+    rw (j.same_bound, j.same_insts) j.refused
 
 pub spelled-requires : goal.spelled-requires
 spelled-requires c =
@@ -55,5 +55,5 @@ returns-in_ok-spelled-in-Broken c =
     let j = subst (λ j. IsJudged G reach m.header.bound (plain_insts m) j) c.in-Broken.is c.in_ok-checked.ensures in
     broken_reading c.one_listing.ensures G reach c.args.image.now m c.in-Broken.module _ c.in-Broken.fault _ _
     c.in-Ok.ensures.header
-    c.in-Ok.ensures.found j (c.in_ok-evidence-in-Broken.ensures reach (rw (j.same_bound, j.same_insts) j.refused))
+    c.in-Ok.ensures.found j c.in_ok-evidence-in-Broken.ensures
     c.in_ok-spelled-in-Broken.ensures.listing c.in_ok-spelled-in-Broken.ensures.header

@@ -1,8 +1,11 @@
-use Rattle.std.proofs.Common.{◌-◌, ℕ, Ok, arith, drop, length-drop, subst}
+use Rattle.std.proofs.Common.{◌-◌, ℕ, Ok, ap, arith, drop, length-drop, subst}
+use Rattle.spv_extended.specs.Reach.{opens}
 use Rattle.spv_module.specs.Module.{plain_insts}
 use Rattle.spv_check.proofs.Verdicts.{Laws}
 use Rattle.spv_explain.specs.inner.Reading.{IsExplained}
-use Rattle.spv_explain.proofs.Tellings.{as_spelled, broken_told, dead_told, few_insts, some_module, valid_told}
+use Rattle.spv_explain.proofs.Tellings.{as_spelled, broken_told, dead_told, few_insts, no_walk_told, some_module}
+use Rattle.spv_explain.proofs.Tellings.{valid_told, walk_told}
+use Rattle.spv_explain.specs.Stream.{IsWalk}
 use Rattle.spv_explain.proofs.stream.told_of.Goals as goal
 
 pub returns-in-Ok-Valid : goal.returns-in-Ok-Valid
@@ -24,9 +27,11 @@ returns-in-Ok-Valid c =
           valid_told laws c.args.detail G reach bytes words order c.in-Ok-Valid.checked c.valid_told.result.explanation
           h r
           c.valid_told.ensures.verdict c.valid_told.ensures.lines;
+      walk = λ bytes order h. no_walk_told c.args.detail G reach bytes c.valid_told.result.explanation _
+          c.valid_told.ensures.walk (IsWalk.valid c.valid_told.ensures.verdict);
       decoded = λ e.
           some_module G words c.in-Ok-Valid.checked.insts c.valid_told.result.«module» c.valid_told.ensures.decoded
-          (as_spelled G reach c.in-Ok-Valid.checked.insts (drop 5 words) e r.reading);
+          (as_spelled G reach c.in-Ok-Valid.checked.insts (drop 5 words) (ap opens e) r.reading);
     }
 
 pub returns-in_ok-explanation-in-Ok-Malformed : goal.returns-in_ok-explanation-in-Ok-Malformed
@@ -49,6 +54,9 @@ returns-in_ok-explanation-in-Ok-Malformed c =
           dead_told {E = ℕ} laws c.args.detail G reach bytes words order f c.in-Ok-Malformed.evidence
           (Ok c.in_ok-explanation-in-Ok-Malformed.explanation) h
           r.0 r.1 c.in_ok-explanation-in-Ok-Malformed.ensures.verdict c.in_ok-explanation-in-Ok-Malformed.ensures.lines;
+      walk = λ bytes order h. no_walk_told c.args.detail G reach bytes c.in_ok-explanation-in-Ok-Malformed.explanation _
+          c.new.ensures.items (IsWalk.dead words order h
+          (λ is l. c.listed_or_dead.ensures G is (drop 5 words) f.rule f.inst (f.word - 5) l r.0.1));
       decoded = λ e is l. c.listed_or_dead.ensures G is (drop 5 words) f.rule f.inst (f.word - 5) l r.0.1;
     }
 
@@ -85,5 +93,10 @@ returns-in_ok-explanation-in-Ok-Broken c =
           m t.lines
           (Ok c.in_ok-explanation-in-Ok-Broken.explanation) h b t.shown c.in_ok-explanation-in-Ok-Broken.ensures.verdict
           (c.in_ok-explanation-in-Ok-Broken.ensures.lines t.lines t.shown);
+      walk = λ bytes order h.
+          walk_told c.args.detail G reach bytes words order c.in-Ok-Broken.fault c.in-Ok-Broken.evidence m t.lines
+          c.in_ok-explanation-in-Ok-Broken.explanation c.in_ok-walk-in-Ok-Broken.walk.items h b t.shown
+          c.in_ok-explanation-in-Ok-Broken.ensures.verdict
+          (c.in_ok-explanation-in-Ok-Broken.ensures.lines t.lines t.shown) c.in_ok-walk-in-Ok-Broken.ensures;
       decoded = λ e. record { listing = b.listing; header = b.header };
     }

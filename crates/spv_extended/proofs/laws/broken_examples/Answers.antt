@@ -15,3 +15,7 @@ returns-clause-fewer c = miscalled 2 refl (record { inst = _; there = refl; miss
 pub returns-clause-load : goal.returns-clause-load
 unfolding facts_of
 returns-clause-load c = λ r b. not_at _ 2 (call 1 171 (Id 7 ∷ Id 8 ∷ Id 4 ∷ [])) refl refl (of_call Extended _ r 2 b)
+
+pub returns-clause-opencl : goal.returns-clause-opencl
+unfolding facts_of
+returns-clause-opencl c = λ minor. miscalled 2 refl (record { inst = _; there = refl; missed = refl })

@@ -1,13 +1,12 @@
 -- An OpExtInst before %7, whose operand behind its number is %7: as a value that it takes, as an id that it names, or
--- as
--- one that is not looked at.
+-- as one that is not looked at.
 use Rattle.std.proofs.Common.{◌≡◌, ◌⊎◌, inl, inr, ℕ, zero, suc, List, [], ◌∷◌, Some, None, refl, sym, true, arith}
 use Rattle.std.specs.Prelude.{slice_get}
 use Rattle.std.proofs.lemmas.Option.{same_Some}
 use Rattle.spv_module.specs.declared.opcode.TheConstants as opcode
 use Rattle.spv_module.specs.Example.{small}
 use Rattle.spv_module.specs.Operand.{Plain, OfType, Result, Id, Word, Argument, Mention}
-use Rattle.spv_layout.specs.declared.class.Class.TheVariants.{Body}
+use Rattle.spv_layout.specs.declared.class.Class.TheVariants.{Extended}
 use Rattle.spv_layout.specs.declared.form.Form.{Form}
 use Rattle.spv_layout.specs.declared.form.Form.TheVariants as form
 use Rattle.spv_layout.specs.declared.form.Role.{Role}
@@ -22,7 +21,7 @@ use Rattle.spv_ids.specs.Definition.{IsDefinedAt}
 use Rattle.spv_flow.specs.branches.Ready.{IsMissing}
 use Rattle.spv_flow.specs.branches.Example.{function, label, negation, extended, extended_early}
 use Rattle.spv_flow.proofs.lemmas.branches.Labelled.{use_in}
-use Rattle.spv_flow.proofs.lemmas.branches.Worked.{laid_early, missed_by}
+use Rattle.spv_flow.proofs.lemmas.branches.Worked.{IsInside, laid_early, missed_by}
 
 abbrev extended_forms : List Form
 extended_forms = T ∷ R ∷ form.Id role.Set ∷ W ∷ form.Unseen ∷ []
@@ -41,7 +40,7 @@ extended_each o h =
 has_extended_forms : (o : Plain) → is_of small form.Unseen o ≡ true → HasForms small (extended o) extended_forms
 unfolding rows
 has_extended_forms o h = record {
-  row = row opcode.EXT_INST opcode.EXT_INST Body (T ∷ R ∷ form.Id role.Set ∷ W ∷ []) (repeated (form.Unseen ∷ []));
+  row = row opcode.EXT_INST opcode.EXT_INST Extended (T ∷ R ∷ form.Id role.Set ∷ W ∷ []) (repeated (form.Unseen ∷ []));
   rest = form.Unseen ∷ [];
   known = refl;
   forms = refl;
@@ -49,9 +48,12 @@ has_extended_forms o h = record {
   each = extended_each o h;
 }
 
-extended_classes : (o : Plain) → classes (extended_early o) ≡ laid_early
+extended_classes : (o : Plain) → classes (extended_early o) ≡ laid_early Extended
 unfolding rows
 extended_classes o = refl
+
+extended_inside : IsInside Extended
+extended_inside = record { begun = refl; ended = refl }
 
 -- as a value that it takes, it is used
 
@@ -68,7 +70,7 @@ argument_used = record {
 }
 
 pub argument_missed : IsMissing small (extended_early (Argument 7)) 2
-argument_missed = missed_by (extended (Argument 7)) 4 (extended_classes (Argument 7))
+argument_missed = missed_by (extended (Argument 7)) Extended 4 extended_inside (extended_classes (Argument 7))
     (λ t. let e = t in cc) argument_used
 
 -- else its type and its set are all that it uses

@@ -1,5 +1,5 @@
 -- What the small functions of the worked examples have.
-use Rattle.std.proofs.Common.{◌≡◌, ◌≤◌, ◌∙◌, ℕ, zero, suc, List, [], ◌∷◌, refl, sym, subst, arith}
+use Rattle.std.proofs.Common.{◌≡◌, ◌≤◌, ◌∙◌, ℕ, zero, suc, List, [], ◌∷◌, refl, sym, subst, true, arith}
 use Rattle.std.proofs.lemmas.Option.{same_Some}
 use Rattle.spv_module.specs.declared.opcode.TheConstants as opcode
 use Rattle.spv_module.specs.Example.{small}
@@ -28,7 +28,7 @@ use Rattle.spv_flow.specs.branches.Example.{branch, label, function, return_void
 use Rattle.spv_flow.specs.branches.Example.{paired, unpaired, negation, before_7, early, loop_merge, looped}
 use Rattle.spv_flow.proofs.lemmas.branches.Labelled.{use_in, use_within, one_id}
 use Rattle.spv_flow.proofs.lemmas.branches.Direct.{placed_at}
-use Rattle.spv_flow.proofs.lemmas.branches.Laid.{not_at, within_by}
+use Rattle.spv_flow.proofs.lemmas.branches.Laid.{lacks, not_at, within_by}
 
 -- the branch to %2
 
@@ -277,28 +277,38 @@ negation_forms r x = record {
       (AreOf.more R (Result r) (v ∷ []) (Id x ∷ []) refl (AreOf.more v (Id x) [] [] refl AreOf.none));
 }
 
-abbrev pub laid_early : List Class
-laid_early = Function ∷ Label ∷ Body ∷ Body ∷ []
+abbrev pub laid_early : Class → List Class
+laid_early c = Function ∷ Label ∷ c ∷ Body ∷ []
 
-early_classes : classes early ≡ laid_early
+-- an instruction of the class neither begins a function nor ends one
+pub record IsInside (c : Class) : Type 0 where
+  pub begun : lacks (laid_early c) (Function ∷ []) 1 4 ≡ true
+  pub ended : lacks (laid_early c) (FunctionEnd ∷ []) 0 4 ≡ true
+
+body_inside : IsInside Body
+body_inside = record { begun = refl; ended = refl }
+
+early_classes : classes early ≡ laid_early Body
 unfolding rows
 early_classes = refl
 
-of_early : (i : PlainInst) (n : ℕ) → classes (before_7 i) ≡ laid_early → n ≤ 3 → IsOfFunction (before_7 i) n 0
-of_early i n e lt = within_by (before_7 i) laid_early Function (FunctionEnd ∷ []) n 0 4 4 e (omega (arith, lt))
-    (omega arith) (omega (arith, lt)) (omega arith) refl refl refl
+of_early : (i : PlainInst) (c : Class) (n : ℕ) → IsInside c → classes (before_7 i) ≡ laid_early c → n ≤ 3
+    → IsOfFunction (before_7 i) n 0
+of_early i c n m e lt =
+    within_by (before_7 i) (laid_early c) Function (FunctionEnd ∷ []) n 0 4 4 e (omega (arith, lt))
+    (omega arith) (omega (arith, lt)) (omega arith) refl m.begun m.ended
 
-local_by : (i : PlainInst) → classes (before_7 i) ≡ laid_early → IsLocalValue (before_7 i) 7
-local_by i e = record {
+local_by : (i : PlainInst) (c : Class) → IsInside c → classes (before_7 i) ≡ laid_early c → IsLocalValue (before_7 i) 7
+local_by i c m e = record {
   local = (
     0,
     record {
       place = 3;
       defined = record { inst = negation 7 6; there = refl; result = refl };
-      of = of_early i 3 e (omega arith);
+      of = of_early i c 3 m e (omega arith);
       after = omega arith;
       before =
-          not_at (before_7 i) laid_early (FunctionEnd ∷ []) 0 4 3 e refl (omega arith) (omega arith);
+          not_at (before_7 i) (laid_early c) (FunctionEnd ∷ []) 0 4 3 e m.ended (omega arith) (omega arith);
     },
   );
   place = 3;
@@ -310,7 +320,7 @@ local_by i e = record {
 }
 
 pub local_7 : IsLocalValue early 7
-local_7 = local_by (negation 6 7) early_classes
+local_7 = local_by (negation 6 7) Body body_inside early_classes
 
 none_at_1 : (i : PlainInst) → ¬ (IsDefinedAt (before_7 i) 7 1)
 none_at_1 i d = let t = d.there in let e : label 1 ≡ d.inst = cc in let r = rw (← e) at d.result in
@@ -330,26 +340,27 @@ undefined i (zero, n, lt, e, d) = let f : n ≡ 1 = cc in at_1 i n f d
 undefined i (suc zero, n, lt, e, d) = let f : n ≡ 0 = cc in at_0 i n f d
 undefined i (suc (suc k), n, lt, e, d) = absurd (omega (arith, lt))
 
-walked : (i : PlainInst) → classes (before_7 i) ≡ laid_early → IsWalk small (before_7 i) 0 (1 ∷ 0 ∷ []) 2
-walked i e =
+walked : (i : PlainInst) (c : Class) → IsInside c → classes (before_7 i) ≡ laid_early c
+    → IsWalk small (before_7 i) 0 (1 ∷ 0 ∷ []) 2
+walked i c m e =
     let w0 : IsWalk small (before_7 i) 0 [] 0 = IsWalk.begins refl in
     let w1 : IsWalk small (before_7 i) 0 (0 ∷ []) 1 = IsWalk.goes [] 0 1 w0 (Next.follows (λ t. let e = t in cc))
-    (of_early i 1 e (omega arith)) in
-    IsWalk.goes (0 ∷ []) 1 2 w1 (Next.follows (λ t. let e = t in cc)) (of_early i 2 e (omega arith))
+    (of_early i c 1 m e (omega arith)) in
+    IsWalk.goes (0 ∷ []) 1 2 w1 (Next.follows (λ t. let e = t in cc)) (of_early i c 2 m e (omega arith))
 
 -- that instruction misses %7 where it uses it
-pub missed_by : (i : PlainInst) (k : ℕ) → classes (before_7 i) ≡ laid_early
+pub missed_by : (i : PlainInst) (c : Class) (k : ℕ) → IsInside c → classes (before_7 i) ≡ laid_early c
     → ¬ (IsOp (before_7 i) 2 (is_opcode opcode.PHI)) → IsUse small i k 7 role.Value → IsMissing small (before_7 i) 2
-missed_by i k e other u = record {
+missed_by i c k m e other u = record {
   other = other;
   function = 0;
   past = 1 ∷ 0 ∷ [];
-  walk = walked i e;
+  walk = walked i c m e;
   operand = k;
   id = 7;
   role = role.Value;
   used = record { inst = i; there = refl; used = u };
-  local = local_by i e;
+  local = local_by i c m e;
   undefined = undefined i;
 }
 
@@ -366,7 +377,7 @@ negation_used = record {
 }
 
 pub missed : IsMissing small early 2
-missed = missed_by (negation 6 7) 2 early_classes (λ t. let e = t in cc) negation_used
+missed = missed_by (negation 6 7) Body 2 body_inside early_classes (λ t. let e = t in cc) negation_used
 
 -- a label has no type
 label_2 : (m : ℕ) → IsDefinedAt two_blocks 2 m → m ≡ 3

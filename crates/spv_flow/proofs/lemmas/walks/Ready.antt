@@ -12,6 +12,7 @@ use Rattle.spv_layout.specs.First.{stage_of, IsUnbroken}
 use Rattle.spv_ids.specs.Definition.{IsDefinedAt}
 use Rattle.spv_flow.specs.branches.Walk.{IsResultAmong}
 use Rattle.spv_flow.specs.branches.Ready.{IsMissing, IsPairMissing, IsReady}
+use Rattle.spv_flow.specs.declared.branches.fork.Fork.{Fork}
 use Rattle.spv_flow.specs.branches.Broken.{Broken}
 use Rattle.spv_flow.proofs.lemmas.walks.Staged.{IsStaged, staged}
 use Rattle.spv_flow.proofs.lemmas.walks.Lists.{any_cons, any_head, any_tail, any_none}
@@ -53,8 +54,9 @@ among_or_not is (n ∷ past) x = elim (defined_or_not is x n) [
   ]
 ]
 
-pub ready : (G : Table) (is : List PlainInst) → IsUnbroken (Broken G is) of_values → (n : ℕ) → IsReady G is n
-ready G is u n = record {
+pub ready : (fork : Fork) (G : Table) (is : List PlainInst) → IsUnbroken (Broken fork G is) of_values → (n : ℕ)
+    → IsReady G is n
+ready fork G is u n = record {
   uses = λ other f past k x r walk used local. elim (among_or_not is past x) [
     | inl a ↦ a
     | inr undefined ↦ (
@@ -97,5 +99,6 @@ refuted G is h _ _ s (IsStaged.missing n m) = m.undefined
 refuted G is h _ _ s (IsStaged.pair_missing n m) = m.undefined
     ((h n).pairs m.phi m.value m.parent m.before m.pair m.comes m.local)
 
-pub unbroken : (G : Table) (is : List PlainInst) → ((n : ℕ) → IsReady G is n) → IsUnbroken (Broken G is) of_values
-unbroken G is h r n s b = refuted G is h r n s (staged G is r n b)
+pub unbroken : (fork : Fork) (G : Table) (is : List PlainInst) → ((n : ℕ) → IsReady G is n)
+    → IsUnbroken (Broken fork G is) of_values
+unbroken fork G is h r n s b = refuted G is h r n s (staged fork G is r n b)

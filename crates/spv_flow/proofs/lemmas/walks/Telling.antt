@@ -17,6 +17,7 @@ use Rattle.spv_ids.specs.inner.Outcome.{IsStopAt}
 use Rattle.spv_flow.specs.branches.Target.{IsOp}
 use Rattle.spv_flow.specs.branches.inner.Target.{is_function}
 use Rattle.spv_flow.specs.branches.Walk.{IsWalk}
+use Rattle.spv_flow.specs.declared.branches.fork.Fork.{Fork}
 use Rattle.spv_flow.specs.branches.Broken.{Broken}
 use Rattle.spv_flow.proofs.lemmas.branches.Firsts.{holds}
 use Rattle.spv_flow.proofs.lemmas.branches.Labelled.{op_tells}
@@ -137,14 +138,16 @@ staged_unavailable G is _ _ s (IsStaged.branches q n e) = absurd (omega (arith, 
 staged_unavailable G is _ _ s (IsStaged.missing n m) = inl m
 staged_unavailable G is _ _ s (IsStaged.pair_missing n m) = inr m
 
-broken_unavailable : (G : Table) (is : List PlainInst) (q : Rule) (n : ℕ) → stage_of q ≡ of_values → Broken G is q n
+broken_unavailable : (fork : Fork) (G : Table) (is : List PlainInst) (q : Rule) (n : ℕ) → stage_of q ≡ of_values
+    → Broken fork G is q n
     → IsUnavailableAt G is n
-broken_unavailable G is q n s b = staged_unavailable G is q n s (staged G is q n b)
+broken_unavailable fork G is q n s b = staged_unavailable G is q n s (staged fork G is q n b)
 
-unavailable_broken : (G : Table) (is : List PlainInst) (r : Rule) (n : ℕ) → IsRuleAt is n r → IsUnavailableAt G is n
-    → (stage_of r ≡ of_values) × Broken G is r n
-unavailable_broken G is r n at (inl m) = (let e = at.other m.other in rw e (refl, Broken.missing n m))
-unavailable_broken G is r n at (inr m) = (let e = at.phi m.phi in rw e (refl, Broken.pair_missing n m))
+unavailable_broken : (fork : Fork) (G : Table) (is : List PlainInst) (r : Rule) (n : ℕ) → IsRuleAt is n r
+    → IsUnavailableAt G is n
+    → (stage_of r ≡ of_values) × Broken fork G is r n
+unavailable_broken fork G is r n at (inl m) = (let e = at.other m.other in rw e (refl, Broken.missing n m))
+unavailable_broken fork G is r n at (inr m) = (let e = at.phi m.phi in rw e (refl, Broken.pair_missing n m))
 
 staged_rank : (G : Table) (is : List PlainInst) (r q : Rule) (n : ℕ) → IsRuleAt is n r → stage_of q ≡ of_values
     → IsStaged G is q n → rank_of r ≤ rank_of q
@@ -152,35 +155,39 @@ staged_rank G is r _ _ at s (IsStaged.branches q n e) = absurd (omega (arith, s,
 staged_rank G is r _ _ at s (IsStaged.missing n m) = (let e = at.other m.other in rw e (omega arith))
 staged_rank G is r _ _ at s (IsStaged.pair_missing n m) = (let e = at.phi m.phi in rw e (omega arith))
 
-rank_first : (G : Table) (is : List PlainInst) (r q : Rule) (n : ℕ) → IsRuleAt is n r → stage_of q ≡ of_values
-    → Broken G is q n → rank_of r ≤ rank_of q
-rank_first G is r q n at s b = staged_rank G is r q n at s (staged G is q n b)
+rank_first : (fork : Fork) (G : Table) (is : List PlainInst) (r q : Rule) (n : ℕ) → IsRuleAt is n r
+    → stage_of q ≡ of_values
+    → Broken fork G is q n → rank_of r ≤ rank_of q
+rank_first fork G is r q n at s b = staged_rank G is r q n at s (staged fork G is q n b)
 
-pub unbroken_by : (G : Table) (is : List PlainInst) → IsFirstOf G is None → IsUnbroken (Broken G is) of_values
-unbroken_by G is none = λ r n s b. none n (broken_unavailable G is r n s b)
+pub unbroken_by : (fork : Fork) (G : Table) (is : List PlainInst) → IsFirstOf G is None
+    → IsUnbroken (Broken fork G is) of_values
+unbroken_by fork G is none = λ r n s b. none n (broken_unavailable fork G is r n s b)
 
-first_broken : (G : Table) (is : List PlainInst) (r : Rule) (n : ℕ) → IsRuleAt is n r → IsFirstOf G is (Some n)
-    → IsFirst (Broken G is) of_values r n
-first_broken G is r n at first = record {
-  of_stage = (unavailable_broken G is r n at first.0).0;
-  broken = (unavailable_broken G is r n at first.0).1;
+first_broken : (fork : Fork) (G : Table) (is : List PlainInst) (r : Rule) (n : ℕ) → IsRuleAt is n r
+    → IsFirstOf G is (Some n)
+    → IsFirst (Broken fork G is) of_values r n
+first_broken fork G is r n at first = record {
+  of_stage = (unavailable_broken fork G is r n at first.0).0;
+  broken = (unavailable_broken fork G is r n at first.0).1;
   least = λ q m s b. elim (cases_order n m) [
-    | inl here ↦ inr (here, rank_first G is r q n at s (subst (λ (k : ℕ). Broken G is q k) (sym here) b))
+    | inl here ↦ inr (here, rank_first fork G is r q n at s (subst (λ (k : ℕ). Broken fork G is q k) (sym here) b))
     | inr apart ↦ elim apart [
       | inl less ↦ inl less
       | inr more ↦
-          absurd (first.1 m more (broken_unavailable G is q m s b))
+          absurd (first.1 m more (broken_unavailable fork G is q m s b))
     ]
   ];
 }
 
-pub told : (G : Table) (is : List PlainInst) (r : Rule) (n : ℕ) (stop : Stop) → IsRuleAt is n r
-    → IsFirstOf G is (Some n) → IsStopAt is r n stop → IsRefusal G is stop
-told G is r n Memory at first h = absurd h
-told G is r n (Fault f) at first (e, where_at, word) =
-    let one : IsFirst (Broken G is) of_values f.rule n = subst (λ (q : Rule). IsFirst (Broken G is) of_values q n)
-    (sym e) (first_broken G is r n at first) in (
-      subst (λ (m : ℕ). IsFirst (Broken G is) of_values f.rule m) (sym where_at) one,
+pub told : (fork : Fork) (G : Table) (is : List PlainInst) (r : Rule) (n : ℕ) (stop : Stop) → IsRuleAt is n r
+    → IsFirstOf G is (Some n) → IsStopAt is r n stop → IsRefusal fork G is stop
+told fork G is r n Memory at first h = absurd h
+told fork G is r n (Fault f) at first (e, where_at, word) =
+    let one : IsFirst (Broken fork G is) of_values f.rule n = subst
+    (λ (q : Rule). IsFirst (Broken fork G is) of_values q n)
+    (sym e) (first_broken fork G is r n at first) in (
+      subst (λ (m : ℕ). IsFirst (Broken fork G is) of_values f.rule m) (sym where_at) one,
       word
           ∙ ap (first_word_of is) (sym where_at),
     )

@@ -11,6 +11,7 @@ use Rattle.spv_layout.specs.Stage.{of_branches}
 use Rattle.spv_layout.specs.declared.form.Role.TheVariants.{Label}
 use Rattle.spv_layout.specs.First.{stage_of, rank_of}
 use Rattle.spv_ids.specs.Definition.{IsDefinedAt, IsUsedAt}
+use Rattle.spv_flow.specs.declared.branches.fork.Fork.{Fork}
 use Rattle.spv_flow.specs.branches.Broken.{Broken}
 use Rattle.spv_flow.specs.branches.Target.{is_label, IsOp, LeadsToBlock, IsEntryLabel, IsLabelOf, IsParentAt}
 use Rattle.spv_flow.specs.branches.inner.Target.{is_function}
@@ -98,8 +99,8 @@ pub record HasSameLabels (G : Table) (is : List PlainInst) (n j k : ℕ) : Type 
   pub two : IsUsedAt G is n k id Label
 
 -- Of the rules F the first that is broken at instruction n; none where none is.
-abbrev pub IsFirstAt : Table → List PlainInst → ℕ → Option Rule → Type 0
-IsFirstAt G is n o =
-    MatchOption o ((q : Rule) → stage_of q ≡ of_branches → ¬ (Broken G is q n))
-    (λ r. (stage_of r ≡ of_branches) × Broken G is r n
-    × ((q : Rule) → stage_of q ≡ of_branches → Broken G is q n → rank_of r ≤ rank_of q))
+abbrev pub IsFirstAt : Fork → Table → List PlainInst → ℕ → Option Rule → Type 0
+IsFirstAt fork G is n o =
+    MatchOption o ((q : Rule) → stage_of q ≡ of_branches → ¬ (Broken fork G is q n))
+    (λ r. (stage_of r ≡ of_branches) × Broken fork G is r n
+    × ((q : Rule) → stage_of q ≡ of_branches → Broken fork G is q n → rank_of r ≤ rank_of q))

@@ -16,6 +16,8 @@ use Rattle.spv_ids.specs.Broken as ids
 use Rattle.spv_ids.specs.Outcome.{IsDefinitionOf, definition_in}
 use Rattle.spv_flow.specs.declared.branches.code.Code.{Code}
 use Rattle.spv_flow.specs.branches.inner.Code.{insts_of, IsCode}
+use Rattle.spv_flow.specs.declared.branches.fork.Fork.{Fork}
+use Rattle.spv_flow.specs.declared.branches.fork.Fork.TheVariants.{Free}
 use Rattle.spv_flow.specs.branches.Broken.{Broken}
 use Rattle.spv_flow.proofs.lemmas.branches.Firsts.{broken_within}
 use Rattle.spv_evidence.specs.declared.evidence.Evidence.{Evidence}
@@ -37,26 +39,41 @@ known_code G c insts e words plan each =
     }
 
 -- A rule is broken at one of them.
-pub record IsBroken (G : Table) (c : Code) (q : Rule) (n : ℕ) : Type 0 where
+pub record IsBroken (fork : Fork) (G : Table) (c : Code) (q : Rule) (n : ℕ) : Type 0 where
   pub within : n < length c.insts.now
-  pub broken : Broken G (insts_of c) q n
+  pub broken : Broken fork G (insts_of c) q n
 
-pub known_broken : (G : Table) (c : Code) (insts : List Inst) (q : Rule) (n : ℕ) → c.insts.now ≡ insts
-    → IsFirst (Broken G (map plain_inst insts)) of_branches q n → IsBroken G c q n
-known_broken G c insts q n e first =
-    let broken = subst (λ (xs : List Inst). Broken G (map plain_inst xs) q n) (sym e) first.broken in
+pub known_broken : (fork : Fork) (G : Table) (c : Code) (insts : List Inst) (q : Rule) (n : ℕ) → c.insts.now ≡ insts
+    → IsFirst (Broken fork G (map plain_inst insts)) of_branches q n → IsBroken fork G c q n
+known_broken fork G c insts q n e first =
+    let broken = subst (λ (xs : List Inst). Broken fork G (map plain_inst xs) q n) (sym e) first.broken in
     record {
-      within = (let lt = broken_within G (insts_of c) q n first.of_stage broken in
+      within = (let lt = broken_within fork G (insts_of c) q n first.of_stage broken in
           let count = length-map c.insts.now plain_inst in omega (arith, lt, count));
       broken = broken;
     }
 
--- What was found of them.
-pub found : (G : Table) (c : Code) (insts : List Inst) (q r : Rule) (n : ℕ) (e : Evidence) → c.insts.now ≡ insts → q ≡ r
-    → IsEvidence G (insts_of c) r n e → IsEvidence G (map plain_inst insts) q n e
-found G c insts q r n e same rule h =
-    subst (λ (p : Rule). IsEvidence G (map plain_inst insts) p n e) (sym rule)
-    (subst (λ (xs : List Inst). IsEvidence G (map plain_inst xs) r n e) same h)
+-- What was found of them, where F4 is not asked, shows it in any case.
+asked : (fork : Fork) (G : Table) (is : List PlainInst) (r : Rule) (n : ℕ) (e : Evidence) → IsEvidence Free G is r n e
+    → IsEvidence fork G is r n e
+asked fork G is _ _ _ (IsEvidence.no_label n k x m op used defined none) =
+    IsEvidence.no_label n k x m op used defined none
+asked fork G is _ _ _ (IsEvidence.to_entry n k x m op used defined entry) =
+    IsEvidence.to_entry n k x m op used defined entry
+asked fork G is _ _ _ (IsEvidence.missing_parent n b p ps phi of leads none all) =
+    IsEvidence.missing_parent n b p ps phi of leads none all
+asked fork G is _ _ _ (IsEvidence.no_predecessor n b k x ps phi of used none all) =
+    IsEvidence.no_predecessor n b k x ps phi of used none all
+asked fork G is _ _ _ (IsEvidence.twice n b j k p ps phi of lt one two all) =
+    IsEvidence.twice n b j k p ps phi of lt one two all
+asked fork G is _ _ _ (IsEvidence.same_labels n x distinct op one two) = cc
+
+pub found : (fork : Fork) (G : Table) (c : Code) (insts : List Inst) (q r : Rule) (n : ℕ) (e : Evidence)
+    → c.insts.now ≡ insts → q ≡ r → IsEvidence Free G (insts_of c) r n e
+    → IsEvidence fork G (map plain_inst insts) q n e
+found fork G c insts q r n e same rule h =
+    subst (λ (p : Rule). IsEvidence fork G (map plain_inst insts) p n e) (sym rule)
+    (subst (λ (xs : List Inst). IsEvidence fork G (map plain_inst xs) r n e) same (asked fork G (insts_of c) r n e h))
 
 pub definitions : (G : Table) (bound : ℕ) (is : List PlainInst) (n : ℕ) → IsUnbroken (ids.Broken G bound is) of_ids
     → KeepsDefinitions G is n

@@ -18,6 +18,7 @@ use Rattle.spv_flow.specs.branches.inner.Edges.{marked}
 use Rattle.spv_flow.specs.branches.Target.{is_phi, IsOp, IsLabelOf, IsParentAt, HasParents}
 use Rattle.spv_flow.proofs.lemmas.branches.Labelled.{use_in, use_within, one_id, one_label, one_parent}
 use Rattle.spv_evidence.specs.declared.evidence.Evidence.TheVariants.{MissingParent, NoPredecessor, Twice}
+use Rattle.spv_flow.specs.declared.branches.fork.Fork.TheVariants.{Free}
 use Rattle.spv_flow_evidence.specs.branches.Evidence.{ArePredecessors, IsEvidence}
 use Rattle.spv_flow_evidence.specs.branches.inner.Known.{AreMarks, name_of, AreNames, HasNames}
 
@@ -98,7 +99,7 @@ names_end G is at marks names n i there all before =
 -- a label of no block
 pub no_block : (G : Table) (is : List PlainInst) (at block k x : ℕ) → IsOp is at is_phi → IsOfBlock is at block
     → IsUsedAt G is at k x Label → ((m : ℕ) → ¬ (IsLabelOf is x m)) → (ps : List ℕ) → ArePredecessors G is block ps
-    → IsEvidence G is F3 at (NoPredecessor k ps)
+    → IsEvidence Free G is F3 at (NoPredecessor k ps)
 no_block G is at block k x phi of used none ps all =
     IsEvidence.no_predecessor at block k x ps phi of used (λ p label leads. none p label) all
 
@@ -106,7 +107,7 @@ no_block G is at block k x phi of used none ps all =
 pub unmarked : (G : Table) (c : Code) (at block : ℕ) (marks : List Bool) (k x p : ℕ) → IsCode G c
     → IsOp (insts_of c) at is_phi → IsOfBlock (insts_of c) at block → AreMarks G (insts_of c) block marks
     → IsUsedAt G (insts_of c) at k x Label → IsLabelOf (insts_of c) x p → marked marks p ≡ false → (ps : List ℕ)
-    → ArePredecessors G (insts_of c) block ps → IsEvidence G (insts_of c) F3 at (NoPredecessor k ps)
+    → ArePredecessors G (insts_of c) block ps → IsEvidence Free G (insts_of c) F3 at (NoPredecessor k ps)
 unmarked G c at block marks k x p is phi of are used label m ps all =
     IsEvidence.no_predecessor at block k x ps phi of used (λ q other leads.
     let e : p ≡ q = one_label G c x p q is label other in
@@ -117,7 +118,7 @@ pub again : (G : Table) (is : List PlainInst) (at block : ℕ) (marks : List Boo
     → IsOp is at is_phi → IsOfBlock is at block → IsUsedAt G is at k x Label → IsLabelOf is x p
     → name_of names p ≡ Some j
     → AreNames G is at marks names k → (ps : List ℕ) → ArePredecessors G is block ps
-    → IsEvidence G is F3 at (Twice j k ps)
+    → IsEvidence Free G is F3 at (Twice j k ps)
 again G is at block marks names j k x p phi of used label e before ps all = let h = before.sound j p e in
     IsEvidence.twice at block j k p ps phi of h.0 h.1 (record { id = x; used = used; label = label }) all
 
@@ -142,7 +143,7 @@ parents G is at block marks names of are has all = record {
 pub missing : (G : Table) (is : List PlainInst) (at block : ℕ) (marks : List Bool) (names : List (Option ℕ)) (p : ℕ)
     → IsOp is at is_phi → IsOfBlock is at block → AreMarks G is block marks → HasNames G is at marks names
     → marked marks p ≡ true → name_of names p ≡ None
-    → (ps : List ℕ) → ArePredecessors G is block ps → IsEvidence G is F3 at (MissingParent p ps)
+    → (ps : List ℕ) → ArePredecessors G is block ps → IsEvidence Free G is F3 at (MissingParent p ps)
 missing G is at block marks names p phi of are has m none ps all =
     IsEvidence.missing_parent at block p ps phi of (are.sound p m)
     (λ k a. none-some k (sym none ∙ has.complete k p a)) all

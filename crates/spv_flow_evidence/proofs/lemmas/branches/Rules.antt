@@ -18,6 +18,8 @@ use Rattle.spv_layout.specs.Shape.{AreOf, Ends, HasForms}
 use Rattle.spv_layout.specs.Place.{IsOfBlock}
 use Rattle.spv_layout.proofs.Places.{block_same}
 use Rattle.spv_ids.specs.Definition.{IsUsedAt}
+use Rattle.spv_flow.specs.declared.branches.fork.Fork.{Fork}
+use Rattle.spv_flow.specs.declared.branches.fork.Fork.TheVariants.{Distinct, Free}
 use Rattle.spv_flow.specs.branches.Broken.{Broken}
 use Rattle.spv_flow.specs.branches.inner.Graph.{LacksLabel, LeadsToEntry}
 use Rattle.spv_flow.specs.branches.Target.{is_phi, is_merge, is_branch, IsOp, IsLabelOf, IsPredecessor, IsParentAt}
@@ -32,14 +34,15 @@ use Rattle.spv_flow_evidence.proofs.lemmas.Small.{no_result}
 
 -- What a broken rule tells.
 
-pub lacking : (G : Table) (is : List PlainInst) (q : Rule) (n : ℕ) → Broken G is q n → q ≡ F1
+pub lacking : (fork : Fork) (G : Table) (is : List PlainInst) (q : Rule) (n : ℕ) → Broken fork G is q n → q ≡ F1
     → (IsOp is n is_branch ⊎ IsOp is n is_merge) × LacksLabel G is n
-lacking G is _ _ (Broken.no_label n k x op used none) e = (op, record { operand = k; id = x; used = used; none = none })
-lacking G is _ _ _ e = cc
+lacking fork G is _ _ (Broken.no_label n k x op used none) e =
+    (op, record { operand = k; id = x; used = used; none = none })
+lacking fork G is _ _ _ e = cc
 
-pub entering : (G : Table) (is : List PlainInst) (q : Rule) (n : ℕ) → Broken G is q n → q ≡ F2
+pub entering : (fork : Fork) (G : Table) (is : List PlainInst) (q : Rule) (n : ℕ) → Broken fork G is q n → q ≡ F2
     → IsOp is n is_branch × LeadsToEntry G is n
-entering G is _ _ (Broken.to_entry n x m target d entry) e = (
+entering fork G is _ _ (Broken.to_entry n x m target d entry) e = (
   target.branch,
   record {
     operand = target.operand;
@@ -50,19 +53,20 @@ entering G is _ _ (Broken.to_entry n x m target d entry) e = (
     entry = entry;
   },
 )
-entering G is _ _ _ e = cc
+entering fork G is _ _ _ e = cc
 
-pub parentless : (G : Table) (is : List PlainInst) (q : Rule) (n : ℕ) → Broken G is q n → q ≡ F3
+pub parentless : (fork : Fork) (G : Table) (is : List PlainInst) (q : Rule) (n : ℕ) → Broken fork G is q n → q ≡ F3
     → IsOp is n is_phi × (¬ (HasParents G is n))
-parentless G is _ _ (Broken.parents n phi not) e = (phi, not)
-parentless G is _ _ _ e = cc
+parentless fork G is _ _ (Broken.parents n phi not) e = (phi, not)
+parentless fork G is _ _ _ e = cc
 
-pub doubled : (G : Table) (is : List PlainInst) (q : Rule) (n : ℕ) → q ≡ F4 → IsFirst (Broken G is) of_branches q n
-    → IsEvidence G is q n (Operand 2)
-doubled G is q n e first = shown q n first.broken e
+pub doubled : (fork : Fork) (G : Table) (is : List PlainInst) (q : Rule) (n : ℕ) → q ≡ F4
+    → IsFirst (Broken fork G is) of_branches q n
+    → IsEvidence fork G is q n (Operand 2)
+doubled fork G is q n e first = shown q n first.broken e
   where
-    shown : (r : Rule) (m : ℕ) → Broken G is r m → r ≡ F4 → IsEvidence G is r m (Operand 2)
-    shown _ _ (Broken.same_labels m x op one two) e = IsEvidence.same_labels m x op one two
+    shown : (r : Rule) (m : ℕ) → Broken fork G is r m → r ≡ F4 → IsEvidence fork G is r m (Operand 2)
+    shown _ _ (Broken.same_labels m x distinct op one two) e = IsEvidence.same_labels m x distinct op one two
     shown _ _ _ e = cc
 
 -- of the rules whose evidence is one operand
@@ -87,18 +91,20 @@ named_once : (G : Table) (is : List PlainInst) (n j k p : ℕ) → j < k → IsP
     → ¬ (HasParents G is n)
 named_once G is n j k p lt one two h = let e = h.once j k p one two in absurd (omega (arith, e, lt))
 
-pub suffices : (G : Table) (is : List PlainInst) (r : Rule) (n : ℕ) (e : Evidence) → IsEvidence G is r n e
-    → Broken G is r n
-suffices G is _ _ _ (IsEvidence.no_label n k x m op used defined none) = Broken.no_label n k x op used none
-suffices G is _ _ _ (IsEvidence.to_entry n k x m op used defined entry) =
+pub suffices : (fork : Fork) (G : Table) (is : List PlainInst) (r : Rule) (n : ℕ) (e : Evidence)
+    → IsEvidence fork G is r n e
+    → Broken fork G is r n
+suffices fork G is _ _ _ (IsEvidence.no_label n k x m op used defined none) = Broken.no_label n k x op used none
+suffices fork G is _ _ _ (IsEvidence.to_entry n k x m op used defined entry) =
     Broken.to_entry n x m (record { branch = op; operand = k; used = used }) defined entry
-suffices G is _ _ _ (IsEvidence.missing_parent n b p ps phi of leads none all) =
+suffices fork G is _ _ _ (IsEvidence.missing_parent n b p ps phi of leads none all) =
     Broken.parents n phi (none_missing G is n b p of leads none)
-suffices G is _ _ _ (IsEvidence.no_predecessor n b k x ps phi of used none all) =
+suffices fork G is _ _ _ (IsEvidence.no_predecessor n b k x ps phi of used none all) =
     Broken.parents n phi (all_lead G is n b k x of used none)
-suffices G is _ _ _ (IsEvidence.twice n b j k p ps phi of lt one two all) =
+suffices fork G is _ _ _ (IsEvidence.twice n b j k p ps phi of lt one two all) =
     Broken.parents n phi (named_once G is n j k p lt one two)
-suffices G is _ _ _ (IsEvidence.same_labels n x op one two) = Broken.same_labels n x op one two
+suffices fork G is _ _ _ (IsEvidence.same_labels n x distinct op one two) =
+    Broken.same_labels n x distinct op one two
 
 -- The worked examples.
 
@@ -111,20 +117,20 @@ no_label_of zero h = let e = h.label in cc
 no_label_of (suc zero) h = let e = h.label in cc
 no_label_of (suc (suc m)) h = h.label
 
-pub no_label : IsEvidence small strayed F1 1 (Defined 0 0)
+pub no_label : IsEvidence Distinct small strayed F1 1 (Defined 0 0)
 no_label = IsEvidence.no_label 1 0 1 0 (inl refl) (record { inst = branch 1; there = refl; used = branch_used 1 })
     (record { inst = negation 1 5; there = refl; result = refl }) no_label_of
 
-pub not_itself : ¬ (IsEvidence small strayed F1 1 (Defined 0 1))
+pub not_itself : ¬ (IsEvidence Distinct small strayed F1 1 (Defined 0 1))
 not_itself h = itself F1 1 (Defined 0 1) h refl
   where
-    itself : (r : Rule) (n : ℕ) (e : Evidence) → IsEvidence small strayed r n e → e ≡ Defined 0 1 → ⊥
+    itself : (r : Rule) (n : ℕ) (e : Evidence) → IsEvidence Distinct small strayed r n e → e ≡ Defined 0 1 → ⊥
     itself _ _ _ (IsEvidence.no_label n k x m op used defined none) g = let f : m ≡ 1 = cc in
         no_result strayed 1 m x (branch 1) f refl (λ r. cc) defined
     itself _ _ _ _ g = cc
 
 -- the branch to the entry block
-pub to_entry : IsEvidence small (function ∷ label 1 ∷ branch 1 ∷ []) F2 2 (Operand 0)
+pub to_entry : IsEvidence Distinct small (function ∷ label 1 ∷ branch 1 ∷ []) F2 2 (Operand 0)
 to_entry =
     IsEvidence.to_entry 2 0 1 1 refl (record { inst = branch 1; there = refl; used = branch_used 1 })
     (record { inst = label 1; there = refl; result = refl })
@@ -164,19 +170,20 @@ alone = record {
   );
 }
 
-pub missing : IsEvidence small unpaired F3 4 (MissingParent 1 (1 ∷ []))
+pub missing : IsEvidence Distinct small unpaired F3 4 (MissingParent 1 (1 ∷ []))
 missing = IsEvidence.missing_parent 4 3 1 (1 ∷ []) refl phi_block (2, u_leads) (λ k a. bare_label k a.id a.used) alone
 
-own : (qs : List ℕ) (r : Rule) (n : ℕ) (e : Evidence) → IsEvidence small unpaired r n e → e ≡ MissingParent 3 qs → ⊥
+own : (qs : List ℕ) (r : Rule) (n : ℕ) (e : Evidence) → IsEvidence Distinct small unpaired r n e
+    → e ≡ MissingParent 3 qs → ⊥
 own qs _ _ _ (IsEvidence.missing_parent n b p ps phi of before none all) g = let f : p ≡ 3 = cc in
     let one = only_first b p before in omega (arith, f, one)
 own qs _ _ _ _ g = cc
 
-pub not_missing : (ps : List ℕ) → ¬ (IsEvidence small unpaired F3 4 (MissingParent 3 ps))
+pub not_missing : (ps : List ℕ) → ¬ (IsEvidence Distinct small unpaired F3 4 (MissingParent 3 ps))
 not_missing ps h = own ps F3 4 (MissingParent 3 ps) h refl
 
 -- what is told of it are the predecessors of its block
-told_of : (qs : List ℕ) (r : Rule) (n : ℕ) (e : Evidence) → IsEvidence small unpaired r n e → n ≡ 4
+told_of : (qs : List ℕ) (r : Rule) (n : ℕ) (e : Evidence) → IsEvidence Distinct small unpaired r n e → n ≡ 4
     → e ≡ MissingParent 1 qs → ArePredecessors small unpaired 3 qs
 told_of qs _ _ _ (IsEvidence.missing_parent n b p ps phi of before none all) f g =
     let s : ps ≡ qs = cc in
@@ -185,13 +192,13 @@ told_of qs _ _ _ (IsEvidence.missing_parent n b p ps phi of before none all) f g
     (subst (λ (c : ℕ). ArePredecessors small unpaired c ps) same all)
 told_of qs _ _ _ _ f g = cc
 
-pub untold : ¬ (IsEvidence small unpaired F3 4 (MissingParent 1 []))
+pub untold : ¬ (IsEvidence Distinct small unpaired F3 4 (MissingParent 1 []))
 untold h =
     let all = told_of [] F3 4 (MissingParent 1 []) h refl refl in
     let has = (all.each 1).1 (2, u_leads) in
     absurd (omega (arith, has.1))
 
-pub stranger : ¬ (IsEvidence small unpaired F3 4 (MissingParent 1 (1 ∷ 3 ∷ [])))
+pub stranger : ¬ (IsEvidence Distinct small unpaired F3 4 (MissingParent 1 (1 ∷ 3 ∷ [])))
 stranger h =
     let all = told_of (1 ∷ 3 ∷ []) F3 4 (MissingParent 1 (1 ∷ 3 ∷ [])) h refl refl in
     let one = only_first 3 3 ((all.each 3).0 (1, omega arith, refl)) in
@@ -245,20 +252,39 @@ two_used = record {
   };
 }
 
-pub same_labels : IsEvidence small twin F4 0 (Operand 2)
-same_labels = IsEvidence.same_labels 0 2 refl one_used two_used
+pub same_labels : IsEvidence Distinct small twin F4 0 (Operand 2)
+same_labels = IsEvidence.same_labels 0 2 refl refl one_used two_used
 
-pub not_first : ¬ (IsEvidence small twin F4 0 (Operand 1))
+pub not_first : ¬ (IsEvidence Distinct small twin F4 0 (Operand 1))
 not_first h = no_first F4 0 (Operand 1) h refl refl
   where
-    no_first : (r : Rule) (n : ℕ) (e : Evidence) → IsEvidence small twin r n e → r ≡ F4 → e ≡ Operand 1 → ⊥
+    no_first : (r : Rule) (n : ℕ) (e : Evidence) → IsEvidence Distinct small twin r n e → r ≡ F4 → e ≡ Operand 1 → ⊥
     no_first _ _ _ (IsEvidence.no_label n k x m op used defined none) f g = cc
     no_first _ _ _ _ f g = cc
 
+pub not_asked : (e : Evidence) → ¬ (IsEvidence Free small twin F4 0 e)
+not_asked e h = none F4 0 e h refl
+  where
+    none : (r : Rule) (n : ℕ) (e : Evidence) → IsEvidence Free small twin r n e → r ≡ F4 → ⊥
+    none _ _ _ (IsEvidence.same_labels n x distinct op one two) f = cc
+    none _ _ _ _ f = cc
+
 -- the OpPhi that names its predecessor
-pub sound_parents : (e : Evidence) → ¬ (IsEvidence small (paired 1) F3 4 e)
-sound_parents e h = (at_phi small (paired 1) F3 4 refl refl (suffices small (paired 1) F3 4 e h)).1 has_parents
+pub sound_parents : (e : Evidence) → ¬ (IsEvidence Distinct small (paired 1) F3 4 e)
+sound_parents e h = (at_phi Distinct small (paired 1) F3 4 refl refl (suffices Distinct small (paired 1) F3 4 e h)).1
+    has_parents
 
 -- all of them
-pub ruleset examples =
-    (no_label, not_itself, to_entry, missing, not_missing, untold, stranger, same_labels, not_first, sound_parents)
+pub ruleset examples = (
+  no_label,
+  not_itself,
+  to_entry,
+  missing,
+  not_missing,
+  untold,
+  stranger,
+  same_labels,
+  not_first,
+  not_asked,
+  sound_parents,
+)

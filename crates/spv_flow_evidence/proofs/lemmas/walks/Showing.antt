@@ -23,6 +23,7 @@ use Rattle.spv_graphs.specs.Graph.{block_count}
 use Rattle.spv_graphs.specs.Path.{IsPath}
 use Rattle.spv_flow.specs.branches.Target.{is_label, is_phi, IsOp}
 use Rattle.spv_flow.specs.branches.Ready.{IsMissing, IsPairMissing}
+use Rattle.spv_flow.specs.declared.branches.fork.Fork.{Fork}
 use Rattle.spv_flow.specs.branches.Broken.{Broken}
 use Rattle.spv_flow.proofs.lemmas.branches.Firsts.{holds}
 use Rattle.spv_flow.proofs.lemmas.branches.Labelled.{use_in}
@@ -192,11 +193,11 @@ staged_misses G is _ _ t none (IsStaged.missing n m) a b =
 staged_misses G is _ _ t none (IsStaged.pair_missing n m) a b =
     subst (λ (s : Taking). MissesValue G is s n) (sym (b refl)) m
 
-pub misses : (G : Table) (is : List PlainInst) (r : Rule) (n : ℕ) (t : Taking) → IsUnbroken (Broken G is) of_branches
-    → Broken G is r n
+pub misses : (fork : Fork) (G : Table) (is : List PlainInst) (r : Rule) (n : ℕ) (t : Taking)
+    → IsUnbroken (Broken fork G is) of_branches → Broken fork G is r n
     → (r ≡ A1 → t ≡ Uses) → (r ≡ A2 → t ≡ Pairs) → MissesValue G is t n
-misses G is r n t none broken a b =
-    staged_misses G is r n t (λ e. none r n e broken) (staged G is r n broken) a b
+misses fork G is r n t none broken a b =
+    staged_misses G is r n t (λ e. none r n e broken) (staged fork G is r n broken) a b
 
 staged_shown : (G H : Table) (is : List PlainInst) (r : Rule) (n : ℕ) (t : Taking) (e : Evidence)
     → (stage_of r ≡ of_branches → ⊥) → IsStaged H is r n
@@ -207,8 +208,8 @@ staged_shown G H is _ _ t e none (IsStaged.missing n m) a b h =
 staged_shown G H is _ _ t e none (IsStaged.pair_missing n m) a b h =
     subst (λ (s : Taking). IsShown G is s n e) (b refl) h
 
-pub as_rule : (G H : Table) (is : List PlainInst) (r : Rule) (n : ℕ) (t : Taking) (e : Evidence)
-    → IsUnbroken (Broken H is) of_branches → Broken H is r n
+pub as_rule : (fork : Fork) (G H : Table) (is : List PlainInst) (r : Rule) (n : ℕ) (t : Taking) (e : Evidence)
+    → IsUnbroken (Broken fork H is) of_branches → Broken fork H is r n
     → (r ≡ A1 → t ≡ Uses) → (r ≡ A2 → t ≡ Pairs) → IsShown G is t n e → IsEvidence G is r n e
-as_rule G H is r n t e none broken a b h =
-    staged_shown G H is r n t e (λ f. none r n f broken) (staged H is r n broken) a b h
+as_rule fork G H is r n t e none broken a b h =
+    staged_shown G H is r n t e (λ f. none r n f broken) (staged fork H is r n broken) a b h

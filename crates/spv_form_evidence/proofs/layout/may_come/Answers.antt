@@ -6,5 +6,5 @@ use Rattle.spv_form_evidence.proofs.layout.may_come.Goals as goal
 
 pub returns : goal.returns
 returns c =
-    let t = to_come (map plain_inst c.args.before.now) c.in-Some.state (as_leads _ c.in-Some.state c.in-Some.ensures) in
+    let t = to_come c.args.profile (map plain_inst c.args.before.now) c.in-Some.state (as_leads _ c.in-Some.state c.in-Some.ensures) in
     rw (c.from_vec.ensures, c.in_ok-opcodes.ensures, c.stops.ensures) t

@@ -1,6 +1,6 @@
 -- Which part of E2 is broken.
 use Rattle.std.proofs.Common.{◌≡◌, ◌≢◌, ◌<◌, ◌+◌, ◌↔◌, ◌∙◌, ℕ, List, Some, None, length, sym, subst, inl, inr, arith}
-use Rattle.std.specs.Prelude.{slice_get}
+use Rattle.std.specs.Prelude.{◌⊎◌, slice_get}
 use Rattle.std.proofs.lemmas.Bool.{cases_eq}
 use Rattle.std.proofs.lemmas.Option.{slice_get_within}
 use Rattle.spv_table.specs.Table.{Table}
@@ -95,20 +95,30 @@ not_linked P Q h b = (
 pub decided : (P : Type 0) (a b : ℕ) → ¬ (a ≡ b → P) → a ≡ b
 decided P a b h = elim (cases_eq a b) [ inl e ↦ e | inr d ↦ absurd (h (λ e. absurd (d e))) ]
 
-pub not_mode : (G : Table) (is : List PlainInst) (n : ℕ) (i : PlainInst) → i.opcode ≡ opcode.EXECUTION_MODE
-    → ¬ (KeepsEntries G is n i)
+-- an opcode that is one of two is no third
+neither : (n a b c : ℕ) → (n ≡ a) ⊎ (n ≡ b) → a ≢ c → b ≢ c → n ≢ c
+neither n a b c o x y e = elim o [ inl p ↦ x (sym p ∙ e) | inr q ↦ y (sym q ∙ e) ]
+
+pub not_mode : (G : Table) (is : List PlainInst) (n : ℕ) (i : PlainInst)
+    → (i.opcode ≡ opcode.EXECUTION_MODE) ⊎ (i.opcode ≡ opcode.EXECUTION_MODE_ID) → ¬ (KeepsEntries G is n i)
     → ¬ (IsSoundMode is i.operands)
-not_mode G is n i o h s = h (record {
-  entry = λ e. absurd (omega (arith, o, e));
-  mode = λ e. s;
-  linkage = λ e. absurd (omega (arith, o, e));
-})
+not_mode G is n i o h s =
+    let entry = neither i.opcode opcode.EXECUTION_MODE opcode.EXECUTION_MODE_ID opcode.ENTRY_POINT o
+    (λ e. absurd (omega (arith, e))) (λ e. absurd (omega (arith, e))) in
+    let function = neither i.opcode opcode.EXECUTION_MODE opcode.EXECUTION_MODE_ID opcode.FUNCTION o
+    (λ e. absurd (omega (arith, e))) (λ e. absurd (omega (arith, e))) in
+    h (record { entry = λ e. absurd (entry e); mode = λ e. s; linkage = λ e. absurd (function e) })
+
+-- an opcode that is none of two
+no_mode : (P : Type 0) (n a b : ℕ) → n ≢ a → n ≢ b → (n ≡ a) ⊎ (n ≡ b) → P
+no_mode P n a b x y o = elim o [ inl e ↦ absurd (x e) | inr e ↦ absurd (y e) ]
 
 pub not_linkage : (G : Table) (is : List PlainInst) (n : ℕ) (i : PlainInst) → i.opcode ≢ opcode.ENTRY_POINT
-    → i.opcode ≢ opcode.EXECUTION_MODE
+    → i.opcode ≢ opcode.EXECUTION_MODE → i.opcode ≢ opcode.EXECUTION_MODE_ID
     → ¬ (KeepsEntries G is n i) → (i.opcode ≡ opcode.FUNCTION) × (¬ (IsSoundLinkage G is n))
-not_linkage G is n i a b h = (
-  decided (IsSoundLinkage G is n) i.opcode opcode.FUNCTION
-      (λ l. h (record { entry = λ e. absurd (a e); mode = λ e. absurd (b e); linkage = l })),
-  λ l. h (record { entry = λ e. absurd (a e); mode = λ e. absurd (b e); linkage = λ e. l }),
-)
+not_linkage G is n i a b d h =
+    let mode = no_mode (IsSoundMode is i.operands) i.opcode opcode.EXECUTION_MODE opcode.EXECUTION_MODE_ID b d in (
+      decided (IsSoundLinkage G is n) i.opcode opcode.FUNCTION
+          (λ l. h (record { entry = λ e. absurd (a e); mode = mode; linkage = l })),
+      λ l. h (record { entry = λ e. absurd (a e); mode = mode; linkage = λ e. l }),
+    )

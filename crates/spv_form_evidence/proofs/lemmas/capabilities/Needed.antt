@@ -1,7 +1,7 @@
 -- Which bit or operand is not covered.
 use Rattle.std.proofs.Common.{◌≡◌, ◌<◌, ◌+◌, ◌*◌, ◌^◌, ◌∙◌, ℕ, zero, suc, List, [], ◌∷◌, Contains, Some, Bool, true}
 use Rattle.std.proofs.Common.{false, length, refl, sym, ap, subst, inl, inr, arith}
-use Rattle.std.specs.Prelude.{filter, slice_get}
+use Rattle.std.specs.Prelude.{filter, slice_get, if◌then◌else◌}
 use Rattle.std.specs.List.{AllByRecursion}
 use Rattle.std.proofs.Math.Nat.{pow-succ'}
 use Rattle.std.proofs.lemmas.Option.{slice_get_within}
@@ -9,12 +9,14 @@ use Rattle.spv_table.specs.Table.{Table}
 use Rattle.spv_table.proofs.Search.{in_cons}
 use Rattle.spv_module.specs.Operand.{Plain, PlainInst}
 use Rattle.spv_module.specs.Spelling.{bits_from, set_bits}
-use Rattle.spv_capabilities.specs.Capable.{IsCoveredOperand, IsCapable, needs_of}
+use Rattle.spv_module.specs.declared.opcode.TheConstants as opcode
+use Rattle.spv_capabilities.specs.Capable.{Has, IsCoveredOperand, IsCapable, is_read_write, needs_of}
 use Rattle.spv_capabilities.specs.Asked.{IsCoveredEntry, HasNeeded}
 use Rattle.spv_capabilities.proofs.Bits.{has_bit}
 use Rattle.spv_capabilities.proofs.Marked.{below_or}
 use Rattle.spv_form_evidence.specs.capabilities.inner.Bits.{IsUncoveredAt, IsUncoveredBit}
 use Rattle.spv_form_evidence.specs.capabilities.inner.Operands.{AreCoveredBefore}
+use Rattle.spv_form_evidence.proofs.lemmas.capabilities.Suffices.{needs_sampler, needs_image}
 
 -- ---- what a filter keeps
 
@@ -95,4 +97,22 @@ all_before G is os n e a = all_from_each (IsCoveredOperand G is) os (λ k o t.
 
 pub not_needed : (G : Table) (is : List PlainInst) (i : PlainInst) → ¬ (IsCapable G is i) → IsCoveredEntry G is i.opcode
     → AllByRecursion (IsCoveredOperand G is) i.operands → ¬ (HasNeeded G is (needs_of i))
-not_needed G is i h e a w = h (record { entry = e; operands = a; widths = w })
+not_needed G is i h e a w = h (record { entry = e; operands = a; needs = w })
+
+-- what image and sampler types need and the module has not
+
+pub no_sampler : (G : Table) (is : List PlainInst) (i : PlainInst) → i.opcode ≡ opcode.TYPE_SAMPLER
+    → ¬ (HasNeeded G is (needs_of i)) → ¬ (Has G is 13)
+no_sampler G is i o n h =
+    n (subst (λ ns. HasNeeded G is ns) (sym (needs_sampler i o)) (inl h, tt))
+
+either_access : (G : Table) (is : List PlainInst) (b : Bool) → Has G is 13
+    → ¬ (HasNeeded G is ((13 ∷ []) ∷ (if b then (14 ∷ []) ∷ [] else []))) → (b ≡ true) × (¬ (Has G is 14))
+either_access G is true p n = (refl, λ h. n (inl p, (inl h, tt)))
+either_access G is false p n = absurd (n (inl p, tt))
+
+pub no_access : (G : Table) (is : List PlainInst) (i : PlainInst) → i.opcode ≡ opcode.TYPE_IMAGE → Has G is 13
+    → ¬ (HasNeeded G is (needs_of i)) → (is_read_write (slice_get i.operands 8) ≡ true) × (¬ (Has G is 14))
+no_access G is i o p n =
+    either_access G is (is_read_write (slice_get i.operands 8)) p
+    (λ h. n (subst (λ ns. HasNeeded G is ns) (sym (needs_image i o)) h))

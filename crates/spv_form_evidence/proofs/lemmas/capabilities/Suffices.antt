@@ -1,7 +1,7 @@
 -- Where there is evidence, the rule is broken.
 use Rattle.std.proofs.Common.{◌≡◌, ◌≢◌, ◌∙◌, ℕ, zero, suc, List, [], ◌∷◌, Contains, Option, Some, None, Bool, true}
 use Rattle.std.proofs.Common.{false, refl, sym, subst, inl, inr, nat_eq, arith}
-use Rattle.std.specs.Prelude.{slice_get, if◌then◌else◌}
+use Rattle.std.specs.Prelude.{◌⊎◌, slice_get, if◌then◌else◌}
 use Rattle.std.specs.List.{AllByRecursion}
 use Rattle.std.proofs.lemmas.Bool.{eqb-true}
 use Rattle.spv_table.specs.Table.{Table}
@@ -13,7 +13,8 @@ use Rattle.spv_module.specs.declared.opcode.TheConstants as opcode
 use Rattle.spv_layout.specs.Place.{IsDefinition}
 use Rattle.spv_ids.specs.Definition.{IsDefinedAt}
 use Rattle.spv_ids.specs.Order.{HasOpcode}
-use Rattle.spv_capabilities.specs.Capable.{IsCapable, IsCoveredOperand, IsCoveredValue, IsCoveredMask}
+use Rattle.spv_capabilities.specs.Capable.{Has, HasOneOf, IsCapable, IsCoveredOperand, IsCoveredValue, IsCoveredMask}
+use Rattle.spv_capabilities.specs.Capable.{image_needs, is_read_write, needs_of}
 use Rattle.spv_capabilities.specs.Memory.{IsModel}
 use Rattle.spv_capabilities.specs.Entry.{IsKernelFunction, IsSoundEntry, ReturnsVoid, second_id, called_by, entered_by}
 use Rattle.spv_capabilities.specs.Keeps.{Keeps, KeepsEntries}
@@ -57,6 +58,33 @@ mask_contains G is k m b a h = all_contains (IsCoveredValue G is k) (set_bits m)
 
 -- ---- C2 and M1
 
+-- what image and sampler types need
+
+pub needs_sampler : (i : PlainInst) → i.opcode ≡ opcode.TYPE_SAMPLER → needs_of i ≡ (13 ∷ []) ∷ []
+needs_sampler i o =
+    subst (λ (n : ℕ). needs_of (record { opcode = n; operands = i.operands }) ≡ (13 ∷ []) ∷ []) (sym o) refl
+
+pub needs_image : (i : PlainInst) → i.opcode ≡ opcode.TYPE_IMAGE → needs_of i ≡ image_needs i.operands
+needs_image i o =
+    subst (λ (n : ℕ). needs_of (record { opcode = n; operands = i.operands }) ≡ image_needs i.operands) (sym o) refl
+
+has_one : (G : Table) (is : List PlainInst) (c : ℕ) → HasOneOf G is (c ∷ []) → Has G is c
+has_one G is c h = elim h [ inl a ↦ a | inr n ↦ absurd n ]
+
+type_needs : (G : Table) (is : List PlainInst) (i : PlainInst)
+    → (i.opcode ≡ opcode.TYPE_IMAGE) ⊎ (i.opcode ≡ opcode.TYPE_SAMPLER)
+    → AllByRecursion (HasOneOf G is) (needs_of i) → Has G is 13
+type_needs G is i (inl o) a = has_one G is 13 (subst (λ ns. AllByRecursion (HasOneOf G is) ns) (needs_image i o) a).0
+type_needs G is i (inr o) a = has_one G is 13 (subst (λ ns. AllByRecursion (HasOneOf G is) ns) (needs_sampler i o) a).0
+
+access_needs : (G : Table) (is : List PlainInst) (i : PlainInst) → i.opcode ≡ opcode.TYPE_IMAGE
+    → is_read_write (slice_get i.operands 8) ≡ true → AllByRecursion (HasOneOf G is) (needs_of i) → Has G is 14
+access_needs G is i o b a =
+    let all = subst (λ ns. AllByRecursion (HasOneOf G is) ns) (needs_image i o) a in
+    let both = subst (λ (c : Bool). AllByRecursion (HasOneOf G is) ((13 ∷ []) ∷ (if c then (14 ∷ []) ∷ [] else []))) b
+    all in
+    has_one G is 14 both.1.0
+
 uncovered_breaks : (G : Table) (is : List PlainInst) (i : PlainInst) (l : Lister) → IsUncovered G is i l
     → ¬ (IsCapable G is i)
 uncovered_breaks G is i _ (IsUncovered.entry h) c = h c.entry
@@ -64,7 +92,9 @@ uncovered_breaks G is i _ (IsUncovered.value k j v t o h) c =
     h (all_get (IsCoveredOperand G is) i.operands k (Value j v) c.operands t o)
 uncovered_breaks G is i _ (IsUncovered.bit k j m b t o s h) c =
     h (mask_contains G is j m b (all_get (IsCoveredOperand G is) i.operands k (Mask j m) c.operands t o) s)
-uncovered_breaks G is i _ (IsUncovered.width h) c = h c.widths
+uncovered_breaks G is i _ (IsUncovered.width a b h) c = h c.needs
+uncovered_breaks G is i _ (IsUncovered.type o h) c = h (type_needs G is i o c.needs)
+uncovered_breaks G is i _ (IsUncovered.access o b h) c = h (access_needs G is i o b c.needs)
 
 no_addressing : (os : List Plain) → ((k a : ℕ) → slice_get os 0 ≡ Some (Value k a) → (a ≢ 1) × (a ≢ 2)) → ¬ (IsModel os)
 no_addressing (Value k a ∷ Value l m ∷ []) h s = let n = h k a refl in elim s.0 [ inl e ↦ n.0 e | inr e ↦ n.1 e ]

@@ -68,7 +68,9 @@ bit_at G is i _ k b (IsUncovered.bit y j m c t o s h) q =
       there = subst (λ (z : ℕ). slice_get i.operands z ≡ Some (Mask j m)) p t;
       uncovered = subst (λ (z : ℕ). ¬ (IsCoveredValue G is j z)) r h;
     }
-bit_at G is i _ k b (IsUncovered.width h) q = absurd (let no : lister.Width ≡ lister.Bit k b = q in cc)
+bit_at G is i _ k b (IsUncovered.width n m h) q = absurd (let no : lister.Width ≡ lister.Bit k b = q in cc)
+bit_at G is i _ k b (IsUncovered.type o h) q = absurd (let no : lister.Type ≡ lister.Bit k b = q in cc)
+bit_at G is i _ k b (IsUncovered.access o m h) q = absurd (let no : lister.Access ≡ lister.Bit k b = q in cc)
 
 record NeedsBit (G : Table) (is : List PlainInst) (n k b : ℕ) : Type 0 where
   pub inst : PlainInst

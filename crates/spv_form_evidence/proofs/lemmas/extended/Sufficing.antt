@@ -1,10 +1,11 @@
 -- Evidence shows that the rule is broken, and is found where it is; there is no other.
-use Rattle.std.proofs.Common.{◌≡◌, ℕ, List, Some, true, refl, sym, ap, ◌∙◌, subst}
+use Rattle.std.proofs.Common.{◌≡◌, ℕ, List, IsTrue, Some, true, refl, sym, ap, ◌∙◌, subst}
 use Rattle.spv_module.specs.Operand.{PlainInst}
 use Rattle.spv_module.specs.declared.fault.Rule.{Rule}
 use Rattle.spv_module.specs.declared.fault.Rule.TheVariants.{Y9}
 use Rattle.spv_extended.specs.declared.call.Call.{Call}
-use Rattle.spv_extended.specs.declared.reach.Reach.TheVariants.{Extended}
+use Rattle.spv_extended.specs.declared.reach.Reach.{Reach}
+use Rattle.spv_extended.specs.Reach.{opens}
 use Rattle.spv_extended.specs.declared.set.Set.TheVariants.{OpenClStd}
 use Rattle.spv_extended.specs.Broken.{Broken}
 use Rattle.spv_extended.specs.Call.{call_at}
@@ -21,9 +22,10 @@ miscall is _ _ _ (IsEvidence.miscalled n number count at out) =
     let s = signature_of OpenClStd number in
     miscalled is n (subst Misses (sym at) (misfit s.more s.least count out))
 
-pub suffices : (is : List PlainInst) (r : Rule) (n : ℕ) (e : Evidence) → IsEvidence is r n e → Broken Extended is r n
-suffices is _ _ _ (IsEvidence.miscalled n number count at out) =
-    Broken.miscalled n refl (miscall is _ _ _ (IsEvidence.miscalled n number count at out))
+pub suffices : (reach : Reach) (is : List PlainInst) (r : Rule) (n : ℕ) (e : Evidence) → IsTrue (opens reach)
+    → IsEvidence is r n e → Broken reach is r n
+suffices reach is _ _ _ on (IsEvidence.miscalled n number count at out) =
+    Broken.miscalled n on (miscall is _ _ _ (IsEvidence.miscalled n number count at out))
 
 same_call : (a b c d : ℕ)
     → (let one : Call = record { set = OpenClStd; number = a; operands = b } in Some one) ≡ Some

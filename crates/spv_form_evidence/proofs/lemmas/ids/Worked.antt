@@ -222,7 +222,10 @@ no_definition e = no_definition_by D4 0 (Defined 1 0) e refl refl refl
 pub miscast : (G : Table) → by_roles.IsEvidence G value_as_type Y1 2 (Miscast 0 role.OfType 1)
 miscast G =
     by_roles.IsEvidence.miscast 2 0 2 1 role.OfType (record { inst = undef 2 3; there = refl; used = undef_use G })
-    (λ p. let l = p.0 in absurd (omega arith))
+    (λ p. elim p [
+      | inl w ↦ (let l = w.0 in absurd (omega arith))
+      | inr q ↦ elim q [ inl e ↦ absurd (omega (arith, e)) | inr e ↦ absurd (omega (arith, e)) ]
+    ])
     (record { inst = undef 1 2; there = refl; result = refl })
 
 other_role_by : (G : Table) (r : Rule) (n : ℕ) (e : Evidence) → by_roles.IsEvidence G value_as_type r n e → n ≡ 2

@@ -1,23 +1,25 @@
 -- The opcodes that may come at a state are those with a row in the table of shapes that may.
 use Rattle.std.proofs.Common.{◌≡◌, ◌∙◌, ◌++◌, ◌+◌, ◌<◌, ◌≤◌, ℕ, zero, suc, List, [], ◌∷◌, refl, sym, ap, subst}
 use Rattle.std.proofs.Common.{Bool, true, false, ◌&&◌, inl, inr, length, get_or, Some, None, arith}
-use Rattle.std.specs.Prelude.{filter, nat_le, nat_lt, if◌then◌else◌}
+use Rattle.std.specs.Prelude.{filter, nat_le, nat_lt, not, ◌||◌, if◌then◌else◌}
 use Rattle.std.specs.List.{Contains, range_with_len}
 use Rattle.std.specs.List.Sorted.{IsStrictlyIncreasing}
-use Rattle.std.proofs.lemmas.Bool.{cases_lt, cond_both, lt-leb, ltb-true}
+use Rattle.std.proofs.lemmas.Bool.{cond_both, leb-true, ltb-true}
 use Rattle.std.proofs.lemmas.List.Elements.{All-contains, Contains-append_right, filter_passes, filter-append}
 use Rattle.std.proofs.lemmas.List.Kept.{IsStrictlyIncreasing-filter}
 use Rattle.std.proofs.lemmas.List.FromFn.{length-range_with_len, get_or-range_with_len}
 use Rattle.spv_module.specs.Operand.{PlainInst}
+use Rattle.spv_module.specs.declared.profile.Profile.{Profile}
+use Rattle.spv_module.specs.declared.profile.Profile.TheVariants.{Own, OpenCl}
 use Rattle.spv_layout.specs.declared.state.State.{State}
 use Rattle.spv_layout.specs.Row.{PlainRow, row_in}
 use Rattle.spv_layout.specs.Rows.{rows}
-use Rattle.spv_layout.specs.Layout.{classes}
+use Rattle.spv_layout.specs.Profile.{includes, has_row}
+use Rattle.spv_layout.specs.Layout.{seen_classes}
 use Rattle.spv_layout.specs.inner.State.{may_stop}
 use Rattle.spv_layout.proofs.Layouts.{Leads, leads_begin}
-use Rattle.spv_form_evidence.specs.declared.layout.automaton.TheConstants.{OPCODES}
 use Rattle.spv_form_evidence.specs.layout.Evidence.{HasRow, AreToCome}
-use Rattle.spv_form_evidence.specs.layout.inner.Automaton.{may_follow, followers}
+use Rattle.spv_form_evidence.specs.layout.inner.Automaton.{opcodes_of, may_follow, followers}
 use Rattle.spv_form_evidence.proofs.lemmas.layout.States.{ends_there, follows, followed}
 
 -- an element that passes is kept
@@ -53,64 +55,75 @@ range_more a (suc n) =
     subst (λ k. range_with_len a k ≡ range_with_len a (suc n) ++ ((a + suc n) ∷ [])) (sym m)
     (ap (λ l. a ∷ l) (range_more (a + 1) n ∙ ap (λ k. range_with_len (a + 1) n ++ (k ∷ [])) e))
 
-pub no_followers : (s : State) → followers s 0 ≡ []
+pub no_followers : (p : Profile) (s : State) → followers p s 0 ≡ []
 unfolding followers
-no_followers s = refl
+no_followers p s = refl
 
 -- one opcode more
-pub followers_more : (s : State) (n : ℕ)
-    → followers s (n + 1) ≡ followers s n ++ (if may_follow s n then n ∷ [] else [])
+pub followers_more : (p : Profile) (s : State) (n : ℕ)
+    → followers p s (n + 1) ≡ followers p s n ++ (if may_follow p s n then n ∷ [] else [])
 unfolding followers
-followers_more s n =
+followers_more p s n =
     let e : 0 + n ≡ n = omega arith in
-    ap (filter (may_follow s)) (range_more 0 n ∙ ap (λ k. range_with_len 0 n ++ (k ∷ [])) e) ∙ filter-append
-    (may_follow s) (range_with_len 0 n) (n ∷ [])
+    ap (filter (may_follow p s)) (range_more 0 n ∙ ap (λ k. range_with_len 0 n ++ (k ∷ [])) e) ∙ filter-append
+    (may_follow p s) (range_with_len 0 n) (n ∷ [])
 
--- no row has an opcode past the last one
-abbrev are_below : List PlainRow → Bool
-are_below [] = true
-are_below (r ∷ rs) = nat_lt r.to OPCODES && are_below rs
+-- no row that the profile has is for an opcode past its last one
+abbrev is_below : Profile → PlainRow → Bool
+is_below p r = not (includes p r.profile) || nat_lt r.to (opcodes_of p)
+
+abbrev are_below : Profile → List PlainRow → Bool
+are_below p [] = true
+are_below p (r ∷ rs) = is_below p r && are_below p rs
 
 both : (a b : Bool) → (a && b) ≡ true → (a ≡ true) × (b ≡ true)
 both true b h = (refl, h)
 both false b h = cc
 
-beyond : (rs : List PlainRow) (n : ℕ) → are_below rs ≡ true → OPCODES ≤ n → row_in rs n ≡ None
-beyond [] n h l = refl
-beyond (r ∷ rs) n h l =
-    let p = both (nat_lt r.to OPCODES) (are_below rs) h in
-    let u : r.to < OPCODES = ltb-true r.to OPCODES p.0 in
-    let q : nat_le n r.to ≡ false = lt-leb n r.to (omega arith) in
-    let i = beyond rs n p.1 l in
-    rw (q, i) (absent (nat_le r.from n))
-  where
-    absent : (b : Bool) → (if b && false then Some r else None) ≡ None
-    absent true = refl
-    absent false = refl
+below_by : (a b : Bool) → (not a || b) ≡ true → a ≡ true → b ≡ true
+below_by true b h e = h
+below_by false b h e = cc
 
-rows_below : are_below rows ≡ true
+-- an opcode of a row that the profile has
+within_by : (p : Profile) (b : Bool) (r : PlainRow) (rs : List PlainRow) (n : ℕ)
+    → (nat_le r.from n && nat_le n r.to) ≡ b → is_below p r ≡ true
+    → has_row p (if b then Some r else row_in rs n) ≡ true → (has_row p (row_in rs n) ≡ true → n < opcodes_of p)
+    → n < opcodes_of p
+within_by p true r rs n e h k rest =
+    let t = below_by (includes p r.profile) (nat_lt r.to (opcodes_of p)) h k in
+    let u : r.to < opcodes_of p = ltb-true r.to (opcodes_of p) t in
+    let q = leb-true n r.to (both (nat_le r.from n) (nat_le n r.to) e).1 in
+    omega arith
+within_by p false r rs n e h k rest = rest k
+
+within : (p : Profile) (rs : List PlainRow) (n : ℕ) → are_below p rs ≡ true → has_row p (row_in rs n) ≡ true
+    → n < opcodes_of p
+within p [] n h k = cc
+within p (r ∷ rs) n h k =
+    let q = both (is_below p r) (are_below p rs) h in
+    within_by p (nat_le r.from n && nat_le n r.to) r rs n refl q.0 k (within p rs n q.1)
+
+rows_below : (p : Profile) → are_below p rows ≡ true
 unfolding rows
-rows_below = refl
+rows_below Own = refl
+rows_below OpenCl = refl
 
-row_below : (n : ℕ) → HasRow n → n < OPCODES
-row_below n h = elim (cases_lt n OPCODES) [
-  | inl l ↦ l
-  | inr g ↦ let e = beyond rows n rows_below g in let r = h.1 in cc
-]
+row_below : (p : Profile) (n : ℕ) → HasRow p n → n < opcodes_of p
+row_below p n h = within p rows n (rows_below p) h
 
 -- what the list has is what may come
-pub to_come : (before : List PlainInst) (s : State) → Leads (classes before) s
-    → AreToCome before (followers s OPCODES) (may_stop s)
+pub to_come : (p : Profile) (before : List PlainInst) (s : State) → Leads (seen_classes p before) s
+    → AreToCome p before (followers p s (opcodes_of p)) (may_stop s)
 unfolding followers
-to_come before s l = record {
-  begun = leads_begin (classes before) s l;
-  order = IsStrictlyIncreasing-filter (may_follow s) (range_with_len 0 OPCODES) (range_rises OPCODES);
+to_come p before s l = record {
+  begun = leads_begin (seen_classes p before) s l;
+  order = IsStrictlyIncreasing-filter (may_follow p s) (range_with_len 0 (opcodes_of p)) (range_rises (opcodes_of p));
   each = λ opcode. (
-    λ h. follows before s opcode l (All-contains (λ n. may_follow s n ≡ true) (followers s OPCODES) opcode
-        (filter_passes (may_follow s) (range_with_len 0 OPCODES)) h),
-    λ m. let r = range_has OPCODES opcode (row_below opcode m.row) in
-        kept_at (may_follow s) (range_with_len 0 OPCODES) r.0
-        opcode r.1 r.2 (followed before s opcode l m),
+    λ h. follows p before s opcode l (All-contains (λ n. may_follow p s n ≡ true) (followers p s (opcodes_of p)) opcode
+        (filter_passes (may_follow p s) (range_with_len 0 (opcodes_of p))) h),
+    λ m. let r = range_has (opcodes_of p) opcode (row_below p opcode m.row) in
+        kept_at (may_follow p s) (range_with_len 0 (opcodes_of p)) r.0
+        opcode r.1 r.2 (followed p before s opcode l m),
   );
-  whole = ends_there (classes before) s l;
+  whole = ends_there (seen_classes p before) s l;
 }

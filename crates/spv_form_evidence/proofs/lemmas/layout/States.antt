@@ -1,15 +1,17 @@
 -- The state that a list of classes leads to, and what it says of the next instruction.
 use Rattle.std.proofs.Common.{◌≡◌, ◌++◌, ◌↔◌, ℕ, List, [], ◌∷◌, refl, sym, subst, Bool, true, false, IsTrue, Option}
+use Rattle.std.proofs.Common.{if◌then◌else◌}
 use Rattle.std.proofs.Common.{Some, None, append-nil, append_assoc}
 use Rattle.std.specs.Prelude.{is_some}
 use Rattle.spv_module.specs.Operand.{PlainInst}
+use Rattle.spv_module.specs.declared.profile.Profile.{Profile}
 use Rattle.spv_layout.specs.declared.class.Class.{Class}
 use Rattle.spv_layout.specs.declared.class.Class.TheVariants.{Outside}
 use Rattle.spv_layout.specs.declared.state.State.{State}
 use Rattle.spv_layout.specs.declared.state.State.TheVariants as at
-use Rattle.spv_layout.specs.Row.{PlainRow}
-use Rattle.spv_layout.specs.Rows.{row_of, class_in, class_of}
-use Rattle.spv_layout.specs.Layout.{IsLayout, BeginsLayout, classes}
+use Rattle.spv_layout.specs.Rows.{row_of, class_of}
+use Rattle.spv_layout.specs.Profile as profiles
+use Rattle.spv_layout.specs.Layout.{IsLayout, BeginsLayout, class_under, seen, seen_classes}
 use Rattle.spv_layout.specs.inner.State.{next_of, may_stop}
 use Rattle.spv_layout.proofs.Layouts.{Leads, leads_first, leads_on, leads_begin, leads_nowhere, leads_end}
 use Rattle.spv_layout.proofs.Layouts.{leads_no_end, begins_before}
@@ -51,33 +53,38 @@ outside : (s : State) → next_of s Outside ≡ None
 outside at.Capabilities = refl
 outside _ = refl
 
-has_row : (o : Option PlainRow) (opcode : ℕ) (s t : State) → row_of opcode ≡ o → next_of s (class_in o) ≡ Some t
-    → HasRow opcode
-has_row None opcode s t e h = let z = outside s in cc
-has_row (Some r) opcode s t e h = (r, e)
+known_there : (b : Bool) (s t : State) (c : Class) → next_of s (if b then c else Outside) ≡ Some t → b ≡ true
+known_there true s t c h = refl
+known_there false s t c h = let z = outside s in cc
 
-follows_by : (o : Option State) (before : List PlainInst) (s : State) (opcode : ℕ) → next_of s (class_of opcode) ≡ o
-    → Leads (classes before) s → IsTrue (is_some o) → MayFollow before opcode
-follows_by None before s opcode e l h = absurd cc
-follows_by (Some t) before s opcode e l h = record {
-  row = has_row (row_of opcode) opcode s t refl e;
-  begins = leads_begin (classes before ++ (class_of opcode ∷ [])) t
-      (leads_on (classes before) s t (class_of opcode) e l);
+has_row : (p : Profile) (opcode : ℕ) (s t : State) → next_of s (class_under p opcode) ≡ Some t → HasRow p opcode
+has_row p opcode s t h = known_there (profiles.has_row p (row_of opcode)) s t (seen p (class_of opcode)) h
+
+follows_by : (p : Profile) (o : Option State) (before : List PlainInst) (s : State) (opcode : ℕ)
+    → next_of s (class_under p opcode) ≡ o → Leads (seen_classes p before) s → IsTrue (is_some o)
+    → MayFollow p before opcode
+follows_by p None before s opcode e l h = absurd cc
+follows_by p (Some t) before s opcode e l h = record {
+  row = has_row p opcode s t e;
+  begins = leads_begin (seen_classes p before ++ (class_under p opcode ∷ [])) t
+      (leads_on (seen_classes p before) s t (class_under p opcode) e l);
 }
 
-there_by : (o : Option State) (before : List PlainInst) (s : State) (opcode : ℕ) → next_of s (class_of opcode) ≡ o
-    → Leads (classes before) s → MayFollow before opcode → IsTrue (is_some o)
-there_by None before s opcode e l m = absurd (leads_nowhere (classes before) s (class_of opcode) e l m.begins)
-there_by (Some t) before s opcode e l m = refl
+there_by : (p : Profile) (o : Option State) (before : List PlainInst) (s : State) (opcode : ℕ)
+    → next_of s (class_under p opcode) ≡ o → Leads (seen_classes p before) s → MayFollow p before opcode
+    → IsTrue (is_some o)
+there_by p None before s opcode e l m =
+    absurd (leads_nowhere (seen_classes p before) s (class_under p opcode) e l m.begins)
+there_by p (Some t) before s opcode e l m = refl
 
 -- the state tells whether an opcode may follow, and whether a module may end
-pub follows : (before : List PlainInst) (s : State) (opcode : ℕ) → Leads (classes before) s
-    → may_follow s opcode ≡ true → MayFollow before opcode
-follows before s opcode l h = follows_by (next_of s (class_of opcode)) before s opcode refl l h
+pub follows : (p : Profile) (before : List PlainInst) (s : State) (opcode : ℕ) → Leads (seen_classes p before) s
+    → may_follow p s opcode ≡ true → MayFollow p before opcode
+follows p before s opcode l h = follows_by p (next_of s (class_under p opcode)) before s opcode refl l h
 
-pub followed : (before : List PlainInst) (s : State) (opcode : ℕ) → Leads (classes before) s → MayFollow before opcode
-    → may_follow s opcode ≡ true
-followed before s opcode l m = there_by (next_of s (class_of opcode)) before s opcode refl l m
+pub followed : (p : Profile) (before : List PlainInst) (s : State) (opcode : ℕ) → Leads (seen_classes p before) s
+    → MayFollow p before opcode → may_follow p s opcode ≡ true
+followed p before s opcode l m = there_by p (next_of s (class_under p opcode)) before s opcode refl l m
 
 whole_by : (b : Bool) (cs : List Class) (s : State) → may_stop s ≡ b → Leads cs s → IsTrue b ↔ IsLayout cs
 whole_by true cs s e l = (λ h. leads_end cs s e l, λ m. refl)
@@ -86,13 +93,15 @@ whole_by false cs s e l = (λ h. absurd cc, λ m. absurd (leads_no_end cs s e l 
 pub ends_there : (cs : List Class) (s : State) → Leads cs s → IsTrue (may_stop s) ↔ IsLayout cs
 ends_there cs s l = whole_by (may_stop s) cs s refl l
 
-known_by : (o : Option State) (cs : List Class) (s : State) (opcode : ℕ) → next_of s (class_of opcode) ≡ o → Leads cs s
-    → BeginsLayout (cs ++ (class_of opcode ∷ [])) → HasRow opcode
-known_by None cs s opcode e l b = absurd (leads_nowhere cs s (class_of opcode) e l b)
-known_by (Some t) cs s opcode e l b = has_row (row_of opcode) opcode s t refl e
+known_by : (p : Profile) (o : Option State) (cs : List Class) (s : State) (opcode : ℕ)
+    → next_of s (class_under p opcode) ≡ o → Leads cs s
+    → BeginsLayout (cs ++ (class_under p opcode ∷ [])) → HasRow p opcode
+known_by p None cs s opcode e l b = absurd (leads_nowhere cs s (class_under p opcode) e l b)
+known_by p (Some t) cs s opcode e l b = has_row p opcode s t e
 
 -- the opcode of an instruction with which a module begins has a row
-pub known_class : (cs : List Class) (opcode : ℕ) → BeginsLayout (cs ++ (class_of opcode ∷ [])) → HasRow opcode
-known_class cs opcode b =
-    let s = state_of cs (begins_before cs (class_of opcode ∷ []) b) in
-    known_by (next_of s.state (class_of opcode)) cs s.state opcode refl s.leads b
+pub known_class : (p : Profile) (cs : List Class) (opcode : ℕ) → BeginsLayout (cs ++ (class_under p opcode ∷ []))
+    → HasRow p opcode
+known_class p cs opcode b =
+    let s = state_of cs (begins_before cs (class_under p opcode ∷ []) b) in
+    known_by p (next_of s.state (class_under p opcode)) cs s.state opcode refl s.leads b

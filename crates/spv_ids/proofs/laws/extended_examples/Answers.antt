@@ -4,7 +4,7 @@ use Rattle.spv_module.specs.Example.{small}
 use Rattle.spv_module.specs.Operand.{Plain, OfType, Result, Id, Word, Argument, Mention}
 use Rattle.spv_module.specs.declared.fault.Rule.{Rule}
 use Rattle.spv_module.specs.declared.opcode.TheConstants as opcode
-use Rattle.spv_layout.specs.declared.class.Class.TheVariants.{Body, Function}
+use Rattle.spv_layout.specs.declared.class.Class.TheVariants.{Extended, Function}
 use Rattle.spv_layout.specs.declared.form.Form.TheVariants as form
 use Rattle.spv_layout.specs.declared.form.Role.TheVariants as role
 use Rattle.spv_layout.specs.Row.{repeated}
@@ -26,7 +26,7 @@ forms : HasForms small (extended (Argument 4))
     (form.OfType ∷ form.Result ∷ form.Id role.Set ∷ form.Word ∷ form.Unseen ∷ [])
 unfolding rows
 forms = record {
-  row = row opcode.EXT_INST opcode.EXT_INST Body (form.OfType ∷ form.Result ∷ form.Id role.Set ∷ form.Word ∷ [])
+  row = row opcode.EXT_INST opcode.EXT_INST Extended (form.OfType ∷ form.Result ∷ form.Id role.Set ∷ form.Word ∷ [])
       (repeated (form.Unseen ∷ []));
   rest = form.Unseen ∷ [];
   known = refl;

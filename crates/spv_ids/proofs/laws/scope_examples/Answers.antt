@@ -1,4 +1,4 @@
-use Rattle.std.proofs.Common.{◌≡◌, ℕ, zero, suc, [], ◌∷◌, Some, refl, arith, inr}
+use Rattle.std.proofs.Common.{◌≡◌, ◌≤◌, ℕ, zero, suc, [], ◌∷◌, Some, true, false, refl, arith, inr}
 use Rattle.std.specs.Prelude.{slice_get}
 use Rattle.spv_module.specs.Example.{small}
 use Rattle.spv_module.specs.Operand.{Plain, OfType, Result, Id}
@@ -20,7 +20,7 @@ use Rattle.spv_ids.specs.Definition.{IsDefinedAt, IsLocalTo, IsLocal}
 use Rattle.spv_ids.specs.Order.{IsInScope}
 use Rattle.spv_ids.specs.inner.Uses.{seen, seen_id, IsUsedBefore}
 use Rattle.spv_ids.specs.Broken.{Broken}
-use Rattle.spv_ids.specs.Example.{value, copy, used_inside, used_outside}
+use Rattle.spv_ids.specs.Example.{value, copy, used_inside, used_outside, between}
 use Rattle.spv_ids.proofs.Used.{IsArgument, IsTold, use_told}
 use Rattle.spv_ids.proofs.laws.scope_examples.Goals as goal
 
@@ -290,6 +290,32 @@ value_used = record {
   id = refl;
 }
 
+-- An instruction between functions is of none.
+
+between_at : (m : ℕ) → IsDefinedAt between 2 m → m ≡ 2
+between_at zero d = let e = d.there in let f : bare opcode.FUNCTION ≡ d.inst = cc in let g = rw (← f) at d.result in cc
+between_at (suc zero) d = let e = d.there in let f : bare opcode.FUNCTION_END ≡ d.inst = cc in
+    let g = rw (← f) at d.result in cc
+between_at (suc (suc zero)) d = refl
+between_at (suc (suc (suc m))) d = let e = d.there in cc
+
+function_between : (f : ℕ) → IsAt between f (Function ∷ []) → f ≤ 1
+unfolding rows
+function_between zero h = omega arith
+function_between (suc zero) h = omega arith
+function_between (suc (suc zero)) h = let no : false ≡ true = h in cc
+function_between (suc (suc (suc f))) h = absurd h
+
+end_between : IsAt between 1 (FunctionEnd ∷ [])
+unfolding rows
+end_between = refl
+
+not_between : ¬ (IsLocal between 2)
+not_between l =
+    let at : l.1.place ≡ 2 = between_at l.1.place l.1.defined in
+    let before : l.0 ≤ 1 = function_between l.0 l.1.of.begun.there in
+    l.1.of.not_ended 1 before (omega arith) end_between
+
 pub returns : goal.returns
 returns c = record {
   in_place = in_place;
@@ -299,4 +325,5 @@ returns c = record {
   not_in_scope = not_in_scope;
   broken = Broken.not_in_scope 6 2 5 role.Value (record { inst = copy 6; there = refl; used = value_used })
       (inr (inr section)) is_local not_in_scope;
+  between = not_between;
 }

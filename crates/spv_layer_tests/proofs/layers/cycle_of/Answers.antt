@@ -1,3 +1,4 @@
+use Rattle.spv_flow.specs.declared.branches.fork.Fork.TheVariants.{Distinct}
 use Rattle.spv_layer_tests.proofs.layers.cycle_of.Goals as goal
 
 pub number-requires-clause-plan : goal.number-requires-clause-plan
@@ -8,6 +9,7 @@ check_branches-requires-clause-known c = (c.args.table.now, c.in_ok-plan.ensures
 
 pub check_values-requires-clause-known : goal.check_values-requires-clause-known
 check_values-requires-clause-known c = (
+  Distinct,
   c.args.table.now,
   c.in_ok-plan.ensures.plan,
   c.in_ok-ids.ensures.ids c.args.table.now c.in_ok-plan.ensures.plan,

@@ -8,7 +8,7 @@ use Rattle.spv_layout.specs.declared.form.Form.{Form}
 use Rattle.spv_layout.specs.declared.form.Form.TheVariants as form
 use Rattle.spv_layout.specs.declared.form.Role.TheVariants as role
 use Rattle.spv_layout.specs.declared.form.Named.TheVariants as kind_of
-use Rattle.spv_layout.specs.declared.class.Class.TheVariants.{Body}
+use Rattle.spv_layout.specs.declared.class.Class.TheVariants.{Body, Extended}
 use Rattle.spv_layout.specs.Row.{maybe_others, repeated}
 use Rattle.spv_layout.specs.inner.Row.{row, v, kind, T, R, W}
 use Rattle.spv_layout.specs.Rows.{rows}
@@ -52,7 +52,7 @@ extended_forms = T ∷ R ∷ form.Id role.Set ∷ W ∷ form.Unseen ∷ form.Uns
 extended_has : HasForms small extended extended_forms
 unfolding rows
 extended_has = record {
-  row = row opcode.EXT_INST opcode.EXT_INST Body (T ∷ R ∷ form.Id role.Set ∷ W ∷ []) (repeated round);
+  row = row opcode.EXT_INST opcode.EXT_INST Extended (T ∷ R ∷ form.Id role.Set ∷ W ∷ []) (repeated round);
   rest = form.Unseen ∷ form.Unseen ∷ [];
   known = refl;
   forms = refl;

@@ -6,13 +6,13 @@ use Rattle.spv_layout.proofs.plan.first_misfit.Goals as goal
 
 pub returns-in_default-clause-some : goal.returns-in_default-clause-some
 returns-in_default-clause-some c =
-    misfit_first c.args.kinds.now (map plain_inst c.args.insts.now) c.loop-i.i (plain_inst c.index-insts-i.result)
+    misfit_first c.args.profile c.args.kinds.now (map plain_inst c.args.insts.now) c.loop-i.i (plain_inst c.index-insts-i.result)
     (inst_there c.args.insts.now c.loop-i.i c.index-insts-i.result c.loop-i-test.true c.index-insts-i.is)
     c.in_default.ensures.misfit c.loop-i.invariant
 
 pub loop-i-preserved : goal.loop-i-preserved
 loop-i-preserved c =
-    fit_more c.args.kinds.now (map plain_inst c.args.insts.now) c.loop-i.i (plain_inst c.index-insts-i.result)
+    fit_more c.args.profile c.args.kinds.now (map plain_inst c.args.insts.now) c.loop-i.i (plain_inst c.index-insts-i.result)
     (inst_there c.args.insts.now c.loop-i.i c.index-insts-i.result c.loop-i-test.true c.index-insts-i.is)
     c.in-Some.ensures.fits c.loop-i.invariant
 
@@ -20,4 +20,4 @@ pub returns-clause-none : goal.returns-clause-none
 returns-clause-none c =
     let l = length-map c.args.insts.now plain_inst in
     let e : c.loop-i.i ≡ length (map plain_inst c.args.insts.now) = omega arith in
-    fit_all c.args.kinds.now (map plain_inst c.args.insts.now) c.loop-i.i e c.loop-i.invariant
+    fit_all c.args.profile c.args.kinds.now (map plain_inst c.args.insts.now) c.loop-i.i e c.loop-i.invariant

@@ -4,4 +4,4 @@ use Rattle.spv_layout.proofs.Misfits.{FitBelow}
 use Rattle.spv_layout.proofs.plan.first_misfit.Given as goal
 
 abbrev pub invariant-loop-i : goal.invariant-loop-i
-invariant-loop-i l = FitBelow l.kinds (map plain_inst l.insts) l.i
+invariant-loop-i l = FitBelow l.profile l.kinds (map plain_inst l.insts) l.i

@@ -4,8 +4,7 @@ use Rattle.std.specs.Vec.{vec_len, vec_capacity}
 use Rattle.std.proofs.lemmas.List.{length-map}
 use Rattle.spv_module.specs.Module.{plain_inst}
 use Rattle.spv_layout.specs.declared.state.State.TheVariants as at
-use Rattle.spv_layout.specs.Rows.{class_of}
-use Rattle.spv_layout.specs.Layout.{classes}
+use Rattle.spv_layout.specs.Layout.{classes, seen, class_under}
 use Rattle.spv_layout.specs.Place.{section_of, word_count}
 use Rattle.spv_layout.specs.inner.Span.{no_number}
 use Rattle.spv_layout.specs.inner.State.{next_of, may_stop}
@@ -17,11 +16,12 @@ use Rattle.spv_layout.proofs.Following.{none_follows, stands_at, follows_on}
 use Rattle.spv_layout.proofs.Keeping.{class_there, none_kept, keeps, planned}
 use Rattle.spv_layout.proofs.Globals.{are_early}
 use Rattle.spv_layout.proofs.Rooms.{room_left, room_more}
+use Rattle.spv_layout.proofs.Seen.{seen_layout, class_known}
 use Rattle.spv_layout.proofs.plan.plan_of.Goals as goal
 
 pub loop-i-init : goal.loop-i-init
 loop-i-init c = record {
-  fit = fit_none c.args.kinds.now (map plain_inst c.args.insts.now);
+  fit = fit_none c.args.profile c.args.kinds.now (map plain_inst c.args.insts.now);
   leads = leads_first;
   follows = rw c.new-spans.ensures (none_follows (map plain_inst c.args.insts.now));
   kept = none_kept (map plain_inst c.args.insts.now) at.Capabilities c.in_ok-early.early.items c.in_ok-late.late.items c.in_ok-early.ensures.items c.in_ok-late.ensures.items;
@@ -49,14 +49,15 @@ fault-requires c =
 pub returns-in_default-clause-refused : goal.returns-in_default-clause-refused
 returns-in_default-clause-refused c =
     let h = inst_there c.args.insts.now c.loop-i.i c.index-insts-i.result c.loop-i-test.true c.index-insts-i.is in
-    let f = misfit_first c.args.kinds.now (map plain_inst c.args.insts.now) c.loop-i.i (plain_inst c.index-insts-i.result) h c.in_default.ensures.misfit c.loop-i.invariant.fit in
+    let f = misfit_first c.args.profile c.args.kinds.now (map plain_inst c.args.insts.now) c.loop-i.i (plain_inst c.index-insts-i.result) h c.in_default.ensures.misfit c.loop-i.invariant.fit in
     rw c.fault.ensures (inl f, c.loop-i.invariant.word)
 
 pub refused-requires-clause-dead : goal.refused-requires-clause-dead
 refused-requires-clause-dead c =
     let k = c.in-Some.ensures.class in
-    let e : next_of c.loop-i.state (class_of c.index-insts-i.result.opcode) ≡ None = rw (← k) (sym c.in_default-next.ensures) in
-    dead_take c.args.insts.now c.loop-i.i c.index-insts-i.result c.loop-i.state c.loop-i-test.true c.index-insts-i.is e c.loop-i.invariant.leads
+    let u = class_known c.args.profile c.index-insts-i.result.opcode c.in-Some.ensures.fits.known in
+    let e : next_of c.loop-i.state (class_under c.args.profile c.index-insts-i.result.opcode) ≡ None = rw (u, ← k) (sym c.in_default-next_seen.ensures) in
+    dead_take c.args.profile c.args.insts.now c.loop-i.i c.index-insts-i.result c.loop-i.state c.loop-i-test.true c.index-insts-i.is e c.loop-i.invariant.leads
 
 pub overflow_cast-i : goal.overflow_cast-i
 overflow_cast-i c =
@@ -93,18 +94,19 @@ loop-i-preserved c =
     let same = c.in-Some.ensures.class in
     let t = class_there c.args.insts.now n c.index-insts-i.result c.loop-i-test.true c.index-insts-i.is in
     let k : slice_get (classes is) n ≡ Some c.in-Some.row.now.class = rw same t in
-    let e : next_of c.loop-i.state c.in-Some.row.now.class ≡ Some c.in-Some-next.after = sym c.in-Some-next.ensures in
-    let e' : next_of c.loop-i.state (class_of c.index-insts-i.result.opcode) ≡ Some c.in-Some-next.after = rw (← same) e in
+    let e : next_of c.loop-i.state (seen c.args.profile c.in-Some.row.now.class) ≡ Some c.in-Some-next_seen.after = sym c.in-Some-next_seen.ensures in
+    let u = class_known c.args.profile c.index-insts-i.result.opcode c.in-Some.ensures.fits.known in
+    let e' : next_of c.loop-i.state (class_under c.args.profile c.index-insts-i.result.opcode) ≡ Some c.in-Some-next_seen.after = rw (u, ← same) e in
     let early = rw c.in-Some.ensures.section at c.in_ok-keep.ensures.early in
     let late = rw c.in-Some.ensures.section at c.in_ok-keep.ensures.late in
     let stands = stands_at is n c.loop-i.state c.in-Some.row.now.class c.loop-i.spans h m k c.loop-i.invariant.follows in
     let w = sum_more word_count plain_inst c.args.insts.now n c.index-insts-i.result c.loop-i-test.true in
     let w' = rw (← c.index-insts-i.is) at w in
     record {
-      fit = fit_more c.args.kinds.now is n (plain_inst c.index-insts-i.result) (inst_there c.args.insts.now n c.index-insts-i.result c.loop-i-test.true c.index-insts-i.is) c.in-Some.ensures.fits c.loop-i.invariant.fit;
-      leads = leads_take c.args.insts.now n c.index-insts-i.result c.loop-i.state c.in-Some-next.after c.loop-i-test.true c.index-insts-i.is e' c.loop-i.invariant.leads;
-      follows = rw (c.leave.ensures, c.enter.ensures) (follows_on is n c.loop-i.state c.in-Some-next.after c.in-Some.row.now.class c.loop-i.spans e h m k c.loop-i.invariant.follows);
-      kept = keeps is n c.loop-i.state c.in-Some-next.after c.in-Some.row.now.class c.enter.new.self c.loop-i.word c.loop-i.early.items c.keep.new.early.items c.loop-i.late.items c.keep.new.late.items e
+      fit = fit_more c.args.profile c.args.kinds.now is n (plain_inst c.index-insts-i.result) (inst_there c.args.insts.now n c.index-insts-i.result c.loop-i-test.true c.index-insts-i.is) c.in-Some.ensures.fits c.loop-i.invariant.fit;
+      leads = leads_take c.args.profile c.args.insts.now n c.index-insts-i.result c.loop-i.state c.in-Some-next_seen.after c.loop-i-test.true c.index-insts-i.is e' c.loop-i.invariant.leads;
+      follows = rw (c.leave.ensures, c.enter.ensures) (follows_on c.args.profile is n c.loop-i.state c.in-Some-next_seen.after c.in-Some.row.now.class c.loop-i.spans e h m k c.loop-i.invariant.follows);
+      kept = keeps c.args.profile is n c.loop-i.state c.in-Some-next_seen.after c.in-Some.row.now.class c.enter.new.self c.loop-i.word c.loop-i.early.items c.keep.new.early.items c.loop-i.late.items c.keep.new.late.items e
           early late k c.loop-i.invariant.word (rw c.enter.ensures stands) c.loop-i.invariant.kept;
       room = room_more is c.count_early-count.result (length c.args.insts.now) n (vec_len c.loop-i.late) (vec_len c.keep.new.late) (vec_capacity c.loop-i.late) (vec_capacity c.keep.new.late)
           c.in-Some.row.now.class c.count_early-count.ensures.early k (rw c.in-Some.ensures.section at c.in_ok-keep.ensures.len) c.keep.ensures.capacity c.loop-i.invariant.room;
@@ -116,7 +118,7 @@ refused-requires-then-not-stops-clause-dead c =
     let e = c.stops.ensures in
     let f = c.if-not-stops.true in
     let h : may_stop c.loop-i.state ≡ false = cc in
-    dead_all c.args.insts.now c.loop-i.i c.loop-i.state (omega arith) h c.loop-i.invariant.leads
+    dead_all c.args.profile c.args.insts.now c.loop-i.i c.loop-i.state (omega arith) h c.loop-i.invariant.leads
 
 pub returns-clause-plan : goal.returns-clause-plan
 returns-clause-plan c =
@@ -129,10 +131,25 @@ returns-clause-plan c =
     let h : may_stop c.loop-i.state ≡ true = cc in
     let m : length is < no_number = omega arith in
     let n : c.loop-i.i ≡ length is = omega arith in
+    let fits = fit_all c.args.profile c.args.kinds.now is c.loop-i.i n c.loop-i.invariant.fit in
     planned c.args.kinds.now is c.loop-i.state c.loop-i.spans c.loop-i.early.items c.loop-i.late.items h m
-    (fit_all c.args.kinds.now is c.loop-i.i n c.loop-i.invariant.fit)
-    (member_all c.args.insts.now c.loop-i.i c.loop-i.state (omega arith) h c.loop-i.invariant.leads)
+    (λ k i there. (fits k i there).shape)
+    (seen_layout c.args.profile is
+    (member_all c.args.profile c.args.insts.now c.loop-i.i c.loop-i.state (omega arith) h c.loop-i.invariant.leads))
     (rw n at c.loop-i.invariant.follows) (rw n at c.loop-i.invariant.kept)
+
+pub returns-clause-laid_out : goal.returns-clause-laid_out
+returns-clause-laid_out c =
+    let is = map plain_inst c.args.insts.now in
+    let l = length-map c.args.insts.now plain_inst in
+    let e = c.stops.ensures in
+    let f = c.if-not-stops.false in
+    let h : may_stop c.loop-i.state ≡ true = cc in
+    let n : c.loop-i.i ≡ length is = omega arith in
+    record {
+      fits = fit_all c.args.profile c.args.kinds.now is c.loop-i.i n c.loop-i.invariant.fit;
+      layout = member_all c.args.profile c.args.insts.now c.loop-i.i c.loop-i.state (omega arith) h c.loop-i.invariant.leads;
+    }
 
 pub invariant_of-result : goal.invariant_of-result
 invariant_of-result c =

@@ -1,7 +1,7 @@
 use Rattle.std.proofs.Common.{◌≡◌, length, map, take}
 use Rattle.std.specs.Vec.{vec_len, vec_capacity}
 use Rattle.spv_module.specs.Module.{plain_inst}
-use Rattle.spv_layout.specs.Layout.{classes}
+use Rattle.spv_layout.specs.Layout.{seen_classes}
 use Rattle.spv_layout.specs.Place.{first_word_of}
 use Rattle.spv_layout.specs.inner.Kept.{HasRoom}
 use Rattle.spv_layout.proofs.Layouts.{Leads}
@@ -12,8 +12,8 @@ use Rattle.spv_layout.proofs.plan.plan_of.Given as goal
 
 abbrev pub invariant-loop-i : goal.invariant-loop-i
 invariant-loop-i l = record {
-  fit : FitBelow l.kinds (map plain_inst l.insts) l.i;
-  leads : Leads (classes (map plain_inst (take l.i l.insts))) l.state;
+  fit : FitBelow l.profile l.kinds (map plain_inst l.insts) l.i;
+  leads : Leads (seen_classes l.profile (map plain_inst (take l.i l.insts))) l.state;
   follows : Follows (map plain_inst l.insts) l.i l.state l.spans;
   kept : Kept (map plain_inst l.insts) l.i l.state l.early.items l.late.items;
   room : HasRoom l.count (length l.insts) l.i (vec_len l.late) (vec_capacity l.late);

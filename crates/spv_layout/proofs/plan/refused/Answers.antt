@@ -23,6 +23,6 @@ fault-requires-in-None c =
 
 pub returns-in-None : goal.returns-in-None
 returns-in-None c =
-    let u = fit_unbroken c.args.kinds.now (map plain_inst c.args.insts.now) c.in-None.ensures.none in
-    let f = dead_first c.args.kinds.now (map plain_inst c.args.insts.now) c.args.rule c.args.inst c.requires.dead in
+    let u = fit_unbroken c.args.profile c.args.kinds.now (map plain_inst c.args.insts.now) c.in-None.ensures.none in
+    let f = dead_first c.args.profile c.args.kinds.now (map plain_inst c.args.insts.now) c.args.rule c.args.inst c.requires.dead in
     rw c.fault-in-None.ensures (inr (u, f), c.requires.word)

@@ -1,26 +1,10 @@
-use Rattle.std.proofs.Common.{◌≡◌, ◌<◌, ℕ, List, refl, length, map, true, Some, None, get_or, arith}
+use Rattle.std.proofs.Common.{◌≡◌, refl, length, map, Some, None, arith}
 use Rattle.std.specs.Prelude.{slice_get}
 use Rattle.std.proofs.lemmas.List.{length-map}
-use Rattle.std.proofs.lemmas.Option.{slice_get_read, slice_get_past, slice_get-get_or}
-use Rattle.spv_layout.specs.declared.form.Row.{Row}
-use Rattle.spv_layout.specs.Place.{section_of}
+use Rattle.std.proofs.lemmas.Option.{slice_get_read, slice_get_past}
 use Rattle.spv_layout.specs.inner.Row.{plain_row}
-use Rattle.spv_layout.specs.inner.Single.{is_single_row, front_of, are_flagged}
-use Rattle.spv_layout.specs.inner.Test.{HasSorts}
-use Rattle.spv_layout.proofs.Singles.{flagged_at, section_at, front_at, sorts_at}
+use Rattle.spv_layout.proofs.Singles.{flag_in, section_in, front_in, sorts_in}
 use Rattle.spv_layout.proofs.rows.row_at.Goals as goal
-
-flag_in : (rs : List Row) (k : ℕ) (d : Row) → are_flagged rs ≡ true → k < length rs → (get_or rs k d).single ≡ is_single_row (plain_row (get_or rs k d))
-flag_in rs k d f l = flagged_at rs k (get_or rs k d) f (slice_get-get_or rs k d l)
-
-section_in : (rs : List Row) (k : ℕ) (d : Row) → are_flagged rs ≡ true → k < length rs → (get_or rs k d).section ≡ section_of (get_or rs k d).class
-section_in rs k d f l = section_at rs k (get_or rs k d) f (slice_get-get_or rs k d l)
-
-front_in : (rs : List Row) (k : ℕ) (d : Row) → are_flagged rs ≡ true → k < length rs → (get_or rs k d).front ≡ front_of (get_or rs k d).fixed.now
-front_in rs k d f l = front_at rs k (get_or rs k d) f (slice_get-get_or rs k d l)
-
-sorts_in : (rs : List Row) (k : ℕ) (d : Row) → are_flagged rs ≡ true → k < length rs → HasSorts (get_or rs k d).sorts (get_or rs k d).kind (get_or rs k d).fixed.now
-sorts_in rs k d f l = sorts_at rs k (get_or rs k d) f (slice_get-get_or rs k d l)
 
 pub returns-then-place-rows-clause-single : goal.returns-then-place-rows-clause-single
 returns-then-place-rows-clause-single c = flag_in c.args.rows.now c.from-place.result _ c.requires c.if-place-rows.true

@@ -10,9 +10,9 @@ use Rattle.spv_opening.proofs.laws.broken_opened.Goals as goal
 
 pub returns : goal.returns
 returns c = record {
-  layout = λ G is. layout_broken G (set_in is) is;
+  layout = λ p G is. layout_broken p G (set_in is) is;
   ids = λ G bound is. ids_broken G bound (set_in is) is;
   roles = λ G is. roles_broken G (set_in is) is;
-  flow = λ G is. flow_broken G (set_in is) is;
+  flow = λ fork G is. flow_broken fork G (set_in is) is;
   calls = λ is. calls_broken is (opened is) (alike_opened (set_in is) is);
 }

@@ -8,7 +8,7 @@ use Rattle.spv_ops.specs.Table.{asks_of, places_of}
 use Rattle.spv_ops.specs.inner.Wide.{IsWide}
 use Rattle.spv_ops.proofs.Judged.{free_holds}
 use Rattle.spv_ops.proofs.Parts.{iff_to, typed_by, wide_place, wide_told, wide_result}
-use Rattle.spv_ops.proofs.Rows.{asks_first, places_first, counted}
+use Rattle.spv_ops.proofs.Rows.{around_counted, beside_counted, asks_first, places_first, counted}
 use Rattle.spv_ops.proofs.typed.row_holds.Goals as goal
 
 pub gathered_holds-requires-clause-counted : goal.gathered_holds-requires-clause-counted
@@ -16,6 +16,18 @@ gathered_holds-requires-clause-counted c =
     let i = plain_inst c.args.inst.now in
     counted c.args.found.first (sym (places_first i.opcode c.args.found.first (sym c.requires.first))
     ∙ sym c.requires.places ∙ c.in-Ids.is)
+
+pub around_holds-requires-clause-counted : goal.around_holds-requires-clause-counted
+around_holds-requires-clause-counted c =
+    let i = plain_inst c.args.inst.now in
+    around_counted c.args.found.first (sym (places_first i.opcode c.args.found.first (sym c.requires.first))
+    ∙ sym c.requires.places ∙ c.in-Around.is)
+
+pub beside_holds-requires-clause-counted : goal.beside_holds-requires-clause-counted
+beside_holds-requires-clause-counted c =
+    let i = plain_inst c.args.inst.now in
+    beside_counted c.args.found.first c.in-Beside.skip
+    (sym (places_first i.opcode c.args.found.first (sym c.requires.first)) ∙ sym c.requires.places ∙ c.in-Beside.is)
 
 pub returns-in-Free : goal.returns-in-Free
 returns-in-Free c = (
@@ -51,6 +63,34 @@ returns-in-Ids c =
     let asks = asks_first i.opcode c.args.found.first (sym c.requires.first) in
     iff_to c.gathered_holds.ensures (typed_by is n i places.Ids (asks_of c.args.found.first) r os
     (sym c.requires.places ∙ c.in-Ids.is) asks result rest)
+
+pub returns-in-Around : goal.returns-in-Around
+returns-in-Around c =
+    let is = c.args.definitions.now in
+    let i = plain_inst c.args.inst.now in
+    let n = c.args.number in
+    let operands = ap plain_operands c.as_slice-operands.ensures.value in
+    let os = plain_operands c.after_head-rest.result.now in
+    let r = c.result_type-r.result in
+    let result : result_type_in i.operands ≡ r = sym (c.result_type-r.ensures ∙ ap result_type_in operands) in
+    let rest : after_head i.operands ≡ os = sym (c.after_head-rest.ensures ∙ ap after_head operands) in
+    let asks = asks_first i.opcode c.args.found.first (sym c.requires.first) in
+    iff_to c.around_holds.ensures (typed_by is n i places.Around (asks_of c.args.found.first) r os
+    (sym c.requires.places ∙ c.in-Around.is) asks result rest)
+
+pub returns-in-Beside : goal.returns-in-Beside
+returns-in-Beside c =
+    let is = c.args.definitions.now in
+    let i = plain_inst c.args.inst.now in
+    let n = c.args.number in
+    let operands = ap plain_operands c.as_slice-operands.ensures.value in
+    let os = plain_operands c.after_head-rest.result.now in
+    let r = c.result_type-r.result in
+    let result : result_type_in i.operands ≡ r = sym (c.result_type-r.ensures ∙ ap result_type_in operands) in
+    let rest : after_head i.operands ≡ os = sym (c.after_head-rest.ensures ∙ ap after_head operands) in
+    let asks = asks_first i.opcode c.args.found.first (sym c.requires.first) in
+    iff_to c.beside_holds.ensures (typed_by is n i (places.Beside c.in-Beside.skip) (asks_of c.args.found.first) r os
+    (sym c.requires.places ∙ c.in-Beside.is) asks result rest)
 
 pub returns-in-One : goal.returns-in-One
 returns-in-One c =

@@ -2,12 +2,6 @@ use Rattle.std.proofs.Common.{arith}
 use Rattle.std.proofs.lemmas.Grind.{common_steps}
 use Rattle.spv_ops.proofs.variable.variable_holds.Goals as goal
 
-pub returns-then-may_declare : goal.returns-then-may_declare
-returns-then-may_declare c = grind (arith, common_steps)
-
-pub returns-else-may_declare : goal.returns-else-may_declare
-returns-else-may_declare c = grind (arith, common_steps)
-
 pub returns-in_default : goal.returns-in_default
 returns-in_default c = grind (arith, common_steps)
 

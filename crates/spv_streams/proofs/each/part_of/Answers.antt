@@ -5,4 +5,5 @@ pub returns-clause-part : goal.returns-clause-part
 returns-clause-part g c =
     known_part c.args.table.now c.args.how c.args.name.now
     (g.F.Files.known c.args.files.now c.args.number) c.read-file.result c.judge_file.result
-    c.read-file.ensures.given c.read-file.ensures.unread c.judge_file.ensures.judged c.judge_file.ensures.unread
+    c.read-file.ensures.given c.read-file.ensures.unread c.read-file.ensures.only
+    c.judge_file.ensures.judged c.judge_file.ensures.unread

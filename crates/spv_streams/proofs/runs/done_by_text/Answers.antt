@@ -5,7 +5,7 @@ use Rattle.spv_streams.proofs.runs.done_by_text.Goals as goal
 pub returns-in-Ok-clause-ends : goal.returns-in-Ok-clause-ends
 returns-in-Ok-clause-ends g c =
     by_text c.args.command.now (option_map (λ t. t.now) c.args.grammar) c.in-Ok.table _ _ _ _ c.in-Ok.ensures.table
-    c.done_as-answer.ensures.ends
+    c.done_by-answer.ensures.ends
 
 pub returns-in-Err-clause-ends : goal.returns-in-Err-clause-ends
 returns-in-Err-clause-ends g c =

@@ -9,9 +9,11 @@ use Rattle.spv_type_forms.specs.Operands.{ids_in}
 use Rattle.spv_type_forms.specs.Types.{scalar_in, IsData}
 use Rattle.spv_type_rules.specs.declared.declaration.Declaration.{Declaration}
 use Rattle.spv_type_rules.specs.declared.declaration.Declaration.TheVariants as kind
-use Rattle.spv_type_rules.specs.Declaration.{DeclaresSoundly}
+use Rattle.spv_type_forms.specs.declared.objects.Image.{Image}
+use Rattle.spv_type_forms.specs.Objects.{image_in}
+use Rattle.spv_type_rules.specs.Declaration.{DeclaresSoundly, IsSoundImage}
 use Rattle.spv_type_rules.specs.Asked.{IsVectorCount}
-use Rattle.spv_type_evidence.specs.types.Declaration.{Asks}
+use Rattle.spv_type_evidence.specs.types.Declaration.{Asks, AsksImage}
 
 pub all_at : (P : ℕ → Type 0) (xs : List ℕ) (j x : ℕ) → AllByRecursion P xs → slice_get xs j ≡ Some x → P x
 all_at P [] j x h e = cc
@@ -33,6 +35,17 @@ scalar_holds P (Some s) h = h
 scalar_with : (P : Type 0) (o : Option Scalar) (s : Scalar) → o ≡ Some s → P → IsSomeAnd o (λ s. P)
 scalar_with P o s e h = rw e h
 
+image_asks : (is : List PlainInst) (o : Option Image) (k : ℕ) → IsSomeAnd o (IsSoundImage is)
+    → IsSomeAnd o (AsksImage is k)
+image_asks is None k h = h
+image_asks is (Some m) k h = (λ e. h.0, λ e. h.1, λ e. h.2, λ e. h.3, λ e. h.4)
+
+image_declares : (is : List PlainInst) (o : Option Image) → ((k : ℕ) → IsSomeAnd o (AsksImage is k))
+    → IsSomeAnd o (IsSoundImage is)
+image_declares is None h = h 0
+image_declares is (Some m) h =
+    ((h 1).0 refl, (h 3).1 refl, (h 4).2 refl, (h 5).3 refl, (h 6).4 refl)
+
 pub declares_asks : (is : List PlainInst) (n : ℕ) (d : Declaration) (os : List Plain) → DeclaresSoundly is n d os
     → (k : ℕ) → Asks is n d os k
 declares_asks is n kind.Int (Result t ∷ Word w ∷ Word s ∷ []) h k = (λ e. h.0, λ e. h.1)
@@ -46,6 +59,8 @@ declares_asks is n kind.Pointer (Result t ∷ Value j class ∷ Id p ∷ []) h k
 declares_asks is n kind.Function (Result t ∷ Id r ∷ os) h k =
     (λ e. h.0, λ j x e at. all_at (IsData is) (ids_in os) j x h.1 at)
 declares_asks is n kind.Forward (Id p ∷ Value j class ∷ []) h k = λ e. h
+declares_asks is n kind.Image os h k = image_asks is (image_in os) k h
+declares_asks is n kind.SampledImage (Result t ∷ Id i ∷ []) h k = λ e. h
 declares_asks is n d os h k = h
 
 pub asks_declares : (is : List PlainInst) (n : ℕ) (d : Declaration) (os : List Plain) → ((k : ℕ) → Asks is n d os k)
@@ -61,6 +76,8 @@ asks_declares is n kind.Pointer (Result t ∷ Value j class ∷ Id p ∷ []) h =
 asks_declares is n kind.Function (Result t ∷ Id r ∷ os) h =
     ((h 1).0 refl, at_all (IsData is) (ids_in os) (λ j x e. (h (2 + j)).1 j x refl e))
 asks_declares is n kind.Forward (Id p ∷ Value j class ∷ []) h = h 0 refl
+asks_declares is n kind.Image os h = image_declares is (image_in os) h
+asks_declares is n kind.SampledImage (Result t ∷ Id i ∷ []) h = h 1 refl
 asks_declares is n d os h = h 0
 
 pub operands_declare : (is : List PlainInst) (n : ℕ) (d : Declaration) (os : List Plain)

@@ -1,8 +1,8 @@
 -- The first operand of which what is asked does not hold.
 use Rattle.std.proofs.Common.{◌≡◌, ◌≢◌, ◌∙◌, ◌<◌, ◌≤◌, ◌+◌, ◌↔◌, inl, inr, Bool, true, get_or, nat_eq, ℕ, zero, suc}
 use Rattle.std.proofs.Common.{List, [], ◌∷◌, Option, Some, None, refl, sym, ap, subst, length, arith}
-use Rattle.std.specs.Prelude.{slice_get, IsTrue, MatchOption}
-use Rattle.std.proofs.lemmas.Bool.{eqb-true, eq-eqb, cases_lt}
+use Rattle.std.specs.Prelude.{slice_get, IsTrue, MatchOption, IsSomeAnd, false, if◌then◌else◌}
+use Rattle.std.proofs.lemmas.Bool.{eqb-true, eq-eqb, ne_eqb, cases_lt}
 use Rattle.std.proofs.lemmas.Option.{slice_get_within, some_pair_parts}
 use Rattle.spv_module.specs.Operand.{Plain, PlainInst}
 use Rattle.spv_module.specs.Operand as operand
@@ -15,16 +15,20 @@ use Rattle.spv_type_rules.specs.declared.declaration.Declaration.TheVariants as 
 use Rattle.spv_table.specs.Table.{Table}
 use Rattle.spv_module.specs.declared.fault.Rule.TheVariants.{Y2}
 use Rattle.spv_evidence.specs.declared.evidence.Evidence.TheVariants as evidence
+use Rattle.spv_evidence.specs.declared.condition.Condition.{Condition}
+use Rattle.spv_evidence.specs.declared.condition.Condition.TheVariants as condition
 use Rattle.spv_type_evidence.specs.types.Evidence.{Shows}
 use Rattle.spv_type_evidence.proofs.lemmas.types.Declaring.{asks_declares}
 use Rattle.spv_type_rules.specs.declared.declaration.Declaration.{Declaration}
-use Rattle.spv_type_rules.specs.Declaration.{declaration_of, DeclaresSoundly, IsLength, IsPointerAfter}
+use Rattle.spv_type_forms.specs.declared.objects.Image.{Image}
+use Rattle.spv_type_forms.specs.Objects.{image_in, image_of}
+use Rattle.spv_type_rules.specs.Declaration.{declaration_of, DeclaresSoundly, IsLength, IsPointerAfter, IsSampled}
 use Rattle.spv_type_rules.specs.Asked.{IsIntWidth, IsFloatWidth, IsVectorCount, IsPointee, IsReturned}
 use Rattle.spv_type_rules.specs.inner.Declaration.{IsSoundDeclaration}
 use Rattle.spv_evidence.specs.Named.{IsDefinedBy}
-use Rattle.spv_type_evidence.specs.types.Declaration.{AsksData, Asks, IsScalar, condition_at}
+use Rattle.spv_type_evidence.specs.types.Declaration.{AsksData, AsksImage, Asks, IsScalar, condition_after, condition_at}
 use Rattle.spv_type_evidence.specs.types.inner.Operands.{int_in, float_in, vector_in, array_in, pointee_in, forward_in}
-use Rattle.spv_type_evidence.specs.types.inner.Operands.{members_in, signature_in}
+use Rattle.spv_type_evidence.specs.types.inner.Operands.{image_type_in, members_in, signature_in}
 use Rattle.spv_type_rules.proofs.Same.{operand_there}
 use Rattle.spv_type_evidence.specs.types.inner.First.{IsFirstOf}
 
@@ -205,6 +209,19 @@ pointer_first is (operand.Result t ∷ operand.Value j class ∷ operand.Id u �
     other_moved (IsPointee is u) true b o refl (subst (λ x. IsTrue b ↔ IsPointee is x) first g) h
 pointer_first is _ p b o e g h = cc
 
+pub sampled_first : (is : List PlainInst) (os : List Plain) (p : ℕ) (a : Bool) (o : Option ℕ)
+    → Some p ≡ image_type_in os → (IsTrue a ↔ IsSomeAnd (image_of is p) IsSampled)
+    → IsFirstOf (λ k. (k ≡ 1 → IsTrue a) × (k ≡ 2 → IsTrue true)) o → IsFirstOf (Asks is 0 kind.SampledImage os) o
+sampled_first is (operand.Result t ∷ operand.Id u ∷ []) p a o e f h =
+    let first : p ≡ u = cc in
+    one_moved (IsSomeAnd (image_of is u) IsSampled) a true o
+    (subst (λ x. IsTrue a ↔ IsSomeAnd (image_of is x) IsSampled) first f) refl h
+sampled_first is _ p a o e f h = cc
+
+pub image_in_first : (is : List PlainInst) (os : List Plain) (m : Image) (o : Option ℕ) → Some m ≡ image_in os
+    → IsFirstOf (λ k. AsksImage is k m) o → IsFirstOf (Asks is 0 kind.Image os) o
+image_in_first is os m o e h = subst (λ p. IsFirstOf (λ k. IsSomeAnd p (AsksImage is k)) o) e h
+
 pub forward_holds : (is : List PlainInst) (n : ℕ) (os : List Plain) (p class : ℕ) → Some (p, class) ≡ forward_in os
     → IsPointerAfter is n p class → (k : ℕ) → Asks is n kind.Forward os k
 forward_holds is n (operand.Id u ∷ operand.Value j v ∷ []) p class e h k =
@@ -253,6 +270,16 @@ returned_first is (operand.Result t ∷ operand.Id u ∷ qs) ps r e never =
       λ j l. (λ z. absurd (omega arith), λ m x z at. absurd (omega arith)),
     )
 returned_first is _ ps r e never = cc
+
+-- what is asked of an operand after the first, where it is not of a forward pointer
+unless_first : (b : Bool) (x y : Condition) → b ≡ false → (if b then x else y) ≡ y
+unless_first true x y e = cc
+unless_first false x y e = refl
+
+pub condition_otherwise : (d : Declaration) (k : ℕ) → (d ≡ kind.Forward → ⊥) → (k ≡ 0 → ⊥)
+    → condition_at d k ≡ condition_after d k
+condition_otherwise kind.Forward k n e = absurd (n refl)
+condition_otherwise d k n e = unless_first (nat_eq k 0) condition.Operands (condition_after d k) (ne_eqb k 0 e)
 
 -- Y2, by the first operand that fails.
 

@@ -3,7 +3,7 @@ use Rattle.std.proofs.Common.{◌≡◌, ◌+◌, ◌↔◌, inl, inr, ℕ, zero
 use Rattle.std.proofs.Common.{false, ◌&&◌, refl, ap, subst, option_and_then, arith}
 use Rattle.std.specs.Prelude.{slice_get, IsTrue, IsSomeAnd}
 use Rattle.std.proofs.lemmas.Bool.{eqb-true, eq-eqb}
-use Rattle.spv_module.specs.Operand.{Plain, Number, PlainInst, type_in}
+use Rattle.spv_module.specs.Operand.{Plain, Word, Number, Value, PlainInst, type_in}
 use Rattle.spv_module.specs.Width.{definition_of}
 use Rattle.spv_type_forms.specs.Operands.{ids_in, after_head}
 use Rattle.spv_type_forms.specs.Parts.{part_of}
@@ -98,6 +98,8 @@ constitutes_asks is kind.Number r (Number low high words ∷ []) h k = (λ e. fi
 constitutes_asks is kind.Composite r os h k = parts_ask is false r (ids_in os) h k
 constitutes_asks is kind.SpecComposite r os h k = parts_ask is true r (ids_in os) h k
 constitutes_asks is kind.Null r os h k = λ e. h
+constitutes_asks is kind.Sampler r (Value a mode ∷ Word n ∷ Value f filter ∷ []) h k = (λ e. h.0, λ e. h.1)
+constitutes_asks is kind.PipeStorage r os h k = λ e. h
 constitutes_asks is c r os h k = h
 
 asks_constitutes : (is : List PlainInst) (c : Constant) (r : ℕ) (os : List Plain) → ((k : ℕ) → AsksOf is c r os k)
@@ -107,6 +109,8 @@ asks_constitutes is kind.Number r (Number low high words ∷ []) h = (h 2).1 ref
 asks_constitutes is kind.Composite r os h = ask_parts is false r (ids_in os) h
 asks_constitutes is kind.SpecComposite r os h = ask_parts is true r (ids_in os) h
 asks_constitutes is kind.Null r os h = h 0 refl
+asks_constitutes is kind.Sampler r (Value a mode ∷ Word n ∷ Value f filter ∷ []) h = ((h 0).0 refl, (h 3).1 refl)
+asks_constitutes is kind.PipeStorage r os h = h 0 refl
 asks_constitutes is c r os h = h 0
 
 pub makes_asks : (is : List PlainInst) (c : Constant) (os : List Plain)

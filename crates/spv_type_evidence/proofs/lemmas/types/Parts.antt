@@ -1,6 +1,6 @@
 -- The first operand of a constant of which what is asked does not hold.
-use Rattle.std.proofs.Common.{◌≡◌, ◌∙◌, ◌≤◌, ◌+◌, ◌↔◌, Bool, true, ℕ, List, ◌∷◌, Option, Some, sym, ap, subst, length}
-use Rattle.std.proofs.Common.{arith}
+use Rattle.std.proofs.Common.{◌≡◌, ◌∙◌, ◌≤◌, ◌+◌, ◌↔◌, Bool, true, ℕ, List, [], ◌∷◌, Option, Some, sym, ap, subst, length}
+use Rattle.std.proofs.Common.{arith, refl}
 use Rattle.std.specs.Prelude.{slice_get, IsTrue, IsSomeAnd, MatchOption, sum_by}
 use Rattle.spv_table.specs.Table.{Table}
 use Rattle.spv_module.specs.Operand.{Plain, PlainInst, type_in}
@@ -10,17 +10,20 @@ use Rattle.spv_module.specs.declared.fault.Rule.TheVariants.{Y4}
 use Rattle.spv_layout.specs.Place.{operand_words, AreFew}
 use Rattle.spv_type_forms.specs.Operands.{ids_in, after_head}
 use Rattle.spv_type_forms.specs.Parts.{part_of, count_of}
+use Rattle.spv_type_forms.specs.Types.{IsNumber}
 use Rattle.spv_type_rules.specs.declared.constant.Constant.{Constant}
-use Rattle.spv_type_rules.specs.Constant.{Constitutes, constant_of}
+use Rattle.spv_type_rules.specs.declared.constant.Constant.TheVariants as kind
+use Rattle.spv_type_rules.specs.Constant.{Constitutes, FitsWidth, constant_of}
 use Rattle.spv_type_rules.specs.inner.Constant.{IsSoundConstant}
 use Rattle.spv_type_rules.specs.inner.Found.{is_typed_part}
 use Rattle.spv_evidence.specs.declared.evidence.Evidence.TheVariants as evidence
 use Rattle.spv_evidence.specs.Named.{IsDefinedBy}
-use Rattle.spv_type_evidence.specs.types.Constant.{IsPartOf, AsksParts, Asks, condition_at, wanted_at, found_at}
+use Rattle.spv_type_evidence.specs.types.Constant.{IsPartOf, AsksParts, AsksOf, Asks, condition_in, wanted_at, found_at}
 use Rattle.spv_type_evidence.specs.types.Constant.{read_at}
 use Rattle.spv_type_evidence.specs.types.Evidence.{Shows}
 use Rattle.spv_type_evidence.specs.types.inner.First.{IsFirstOf}
 use Rattle.spv_type_evidence.specs.types.inner.Known.{IsKnown}
+use Rattle.spv_type_evidence.specs.types.inner.Operands.{low_in}
 use Rattle.spv_type_evidence.proofs.lemmas.types.Firsts.{first_moved}
 use Rattle.spv_type_evidence.proofs.lemmas.types.Making.{part_told, asks_makes}
 use Rattle.spv_type_evidence.proofs.lemmas.types.Shaped.{few_ids, few_words, one_word}
@@ -47,6 +50,14 @@ pub unless_moved : (A : Type 0) (b : Bool) (o : Option ℕ) → (IsTrue b ↔ A)
 unless_moved A b o f h =
     first_moved (λ k. k ≡ 0 → IsTrue b) (λ k. k ≡ 0 → A) o (λ k. (λ p e. f.0 (p e), λ p e. f.1 (p e))) h
 
+-- a number that does not fit its type
+pub unfit_number : (is : List PlainInst) (r low : ℕ) (os : List Plain) → Some low ≡ low_in os → IsNumber is r
+    → ¬ (FitsWidth is r low) → IsFirstOf (AsksOf is kind.Number r os) (Some 2)
+unfit_number is r low (operand.Number m high words ∷ []) e n f =
+    let same : low ≡ m = cc in
+    (λ a. f (subst (FitsWidth is r) (sym same) (a.1 refl)), λ j l. (λ z. n, λ z. absurd (omega arith)))
+unfit_number is r low _ e n f = cc
+
 -- Y4, by the first operand that fails.
 
 pub constant_sound : (is : List PlainInst) (i : PlainInst) (c : Constant) → Some c ≡ constant_of i.opcode
@@ -58,7 +69,7 @@ constant_sound is i c e h =
 pub constant_shows : (G : Table) (is : List PlainInst) (n k : ℕ) (i : PlainInst) (c : Constant)
     → Some c ≡ constant_of i.opcode → IsFirstOf (Asks is c i.operands) (Some k)
     → (m : Option ℕ) → IsDefinedBy is i (Some k) m
-    → Shows G is n i Y4 (evidence.Condition (condition_at c k) (Some k) m (wanted_at is c i k) (found_at is c i k)
+    → Shows G is n i Y4 (evidence.Condition (condition_in is c i k) (Some k) m (wanted_at is c i k) (found_at is c i k)
     (read_at is c i k))
 constant_shows G is n k i c e h m by =
     Shows.constant k m (record { kind = c; makes = sym e; fails = h.0; before = h.1 }) by

@@ -2,6 +2,7 @@ use Rattle.std.proofs.Common.{◌≡◌, ◌<◌, ◌∙◌, ℕ, sym, ap, subst
 use Rattle.std.proofs.lemmas.List.{length-map}
 use Rattle.std.proofs.lemmas.Option.{slice_get_within}
 use Rattle.spv_module.specs.Module.{plain_inst, plain_insts}
+use Rattle.spv_layout.specs.Place.{AreFew}
 use Rattle.spv_layout.proofs.Misfits.{short_list}
 use Rattle.spv_ids.specs.Outcome.{IsDefinitionOf, definition_in}
 use Rattle.spv_type_evidence.proofs.lemmas.types.Knowing.{known_of, call_opcode}
@@ -36,6 +37,14 @@ constant_evidence-requires-clause-few c =
     let known = known_of b.0 (plain_insts c.args.module.now) c.new-definitions.result c.args.plan.now c.args.rule
     c.args.number e c.requires.words b.1 in
     few_parts b.0 c.new-definitions.result c.args.number (plain_inst c.inst-inst.result.now) known c.inst-inst.ensures
+
+pub constant_evidence-requires-clause-insts : goal.constant_evidence-requires-clause-insts
+constant_evidence-requires-clause-insts c =
+    let e : c.new-definitions.result ≡ plain_insts c.args.module.now = c.new-definitions.ensures
+    ∙ ap (λ xs. map plain_inst xs) c.as_slice-insts.ensures.value in
+    let l = short_list (plain_insts c.args.module.now) in
+    let w = c.requires.words in
+    subst (λ is. AreFew is) (sym e) (omega arith)
 
 pub constant_evidence-requires-clause-ids : goal.constant_evidence-requires-clause-ids
 constant_evidence-requires-clause-ids c =

@@ -32,6 +32,11 @@ abbrev pub forward_in : List Plain → Option (ℕ × ℕ)
 forward_in (Id p ∷ Value j class ∷ []) = Some (p, class)
 forward_in _ = None
 
+-- of an OpTypeSampledImage, the image type
+abbrev pub image_type_in : List Plain → Option ℕ
+image_type_in (Result t ∷ Id i ∷ []) = Some i
+image_type_in _ = None
+
 -- of an OpTypeStruct, its members
 abbrev pub members_in : List Plain → Option (List Plain)
 members_in (Result t ∷ os) = Some os
@@ -46,3 +51,8 @@ signature_in _ = None
 abbrev pub low_in : List Plain → Option ℕ
 low_in (Number low high words ∷ []) = Some low
 low_in _ = None
+
+-- of an OpConstantSampler, what tells whether its coordinates are normalized, by what follows its type and its result
+abbrev pub normalized_in : List Plain → Option ℕ
+normalized_in (Value a mode ∷ Word n ∷ Value f filter ∷ []) = Some n
+normalized_in _ = None

@@ -1,5 +1,6 @@
 use Rattle.std.proofs.Common.{arith}
 use Rattle.std.proofs.lemmas.Grind.{common_steps}
+use Rattle.spv_type_rules.proofs.Lengths.{too_few, too_many}
 use Rattle.spv_type_rules.proofs.declaration.declares_array.Goals as goal
 
 pub returns-in_default-2 : goal.returns-in_default-2
@@ -11,5 +12,8 @@ returns-in_default-3 c = grind (arith, common_steps)
 pub returns-in_default-4 : goal.returns-in_default-4
 returns-in_default-4 c = grind (arith, common_steps)
 
+pub returns-in_default : goal.returns-in_default
+returns-in_default c = too_few c.args.definitions.now c.args.operands.now (omega arith)
+
 pub returns-in_default-5 : goal.returns-in_default-5
-returns-in_default-5 c = grind (arith, common_steps)
+returns-in_default-5 c = too_many c.args.definitions.now c.args.operands.now (omega arith)

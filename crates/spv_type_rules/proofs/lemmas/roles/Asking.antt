@@ -11,7 +11,7 @@ use Rattle.spv_layout.specs.declared.form.Role.TheVariants as role
 use Rattle.spv_layout.specs.declared.form.Form.{Form}
 use Rattle.spv_layout.specs.declared.form.Form.TheVariants as form
 use Rattle.spv_layout.specs.Row.{PlainRow, RowEnding, closed, maybe, file_and_text, repeated, others, maybe_others}
-use Rattle.spv_layout.specs.Row.{has_masks, name_of, row_in}
+use Rattle.spv_layout.specs.Row.{maybe_repeated, has_masks, name_of, row_in}
 use Rattle.spv_layout.specs.Rows.{rows}
 use Rattle.spv_layout.specs.Shape.{is_of, AreOf, Ends, HasForms, FitsShape, role_of, id_of}
 use Rattle.spv_type_forms.proofs.Opcodes.{both, and_yes, all_pass, one_passes}
@@ -390,6 +390,8 @@ asks_ending d r l file_and_text = false
 asks_ending d r l (repeated fs) = all_plain d r fs
 asks_ending d r l others = are_free d r l
 asks_ending d r l (maybe_others f) = not (is_other f) && (fits f d r && are_free (due_by d r l f) (next_by r l f) l)
+asks_ending d r l (maybe_repeated f g) =
+    not (is_other f) && (fits f d r && all_plain (due_by d r l f) (next_by r l f) (g ∷ []))
 
 abbrev asks_row : Role → Role → Role → List Form → RowEnding → Bool
 asks_row d r l [] e = asks_ending d r l e
@@ -466,6 +468,13 @@ ending_asks d r l (maybe_others f) gs h (Ends.kind _ hs e) =
     let more = both (fits f d r) (are_free (due_by d r l f) (next_by r l f) l) two.1 in
     one_more d r l f hs (not_true (is_other f) two.0) more.0
     (free_asks (due_by d r l f) (next_by r l f) l hs more.1 (others_only hs e))
+ending_asks d r l (maybe_repeated f g) gs h (Ends.no_first _ _) = refl
+ending_asks d r l (maybe_repeated f g) gs h (Ends.first _ _ hs e) =
+    let two = both (not (is_other f)) (fits f d r && all_plain (due_by d r l f) (next_by r l f) (g ∷ [])) h in
+    let more = both (fits f d r) (all_plain (due_by d r l f) (next_by r l f) (g ∷ [])) two.1 in
+    one_more d r l f hs (not_true (is_other f) two.0) more.0
+    (plain_asks (due_by d r l f) (next_by r l f) l hs
+    (plain_repeated (due_by d r l f) (next_by r l f) (g ∷ []) hs more.1 e)).0
 
 row_asks : (d r l : Role) (fs : List Form) (e : RowEnding) (gs : List Form) → asks_row d r l fs e ≡ true → Ends e gs
     → asks d r l (fs ++ gs) ≡ true

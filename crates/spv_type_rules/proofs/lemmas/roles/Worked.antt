@@ -1,6 +1,6 @@
 -- The worked examples of Y1.
 use Rattle.std.proofs.Common.{◌≡◌, ◌∙◌, ◌+◌, ℕ, zero, suc, List, [], ◌∷◌, Some, None, true, false, refl, sym, subst}
-use Rattle.std.proofs.Common.{arith, lit≤}
+use Rattle.std.proofs.Common.{arith, lit≤, inl}
 use Rattle.std.specs.Prelude.{slice_get}
 use Rattle.spv_table.specs.Table.{Table}
 use Rattle.spv_module.specs.Operand.{Plain, OfType, Result, Id, Word, Argument, Mention, PlainInst}
@@ -89,7 +89,8 @@ typed_at G zero k x r i at u =
     (subst (λ (j : PlainInst). IsUse G j k x r) same u)
 typed_at G (suc zero) k x r i at u =
     let same : i ≡ inst opcode.UNDEF (OfType 1 ∷ Result 2 ∷ []) = cc in
-    played G typed (inst opcode.UNDEF (OfType 1 ∷ Result 2 ∷ [])) types_alone refl ((lit≤ tt, lit≤ tt), (tt, tt)) k x r
+    played G typed (inst opcode.UNDEF (OfType 1 ∷ Result 2 ∷ [])) types_alone refl (inl (lit≤ tt, lit≤ tt), (tt, tt)) k x
+    r
     (subst (λ (j : PlainInst). IsUse G j k x r) same u)
 typed_at G (suc (suc n)) k x r i at u = cc
 
@@ -118,7 +119,8 @@ extended_forms : (G : Table) (o : Plain) → is_of G form.Unseen o ≡ true
     → HasForms G (extended o) (form.OfType ∷ form.Result ∷ form.Id role.Set ∷ form.Word ∷ form.Unseen ∷ [])
 unfolding rows
 extended_forms G o h = record {
-  row = row opcode.EXT_INST opcode.EXT_INST class.Body (form.OfType ∷ form.Result ∷ form.Id role.Set ∷ form.Word ∷ [])
+  row = row opcode.EXT_INST opcode.EXT_INST class.Extended
+      (form.OfType ∷ form.Result ∷ form.Id role.Set ∷ form.Word ∷ [])
       (repeated (form.Unseen ∷ []));
   rest = form.Unseen ∷ [];
   known = refl;
@@ -172,12 +174,12 @@ extended_unbroken G o p b = extended_at G o Y1 5 p refl b
 pub argument_unbroken : (G : Table) → ¬ (Broken G (with_extended (Argument 2)) Y1 5)
 argument_unbroken G =
     extended_unbroken G (Argument 2) (
-      (lit≤ tt, lit≤ tt),
+      inl (lit≤ tt, lit≤ tt),
       (tt, (refl, (tt, ((refl, λ (e : opcode.UNDEF ≡ opcode.FUNCTION). let no : 1 ≡ 54 = e in omega (arith, no)), tt)))),
     )
 
 pub unseen_unbroken : (G : Table) → ¬ (Broken G (with_extended (Id 1)) Y1 5)
-unseen_unbroken G = extended_unbroken G (Id 1) ((lit≤ tt, lit≤ tt), (tt, (refl, (tt, (tt, tt)))))
+unseen_unbroken G = extended_unbroken G (Id 1) (inl (lit≤ tt, lit≤ tt), (tt, (refl, (tt, (tt, tt)))))
 
 pub mention_unbroken : (G : Table) → ¬ (Broken G (with_extended (Mention 1)) Y1 5)
-mention_unbroken G = extended_unbroken G (Mention 1) ((lit≤ tt, lit≤ tt), (tt, (refl, (tt, (tt, tt)))))
+mention_unbroken G = extended_unbroken G (Mention 1) (inl (lit≤ tt, lit≤ tt), (tt, (refl, (tt, (tt, tt)))))

@@ -20,7 +20,8 @@ early n =
     if nat_eq n opcode.CONSTANT_COMPOSITE || nat_eq n opcode.SPEC_CONSTANT_COMPOSITE || nat_eq n opcode.VARIABLE
     then ask role.Value role.Value role.Any
     else (if nat_eq n opcode.TYPE_VECTOR || nat_eq n opcode.TYPE_STRUCT || nat_eq n opcode.TYPE_POINTER
-    || nat_eq n opcode.TYPE_FUNCTION || nat_eq n opcode.TYPE_FORWARD_POINTER || nat_eq n opcode.FUNCTION
+    || nat_eq n opcode.TYPE_FUNCTION || nat_eq n opcode.TYPE_FORWARD_POINTER || nat_eq n opcode.TYPE_IMAGE
+    || nat_eq n opcode.TYPE_SAMPLED_IMAGE || nat_eq n opcode.FUNCTION
     then ask role.OfType role.OfType role.OfType
     else (if nat_eq n opcode.TYPE_ARRAY then ask role.OfType role.Value role.Value
     else (if nat_eq n opcode.FUNCTION_CALL then ask role.Function role.Value role.Value
@@ -31,14 +32,33 @@ early n =
     else (if nat_eq n opcode.SOURCE then None
     else ask role.Any role.Any role.Any))))))))
 
+-- those past it of images, groups, pipes, queues and events, and of dot products, that ask for values; and those that
+-- take a function among values
+abbrev pub are_values : ℕ → Bool
+are_values n =
+    nat_eq n opcode.IMAGE_TEXEL_POINTER || is_between opcode.SAMPLED_IMAGE opcode.IMAGE_QUERY_SAMPLES n
+    || is_between opcode.GROUP_ASYNC_COPY opcode.ENQUEUE_MARKER n
+    || is_between opcode.RETAIN_EVENT opcode.BUILD_ND_RANGE n
+    || is_between opcode.ATOMIC_FLAG_TEST_AND_SET opcode.CREATE_PIPE_FROM_PIPE_STORAGE n
+    || is_between opcode.NAMED_BARRIER_INITIALIZE opcode.MEMORY_NAMED_BARRIER n
+    || is_between opcode.GROUP_NON_UNIFORM_ELECT opcode.PTR_DIFF n
+    || is_between opcode.S_DOT opcode.SU_DOT_ACC_SAT n
+
+abbrev pub takes_kernel : ℕ → Bool
+takes_kernel n =
+    is_between opcode.ENQUEUE_KERNEL opcode.GET_KERNEL_PREFERRED_WORK_GROUP_SIZE_MULTIPLE n
+    || nat_eq n opcode.GET_KERNEL_LOCAL_SIZE_FOR_SUBGROUP_COUNT || nat_eq n opcode.GET_KERNEL_MAX_NUM_SUBGROUPS
+
 -- of those past it that are not between others
 abbrev pub late : ℕ → Option Asked
 late n =
     if nat_eq n opcode.RETURN_VALUE || nat_eq n opcode.LIFETIME_START || nat_eq n opcode.LIFETIME_STOP
     then ask role.Value role.Value role.Any
     else (if nat_eq n opcode.BRANCH_CONDITIONAL || nat_eq n opcode.SWITCH then ask role.Value role.Any role.Any
-    else (if nat_eq n opcode.PHI then None
-    else ask role.Any role.Any role.Any))
+    else (if nat_eq n opcode.EXECUTION_MODE_ID then ask role.Function role.Any role.Any
+    else (if are_values n then ask role.Value role.Value role.Value
+    else (if takes_kernel n || nat_eq n opcode.PHI then None
+    else ask role.Any role.Any role.Any))))
 
 -- those that ask for values
 abbrev pub asks_values : ℕ → Bool

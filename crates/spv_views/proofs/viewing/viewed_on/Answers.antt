@@ -6,7 +6,7 @@ use Rattle.spv_views.proofs.viewing.viewed_on.Goals as goal
 
 pub returns-in-Err-clause-known : goal.returns-in-Err-clause-known
 returns-in-Err-clause-known g c =
-    rw c.refused.ensures (refused_bytes c.one_refusal.ensures.never c.args.how c.args.table.now c.args.function _
+    rw c.refused.ensures (refused_bytes c.one_refusal.ensures.never c.args.how c.args.table.now c.args.reach c.args.function _
     c.in-Err.code c.in-Err.ensures.refuses)
 
 pub returns-in-Err-clause-stranger : goal.returns-in-Err-clause-stranger
@@ -20,15 +20,15 @@ returns-in-Err-clause-count g c = rw c.refused.ensures (refused_count _ c.in-Err
 
 pub returns-clause-known : goal.returns-clause-known
 returns-clause-known g c =
-    known_viewing c.args.how c.args.table.now c.args.function _ _ c.in-Ok.field-0-1 _ c.in-Ok.ensures.gives
+    known_viewing c.args.how c.args.table.now c.args.reach c.args.function _ _ c.in-Ok.field-0-1 _ c.in-Ok.ensures.gives
     c.view_image.ensures.viewed
 
 pub returns-clause-stranger : goal.returns-clause-stranger
 returns-clause-stranger g c =
-    known_reason (λ bytes. LacksFunction c.args.table.now bytes c.args.function) _ _ c.in-Ok.field-0-1 _
+    known_reason (λ bytes. LacksFunction c.args.table.now c.args.reach bytes c.args.function) _ _ c.in-Ok.field-0-1 _
     c.in-Ok.ensures.gives c.view_image.ensures.stranger
 
 pub returns-clause-several : goal.returns-clause-several
 returns-clause-several g c =
-    known_reason (λ bytes. NamesSeveral c.args.table.now bytes c.args.function) _ _ c.in-Ok.field-0-1 _
+    known_reason (λ bytes. NamesSeveral c.args.table.now c.args.reach bytes c.args.function) _ _ c.in-Ok.field-0-1 _
     c.in-Ok.ensures.gives c.view_image.ensures.several

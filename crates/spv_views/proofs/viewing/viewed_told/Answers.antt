@@ -13,7 +13,7 @@ viewed_unlisted-requires c =
 
 pub returns-then-is_mislaid-clause-viewed : goal.returns-then-is_mislaid-clause-viewed
 returns-then-is_mislaid-clause-viewed c = λ bytes order h x.
-    mislaid_line c.args.how c.args.table.now c.args.function bytes c.args.told.now.explanation x
+    mislaid_line c.args.how c.args.table.now c.args.reach c.args.function bytes c.args.told.now.explanation x.explains
     (c.is_mislaid.ensures.mislaid c.if-is_mislaid.true)
 
 pub returns-in_err-id-clause-stranger : goal.returns-in_err-id-clause-stranger
@@ -23,7 +23,7 @@ returns-in_err-id-clause-stranger c = λ bytes order h x e.
     let p = err_from_is_err_and c.from_residual.result c.from_residual.ensures.1 in
     let r = rw (p.1, p.2) at e in
     let same : c.in_err-id.field-0.0 ≡ NoFunction = cc in
-    lacking c.args.table.now c.args.function bytes words order c.args.told.now.explanation c.in-Some.module _ h l x
+    lacking c.args.table.now c.args.reach c.args.function bytes words order c.args.told.now.explanation c.in-Some.module _ h l x.explains
     (c.is_mislaid.ensures.laid c.if-is_mislaid.false) c.in_err-id.ensures.why same
 
 pub returns-in_err-id-clause-several : goal.returns-in_err-id-clause-several
@@ -33,7 +33,7 @@ returns-in_err-id-clause-several c = λ bytes order h x e.
     let p = err_from_is_err_and c.from_residual.result c.from_residual.ensures.1 in
     let r = rw (p.1, p.2) at e in
     let same : c.in_err-id.field-0.0 ≡ SeveralFunctions = cc in
-    several c.args.table.now c.args.function bytes words order c.args.told.now.explanation c.in-Some.module _ h l x
+    several c.args.table.now c.args.reach c.args.function bytes words order c.args.told.now.explanation c.in-Some.module _ h l x.explains
     (c.is_mislaid.ensures.laid c.if-is_mislaid.false) c.in_err-id.ensures.why same
 
 pub text_of-requires-clause-spelled : goal.text_of-requires-clause-spelled
@@ -57,6 +57,7 @@ returns-clause-viewed c = λ bytes order h x.
     let m = c.in-Some.module in
     let l = subst (λ (m : Option Module). IsModuleIn c.args.table.now words m) c.in-Some.is c.requires.read in
     let s = (c.shown_reads_back.ensures.shown c.args.table.now m.header (plain_insts m) (drop 5 words) l.listing).1 in
-    module_viewed c.args.how c.args.table.now c.args.function c.in_ok-id.id bytes words order
-    c.args.told.now.explanation m _ h l x (c.is_mislaid.ensures.laid c.if-is_mislaid.false)
+    module_viewed c.args.how c.args.table.now c.args.reach c.args.function c.in_ok-id.id bytes words order
+    c.args.told.now.explanation c.args.told.now.walk.items m _ h l x.explains x.walks
+    (c.is_mislaid.ensures.laid c.if-is_mislaid.false)
     c.in_ok-id.ensures.part (c.in_ok-text.ensures s.lines s.shown)

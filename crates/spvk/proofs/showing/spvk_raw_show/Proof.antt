@@ -1,5 +1,6 @@
 -- `spvk_raw_show` lends what is shown of the table, and the answer, to `show_by`.
 use Rattle.std.proofs.Common.{refl}
+use Rattle.spv_extended.specs.declared.reach.Reach.TheVariants.{Profile}
 use Rattle.spvk.specs.Show.{IsShowing}
 use Rattle.spvk.specs.Make.{Makes, MakesAt}
 use Rattle.spvk.proofs.ByPointer.{lends_to}
@@ -12,7 +13,8 @@ use Rattle.spvk.proofs.showing.spvk_raw_show.Code as code
 
 pub spvk_raw_show_spec : {M : Type 1} → statement M
 spvk_raw_show_spec 𝓤 𝓛 𝓜 𝓡 wired =
-    lends_to 𝓛 Told tt (λ G bytes. Makes (IsShowing G bytes)) (λ p G bytes. MakesAt p (IsShowing G bytes)) 𝓜 𝓡
+    lends_to 𝓛 Told tt (λ G bytes. Makes (IsShowing G Profile bytes))
+    (λ p G bytes. MakesAt p (IsShowing G Profile bytes)) 𝓜 𝓡
     (λ G bytes old. (refl, refl)) (λ b o G bytes old new r h. h) _ _ _ _
     self.name callee.name (code.unfolded 𝓤 𝓛.H 𝓜 𝓡 wired)
     (by_table.met 𝓤 𝓛 𝓜 𝓡 (code.calls-spvk::showing::show_by 𝓡.env wired))

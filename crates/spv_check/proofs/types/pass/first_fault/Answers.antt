@@ -1,9 +1,12 @@
-use Rattle.std.proofs.Common.{◌≡◌, ◌<◌, ◌+◌, ℕ, true, Some, None, map, length, sym, ap, subst, ◌∙◌, if◌then◌else◌}
+use Rattle.std.proofs.Common.{◌≡◌, ◌<◌, ◌+◌, ℕ, true, Some, None, map, length, sym, ap, subst, ◌∙◌, if◌then◌else◌, arith}
 use Rattle.std.specs.Prelude.{slice_get}
 use Rattle.std.proofs.lemmas.Option.{slice_get_within}
+use Rattle.std.proofs.lemmas.List.{length-map}
 use Rattle.spv_module.specs.Module.{plain_inst}
 use Rattle.spv_module.specs.declared.fault.Rule.TheVariants.{Y5}
 use Rattle.spv_capabilities.specs.Keeps.{IsFirstAt}
+use Rattle.spv_type_forms.specs.declared.nulls.Nulls.{Nulls}
+use Rattle.spv_type_forms.specs.inner.Null.{AreNulls}
 use Rattle.spv_check.specs.inner.Pass.{IsFirstTypeHere}
 use Rattle.spv_type_rules.specs.declared.repeat.Seen.{Seen}
 use Rattle.spv_type_rules.specs.inner.Concern.{is_operation}
@@ -15,7 +18,7 @@ use Rattle.spv_check.proofs.Typing.Firsts.{capable_fault, typed_fault, more_kept
 use Rattle.spv_check.proofs.Typing.Operations.{op_told, others_told, operation_told, operation_seen, operation_counted}
 use Rattle.spv_check.proofs.types.pass.first_fault.Goals as goal
 use Rattle.spv_check.proofs.types.pass.first_fault.Goals.{then-is_operation+else-not-inst_holds}
-use Rattle.spv_check.proofs.types.pass.first_fault.Goals.{else-is_operation+in_ok-repeats+in_default-first_at}
+use Rattle.spv_check.proofs.types.pass.first_fault.Goals.{else-is_operation+in_ok-repeats+in_ok-broken+in_default-2}
 
 pub first_in-requires : goal.first_in-requires
 first_in-requires c =
@@ -76,8 +79,17 @@ returns-then-not-inst_holds c =
     let u = subst (λ b. IsFirstTypeHere G is n i (if b then None else Some Y5)) c.if-not-inst_holds.true t in
     typed_fault G is n i Y5 at u k c.loop-n.invariant.kept
 
-pub returns-in-Some-first_at : goal.returns-in-Some-first_at
-returns-in-Some-first_at c =
+pub first_at-requires-clause-few : goal.first_at-requires-clause-few
+first_at-requires-clause-few c =
+    let most = c.requires.most in
+    let same = length-map c.args.insts.now plain_inst in
+    rw c.requires.judged (omega (arith, most, same))
+
+pub first_at-requires-clause-nulls : goal.first_at-requires-clause-nulls
+first_at-requires-clause-nulls c = rw c.requires.judged c.loop-n.invariant.nulls
+
+pub returns-in-Some-2 : goal.returns-in-Some-2
+returns-in-Some-2 c =
     let G = c.args.entries.now.table in
     let xs = c.args.insts.now in
     let is = map plain_inst xs in
@@ -90,10 +102,11 @@ returns-in-Some-first_at c =
     let g = subst (λ t. IsFirstAt t.table t.insts n i c.in_ok-rule.field-0) e f in
     let h = subst (λ js. IsFirstAt G js n i c.in_ok-rule.field-0) c.requires.surveyed g in
     let k = rw c.in_default.is at h in
-    let t = subst (λ js. IsFirstHere js n i c.first_at.result) c.requires.judged c.first_at.ensures in
-    let u = others_told G is n i c.first_at.result (sym c.is_operation.ensures ∙ c.if-is_operation.false) t in
-    let v = rw c.in-Some-first_at.is at u in
-    typed_fault G is n i c.in-Some-first_at.rule at v k c.loop-n.invariant.kept
+    let t = subst (λ js. IsFirstHere js n i c.in_ok-broken.field-0) c.requires.judged
+    c.in_ok-broken.ensures.first in
+    let u = others_told G is n i c.in_ok-broken.field-0 (sym c.is_operation.ensures ∙ c.if-is_operation.false) t in
+    let v = rw c.in-Some-2.is at u in
+    typed_fault G is n i c.in-Some-2.broken at v k c.loop-n.invariant.kept
 
 pub loop-n-preserved : goal.loop-n-preserved
 loop-n-preserved c =
@@ -120,18 +133,22 @@ loop-n-preserved c =
             same = c.first_in.ensures.same ∙ e;
             seen = subst (λ (s : Seen). AreSeen is (n + 1) s) (sym w.seen-is)
                 (operation_seen is n i c.loop-n.seen at o c.loop-n.invariant.seen);
+            nulls = subst (λ (m : Nulls). AreNulls is m) (sym w.nulls-is) c.loop-n.invariant.nulls;
             counted = subst (λ (p : ℕ). AreCounted is (n + 1) p) (sym w.parameters-is)
                 (operation_counted is n c.loop-n.parameters i at o c.loop-n.invariant.counted);
             kept = more_kept G is n i at k u c.loop-n.invariant.kept;
           }
-      | else-is_operation+in_ok-repeats+in_default-first_at w ↦
-          let t = subst (λ js. IsFirstHere js n i w.first_at.result) c.requires.judged w.first_at.ensures in
-          let v = others_told G is n i w.first_at.result (sym c.is_operation.ensures ∙ w.if-is_operation.false) t in
-          let u = rw w.in_default-first_at.is at v in
+      | else-is_operation+in_ok-repeats+in_ok-broken+in_default-2 w ↦
+          let t = subst (λ js. IsFirstHere js n i w.in_ok-broken.field-0) c.requires.judged
+          w.in_ok-broken.ensures.first in
+          let v = others_told G is n i w.in_ok-broken.field-0 (sym c.is_operation.ensures ∙ w.if-is_operation.false) t in
+          let u = rw w.in_default-2.is at v in
           record {
             same = c.first_in.ensures.same ∙ e;
             seen = subst (λ (s : Seen). AreSeen is (n + 1) s) (sym w.seen-is)
                 (w.in_ok-repeats.ensures.seen is n at c.loop-n.invariant.seen);
+            nulls = subst (λ (m : Nulls). AreNulls is m) (sym w.nulls-is)
+                (rw c.requires.judged at w.in_ok-broken.ensures.nulls);
             counted = subst (λ (p : ℕ). AreCounted is (n + 1) p) (sym w.parameters-is)
                 (w.next_count-parameters.ensures is n at c.loop-n.invariant.counted);
             kept = more_kept G is n i at k u c.loop-n.invariant.kept;

@@ -17,7 +17,8 @@ stop_at-requires c =
     let k = c.requires.known in
     let h = rw c.in-Some.is at c.in_ok-found.ensures in
     let f = h k.0 (record { plan = rw v k.1; each = rw v k.2.each; most = few_insts xs (rw v c.requires.words) }) in
-    let w = broken_within k.0 (map plain_inst xs) c.in-Some.found.rule c.in-Some.found.inst f.of_stage f.broken in
+    let w = broken_within c.args.fork k.0 (map plain_inst xs) c.in-Some.found.rule c.in-Some.found.inst f.of_stage
+    f.broken in
     let n : length c.args.plan.now ≡ length (map plain_inst xs) = rw v k.1.count in
     omega (arith, w, n)
 
@@ -27,7 +28,8 @@ returns-in-Some-clause-refused c = λ G p a.
     let xs = c.as_slice-insts.result.now in
     let h = rw c.in-Some.is at c.in_ok-found.ensures in
     let f = h G (record { plan = rw v p; each = rw v a.each; most = few_insts xs (rw v c.requires.words) }) in
-    refusal_told G (plain_insts c.args.module.now) c.in-Some.found.rule c.in-Some.found.inst c.stop_at.result
+    refusal_told c.args.fork G (plain_insts c.args.module.now) c.in-Some.found.rule c.in-Some.found.inst
+    c.stop_at.result
     (rw v at f) (c.stop_at.ensures (plain_insts c.args.module.now) p.place)
 
 pub returns-clause-unbroken : goal.returns-clause-unbroken

@@ -19,16 +19,18 @@ broken_at-requires-clause-marks c =
 pub returns-in-Some : goal.returns-in-Some
 returns-in-Some c = λ G is.
     let h = c.in-Some.ensures.rule G is in
-    first_found G (insts_of c.args.code.now) c.in-Some.rule c.loop-at.at (c.loop-at.invariant.unbroken G is) h.0 h.1 h.2
+    first_found c.args.fork G (insts_of c.args.code.now) c.in-Some.rule c.loop-at.at (c.loop-at.invariant.unbroken G is)
+    h.0 h.1 h.2
 
 pub loop-at-preserved : goal.loop-at-preserved
 loop-at-preserved c = record {
   clean = c.in_default.ensures.clean;
-  unbroken = λ G is. unbroken_more G (insts_of c.args.code.now) c.loop-at.at (c.loop-at.invariant.unbroken G is)
+  unbroken = λ G is. unbroken_more c.args.fork G (insts_of c.args.code.now) c.loop-at.at
+      (c.loop-at.invariant.unbroken G is)
       (c.in_default.ensures.rule G is);
 }
 
 pub returns : goal.returns
 returns c = λ G is q n s b.
-    let within = broken_within G (insts_of c.args.code.now) q n s b in
+    let within = broken_within c.args.fork G (insts_of c.args.code.now) q n s b in
     c.loop-at.invariant.unbroken G is q n (omega (arith, within, length-map c.args.code.now.insts.now plain_inst)) s b

@@ -12,5 +12,5 @@ abbrev pub invariant-loop-at : goal.invariant-loop-at
 invariant-loop-at l = record {
   clean : (p : ℕ) → marked l.marks p ≡ false;
   unbroken : (G : Table) → IsCode G l.code → (q : Rule) (m : ℕ) → m < l.at → stage_of q ≡ of_branches
-      → ¬ (Broken G (insts_of l.code) q m);
+      → ¬ (Broken l.fork G (insts_of l.code) q m);
 }

@@ -19,6 +19,7 @@ use Rattle.spv_ids.specs.Definition.{IsDefinedAt, IsUsedAt}
 use Rattle.spv_flow.specs.branches.Target.{IsOp, IsLabelOf, IsTarget, LeadsToBlock, IsEntryLabel}
 use Rattle.spv_flow.specs.branches.inner.Target.{is_function}
 use Rattle.spv_flow.specs.branches.Walk.{Next, IsWalk, IsResultAmong, IsLastLabel}
+use Rattle.spv_flow.specs.declared.branches.fork.Fork.TheVariants.{Distinct, Free}
 use Rattle.spv_flow.specs.branches.Broken.{Broken}
 use Rattle.spv_flow.specs.branches.Example.{branch, conditional, label, function, return_void, two_blocks, loop_merge}
 use Rattle.spv_flow.proofs.lemmas.branches.Labelled.{one_id}
@@ -105,15 +106,20 @@ ends _ (Next.jumps x m t k) = let e = t.branch in cc
 ends _ (Next.follows not) = not refl
 
 -- two labels are not the same
-two_labels : (q : Rule) (n : ℕ) → Broken small (conditional 9 2 3 ∷ []) q n → q ≡ F4 → ⊥
-two_labels _ _ (Broken.same_labels zero x op u w) s =
+two_labels : (q : Rule) (n : ℕ) → Broken Distinct small (conditional 9 2 3 ∷ []) q n → q ≡ F4 → ⊥
+two_labels _ _ (Broken.same_labels zero x e op u w) s =
     let first = one_id small (conditional 9 2 3 ∷ []) 0 1 x 2 role.Label role.Label u
     (record { inst = conditional 9 2 3; there = refl; used = one_used 9 2 3 }) in
     let second = one_id small (conditional 9 2 3 ∷ []) 0 2 x 3 role.Label role.Label w
     (record { inst = conditional 9 2 3; there = refl; used = two_used 9 2 3 }) in
     omega (arith, first, second)
-two_labels _ _ (Broken.same_labels (suc n) x op u w) s = op
+two_labels _ _ (Broken.same_labels (suc n) x e op u w) s = op
 two_labels _ _ _ s = cc
+
+-- nor are they asked where nothing is asked of them
+not_free : (q : Rule) (n : ℕ) → Broken Free small (conditional 9 2 2 ∷ []) q n → q ≡ F4 → ⊥
+not_free _ _ (Broken.same_labels n x e op u w) s = cc
+not_free _ _ _ s = cc
 
 function_first : (f : ℕ) → f < 3 → IsOp two_blocks f is_function → f ≡ 0
 function_first zero lt o = refl
@@ -212,7 +218,7 @@ defined_by_2 (suc (suc (suc (suc zero)))) d = let t = d.there in let e : return_
     let r = rw (← e) at d.result in cc
 defined_by_2 (suc (suc (suc (suc (suc k))))) d = let t = d.there in cc
 
-not_entered : (q : Rule) (n : ℕ) → Broken small two_blocks q n → q ≡ F2 → n ≡ 2 → ⊥
+not_entered : (q : Rule) (n : ℕ) → Broken Distinct small two_blocks q n → q ≡ F2 → n ≡ 2 → ⊥
 not_entered _ _ (Broken.to_entry n x m target d entry) s e =
     let u : IsUsedAt small two_blocks 2 target.operand x role.Label = subst
     (λ (k : ℕ). IsUsedAt small two_blocks k target.operand x role.Label) e target.used in
@@ -221,7 +227,7 @@ not_entered _ _ (Broken.to_entry n x m target d entry) s e =
     later (subst (λ (k : ℕ). IsEntryLabel two_blocks k) g entry)
 not_entered _ _ _ s e = cc
 
-to_entry : Broken small (function ∷ label 1 ∷ branch 1 ∷ []) F2 2
+to_entry : Broken Distinct small (function ∷ label 1 ∷ branch 1 ∷ []) F2 2
 to_entry =
     Broken.to_entry 2 1 1 (record {
       branch = refl;
@@ -247,9 +253,10 @@ returns c = record {
   label = labelled;
   target = leads;
   other = λ t. let e = t.branch in cc;
-  same = Broken.same_labels 0 2 refl (record { inst = conditional 9 2 2; there = refl; used = one_used 9 2 2 })
+  same = Broken.same_labels 0 2 refl refl (record { inst = conditional 9 2 2; there = refl; used = one_used 9 2 2 })
       (record { inst = conditional 9 2 2; there = refl; used = two_used 9 2 2 });
   two = λ b. two_labels F4 0 b refl;
+  free = λ b. not_free F4 0 b refl;
   entry = record {
     label = refl;
     function = 0;

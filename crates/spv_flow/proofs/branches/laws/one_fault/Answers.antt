@@ -3,4 +3,4 @@ use Rattle.spv_flow.specs.branches.Broken.{Broken}
 use Rattle.spv_flow.proofs.branches.laws.one_fault.Goals as goal
 
 pub returns : goal.returns
-returns c = λ G is stage q r m n f g. let s = one_first (Broken G is) stage q r m n f g in (s.rule, s.inst)
+returns c = λ fork G is stage q r m n f g. let s = one_first (Broken fork G is) stage q r m n f g in (s.rule, s.inst)

@@ -66,7 +66,7 @@ returns-then-opcode-lt-PHI-clause-rule c = λ G is q s b.
     let there : slice_get (insts_of code) c.args.at ≡ Some i = inst_get code.insts.now c.args.at c.index-code-at.result
     c.requires.at in
     let low : i.opcode < opcode.PHI = c.if-opcode-lt-PHI.true in
-    at_other G (insts_of code) q c.args.at
+    at_other c.args.fork G (insts_of code) q c.args.at
     (λ o. low_phi i.opcode low (op_tells (insts_of code) c.args.at i is_phi there o))
     (λ o. low_merge i.opcode low (op_tells (insts_of code) c.args.at i is_merge there o))
     (λ o. low_branch i.opcode low (op_tells (insts_of code) c.args.at i is_branch there o)) s b
@@ -77,7 +77,7 @@ returns-then-has_parents-clause-rule c = λ G is.
     let i : PlainInst = plain_inst (get_or code.insts.now c.args.at c.index-code-at.result) in
     let there : slice_get (insts_of code) c.args.at ≡ Some i = inst_get code.insts.now c.args.at c.index-code-at.result
     c.requires.at in
-    phi_fine G (insts_of code) c.args.at (op_holds (insts_of code) c.args.at i is_phi there
+    phi_fine c.args.fork G (insts_of code) c.args.at (op_holds (insts_of code) c.args.at i is_phi there
     (ap is_phi c.if-opcode-eq-PHI.true)) (c.if-has_parents.ensures.parents G is)
 
 pub returns-then-opcode-eq-PHI-clause-rule : goal.returns-then-opcode-eq-PHI-clause-rule
@@ -86,7 +86,7 @@ returns-then-opcode-eq-PHI-clause-rule c = λ G is.
     let i : PlainInst = plain_inst (get_or code.insts.now c.args.at c.index-code-at.result) in
     let there : slice_get (insts_of code) c.args.at ≡ Some i = inst_get code.insts.now c.args.at c.index-code-at.result
     c.requires.at in
-    phi_broken G (insts_of code) c.args.at
+    phi_broken c.args.fork G (insts_of code) c.args.at
     (op_holds (insts_of code) c.args.at i is_phi there (ap is_phi c.if-opcode-eq-PHI.true))
     (c.if-has_parents.ensures.parents G is)
 
@@ -96,7 +96,7 @@ returns-clause-rule c = λ G is q s b.
     let i : PlainInst = plain_inst (get_or code.insts.now c.args.at c.index-code-at.result) in
     let there : slice_get (insts_of code) c.args.at ≡ Some i = inst_get code.insts.now c.args.at c.index-code-at.result
     c.requires.at in
-    at_other G (insts_of code) q c.args.at
+    at_other c.args.fork G (insts_of code) q c.args.at
     (λ o. c.if-opcode-eq-PHI.false (eqb-true i.opcode opcode.PHI
     (op_tells (insts_of code) c.args.at i is_phi there o)))
     (λ o. both_ways c.is_merge.result c.if-is_merge.false

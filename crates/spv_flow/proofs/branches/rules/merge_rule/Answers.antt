@@ -4,7 +4,9 @@ use Rattle.spv_flow.proofs.branches.rules.merge_rule.Goals as goal
 
 pub returns-then-not-has_labels : goal.returns-then-not-has_labels
 returns-then-not-has_labels c =
-    λ G is. merge_broken G (insts_of c.args.code.now) c.args.at c.requires.op (c.if-not-has_labels.ensures G is)
+    λ fork G is. merge_broken fork G (insts_of c.args.code.now) c.args.at c.requires.op
+    (c.if-not-has_labels.ensures G is)
 
 pub returns : goal.returns
-returns c = λ G is. merge_fine G (insts_of c.args.code.now) c.args.at c.requires.op (c.if-not-has_labels.ensures G is)
+returns c = λ fork G is. merge_fine fork G (insts_of c.args.code.now) c.args.at c.requires.op
+    (c.if-not-has_labels.ensures G is)

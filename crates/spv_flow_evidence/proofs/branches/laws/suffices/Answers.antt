@@ -2,4 +2,4 @@ use Rattle.spv_flow_evidence.proofs.lemmas.branches.Rules.{suffices}
 use Rattle.spv_flow_evidence.proofs.branches.laws.suffices.Goals as goal
 
 pub returns : goal.returns
-returns c = λ G is r n e h. suffices G is r n e h
+returns c = λ fork G is r n e h. suffices fork G is r n e h

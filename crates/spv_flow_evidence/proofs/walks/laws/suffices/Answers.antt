@@ -2,4 +2,4 @@ use Rattle.spv_flow_evidence.proofs.lemmas.walks.Sufficing.{suffices}
 use Rattle.spv_flow_evidence.proofs.walks.laws.suffices.Goals as goal
 
 pub returns : goal.returns
-returns c = λ G is r n e shown. suffices G is r n e shown
+returns c = λ fork G is r n e shown. suffices fork G is r n e shown

@@ -12,12 +12,12 @@ pub returns-then-not-is_covered_entry : goal.returns-then-not-is_covered_entry
 returns-then-not-is_covered_entry c =
     IsUncovered.entry (iff_false c.is_covered_entry.ensures c.if-not-is_covered_entry.true)
 
-pub returns-in-None : goal.returns-in-None
-returns-in-None c =
+pub unmet-requires : goal.unmet-requires
+unmet-requires c =
     let G = c.args.survey.now.table in
     let is = c.args.survey.now.insts in
     let same = c.as_slice.ensures.value in
     let P : List Operand → Type 0 = λ os. AllByRecursion (IsCoveredOperand G is) (plain_operands os) in
     let all = subst P same c.in-None.ensures in
     let entry = c.is_covered_entry.ensures.0 c.if-not-is_covered_entry.false in
-    IsUncovered.width (not_needed G is (plain_inst c.args.inst.now) c.requires entry all)
+    not_needed G is (plain_inst c.args.inst.now) c.requires entry all

@@ -2,4 +2,4 @@ use Rattle.spv_form_evidence.proofs.lemmas.extended.Sufficing as sufficing
 use Rattle.spv_form_evidence.proofs.extended.laws.suffices.Goals as goal
 
 pub returns : goal.returns
-returns c = λ is r n e h. sufficing.suffices is r n e h
+returns c = λ reach is r n e on h. sufficing.suffices reach is r n e on h

@@ -1,6 +1,4 @@
-use Rattle.std.proofs.Common.{◌≡◌, sym, None, Some, arith}
-use Rattle.spv_layout.specs.Rows.{class_of}
-use Rattle.spv_layout.specs.inner.State.{next_of}
+use Rattle.std.proofs.Common.{sym, arith}
 use Rattle.spv_layout.specs.declared.state.State.TheVariants as at
 use Rattle.spv_layout.proofs.Layouts.{leads_first}
 use Rattle.spv_form_evidence.proofs.lemmas.layout.States.{leads_to}
@@ -12,17 +10,13 @@ loop-inst-init c = leads_to _ at.Capabilities leads_first
 
 pub returns-in_default : goal.returns-in_default
 returns-in_default c =
-    let none : next_of c.loop-inst.state (class_of c.inst-item.result.opcode) ≡ None = rw (← c.class_of.ensures)
-    (sym c.in_default.ensures) in
-    nowhere c.args.insts.now c.loop-inst.inst-index c.inst-item.result c.loop-inst.state c.loop-inst-test.true
-    c.inst-item.is none c.loop-inst.invariant
+    nowhere c.args.profile c.args.insts.now c.loop-inst.inst-index c.inst-item.result c.loop-inst.state
+    c.loop-inst-test.true c.inst-item.is (sym c.in_default.ensures) c.loop-inst.invariant
 
 pub loop-inst-preserved : goal.loop-inst-preserved
 loop-inst-preserved c =
-    let some : next_of c.loop-inst.state (class_of c.inst-item.result.opcode) ≡ Some c.in-Some.after = rw
-    (← c.class_of.ensures) (sym c.in-Some.ensures) in
-    leads_more c.args.insts.now c.loop-inst.inst-index c.inst-item.result c.loop-inst.state c.in-Some.after
-    c.loop-inst-test.true c.inst-item.is some c.loop-inst.invariant
+    leads_more c.args.profile c.args.insts.now c.loop-inst.inst-index c.inst-item.result c.loop-inst.state
+    c.in-Some.after c.loop-inst-test.true c.inst-item.is (sym c.in-Some.ensures) c.loop-inst.invariant
 
 pub returns : goal.returns
-returns c = leads_all c.args.insts.now c.loop-inst.inst-index c.loop-inst.state (omega arith) c.loop-inst.invariant
+returns c = leads_all c.args.profile c.args.insts.now c.loop-inst.inst-index c.loop-inst.state (omega arith) c.loop-inst.invariant

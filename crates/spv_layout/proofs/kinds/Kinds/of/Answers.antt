@@ -21,8 +21,16 @@ by_kind : (k : Inside)
     → slice_get k.numbers 9 ≡ Some (number_named k.table.now (name_of kind_of.MemoryAccess))
     → slice_get k.numbers 10 ≡ Some (number_named k.table.now (name_of kind_of.LoopControl))
     → slice_get k.numbers 11 ≡ Some (number_named k.table.now (name_of kind_of.SelectionControl))
+    → slice_get k.numbers 12 ≡ Some (number_named k.table.now (name_of kind_of.Dim))
+    → slice_get k.numbers 13 ≡ Some (number_named k.table.now (name_of kind_of.ImageFormat))
+    → slice_get k.numbers 14 ≡ Some (number_named k.table.now (name_of kind_of.AccessQualifier))
+    → slice_get k.numbers 15 ≡ Some (number_named k.table.now (name_of kind_of.SamplerAddressingMode))
+    → slice_get k.numbers 16 ≡ Some (number_named k.table.now (name_of kind_of.SamplerFilterMode))
+    → slice_get k.numbers 17 ≡ Some (number_named k.table.now (name_of kind_of.GroupOperation))
+    → slice_get k.numbers 18 ≡ Some (number_named k.table.now (name_of kind_of.PackedVectorFormat))
+    → slice_get k.numbers 19 ≡ Some (number_named k.table.now (name_of kind_of.ImageOperands))
     → AreNumbered k
-by_kind k h0 h1 h2 h3 h4 h5 h6 h7 h8 h9 h10 h11 = record { known = of_kind } where
+by_kind k h0 h1 h2 h3 h4 h5 h6 h7 h8 h9 h10 h11 h12 h13 h14 h15 h16 h17 h18 h19 = record { known = of_kind } where
   of_kind : (kind : Named) → slice_get k.numbers (place_of kind) ≡ Some (number_named k.table.now (name_of kind))
   of_kind kind_of.SourceLanguage = h0
   of_kind kind_of.AddressingModel = h1
@@ -36,6 +44,14 @@ by_kind k h0 h1 h2 h3 h4 h5 h6 h7 h8 h9 h10 h11 = record { known = of_kind } whe
   of_kind kind_of.MemoryAccess = h9
   of_kind kind_of.LoopControl = h10
   of_kind kind_of.SelectionControl = h11
+  of_kind kind_of.Dim = h12
+  of_kind kind_of.ImageFormat = h13
+  of_kind kind_of.AccessQualifier = h14
+  of_kind kind_of.SamplerAddressingMode = h15
+  of_kind kind_of.SamplerFilterMode = h16
+  of_kind kind_of.GroupOperation = h17
+  of_kind kind_of.PackedVectorFormat = h18
+  of_kind kind_of.ImageOperands = h19
 
 pub invariant_of-result : goal.invariant_of-result
-invariant_of-result c = by_kind _ (ap Some c.kind_named.ensures) (ap Some c.kind_named-2.ensures) (ap Some c.kind_named-3.ensures) (ap Some c.kind_named-4.ensures) (ap Some c.kind_named-5.ensures) (ap Some c.kind_named-6.ensures) (ap Some c.kind_named-7.ensures) (ap Some c.kind_named-8.ensures) (ap Some c.kind_named-9.ensures) (ap Some c.kind_named-10.ensures) (ap Some c.kind_named-11.ensures) (ap Some c.kind_named-12.ensures)
+invariant_of-result c = by_kind _ (ap Some c.kind_named.ensures) (ap Some c.kind_named-2.ensures) (ap Some c.kind_named-3.ensures) (ap Some c.kind_named-4.ensures) (ap Some c.kind_named-5.ensures) (ap Some c.kind_named-6.ensures) (ap Some c.kind_named-7.ensures) (ap Some c.kind_named-8.ensures) (ap Some c.kind_named-9.ensures) (ap Some c.kind_named-10.ensures) (ap Some c.kind_named-11.ensures) (ap Some c.kind_named-12.ensures) (ap Some c.kind_named-13.ensures) (ap Some c.kind_named-14.ensures) (ap Some c.kind_named-15.ensures) (ap Some c.kind_named-16.ensures) (ap Some c.kind_named-17.ensures) (ap Some c.kind_named-18.ensures) (ap Some c.kind_named-19.ensures) (ap Some c.kind_named-20.ensures)

@@ -7,4 +7,7 @@ pub returns : goal.returns
 returns c = record {
   width = refl;
   no_width = λ e. (let same : condition.Kind kind.Number ≡ condition.FitsWidth = e in cc);
+  normalized = refl;
+  null = refl;
+  no_data = refl;
 }

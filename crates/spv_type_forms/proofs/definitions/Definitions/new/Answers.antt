@@ -14,4 +14,5 @@ invariant_of-result c =
       count = c.requires.plan.1.count;
       place = c.requires.plan.1.place;
       meant = none_meant is;
+      model = c.addressing.ensures;
     }

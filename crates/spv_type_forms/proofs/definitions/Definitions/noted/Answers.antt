@@ -9,4 +9,5 @@ invariant_of-result c = record {
   count = c.self.invariant.count;
   place = c.self.invariant.place;
   meant = subst (λ is. AreMeant is c.args.meanings.now) (sym c.self.view_is) c.requires;
+  model = c.self.invariant.model;
 }

@@ -1,0 +1,10 @@
+use Rattle.std.proofs.Common.{◌↔◌, drop}
+use Rattle.std.specs.List.{AllByRecursion}
+use Rattle.spv_module.specs.Module.{plain_operands}
+use Rattle.spv_conditions.specs.Further.{IsIntConstant}
+use Rattle.spv_conditions.proofs.further.are_int_constants.Given as goal
+
+abbrev pub invariant-loop-operand : goal.invariant-loop-operand
+invariant-loop-operand l =
+    AllByRecursion (IsIntConstant l.definitions) (plain_operands (drop l.operand-index l.operands))
+    ↔ AllByRecursion (IsIntConstant l.definitions) (plain_operands l.operands)

@@ -1,0 +1,11 @@
+use Rattle.std.proofs.Common.{◌≡◌, ◌≤◌, ◌++◌, drop, take, length}
+use Rattle.std.specs.Prelude.{option_map}
+use Rattle.spv_module.specs.Module.{plain_operands}
+use Rattle.spv_type_forms.specs.Values.{types_of}
+use Rattle.spv_conditions.specs.Group.{all_ids_in}
+use Rattle.spv_ops.proofs.around.gather_all.Given as goal
+
+abbrev pub invariant-loop-operand : goal.invariant-loop-operand
+invariant-loop-operand l = (l.count ≤ 6) × (length l.types ≡ 6)
+    × (types_of l.definitions (all_ids_in (plain_operands l.operands)) ≡ option_map (λ us. take l.count l.types ++ us)
+    (types_of l.definitions (all_ids_in (plain_operands (drop l.operand-index l.operands)))))

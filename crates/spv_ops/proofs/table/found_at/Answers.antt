@@ -1,0 +1,20 @@
+use Rattle.std.proofs.Common.{◌∙◌, ap, sym, arith}
+use Rattle.spv_ops.specs.inner.Table.{found_by}
+use Rattle.spv_ops.proofs.Parting.{first_part, further_part, last_part}
+use Rattle.spv_ops.proofs.table.found_at.Goals as goal
+
+pub returns-then-number-lt46 : goal.returns-then-number-lt46
+returns-then-number-lt46 c =
+    let low = c.if-number-lt46.true in
+    c.found_first.ensures ∙ ap found_by (sym (first_part c.args.number (omega (arith, low))))
+
+pub returns-then-number-lt81 : goal.returns-then-number-lt81
+returns-then-number-lt81 c =
+    let past = c.if-number-lt46.false in
+    let low = c.if-number-lt81.true in
+    c.found_further.ensures ∙ ap found_by (sym (further_part c.args.number (omega (arith, past)) (omega (arith, low))))
+
+pub returns-else-number-lt81 : goal.returns-else-number-lt81
+returns-else-number-lt81 c =
+    let past = c.if-number-lt81.false in
+    c.found_object.ensures ∙ ap found_by (sym (last_part c.args.number (omega (arith, past))))

@@ -1,0 +1,3 @@
+pub mod Minor
+pub mod Scope
+pub mod Told
