@@ -111,7 +111,8 @@ document S = verdict_piece S.finding ++ (flat_map header_piece S.header ++ entri
 
 -- What is written of a module under a table: its header, by how far the module is looked at, its instructions and their
 -- shown lines, what is told of a fault, and the function that is asked for.
-pub record IsSubject (G : Table) (reach : Reach) (m : Module) (told : Option Finding) (function : Option ℕ) (S : Subject)
+pub record IsSubject (G : Table) (reach : Reach) (m : Module) (told : Option Finding)
+    (function : Option ℕ) (S : Subject)
     : Type 0 where
   pub header : S.header ≡ told_header reach m.header
   pub insts : S.insts ≡ plain_insts m

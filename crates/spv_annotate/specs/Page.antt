@@ -234,11 +234,13 @@ pub record IsScene (is : List PlainInst) (finding : Option Finding) (asked : Opt
   pub walked : (x : ℕ) → S.walked x ≡ list_any (nat_eq x) (walk_of finding)
 
 -- The text is the page of a module: a list of contents, and the pieces of the text for reading.
-pub record IsPage (G : Table) (reach : Reach) (m : Module) (title : List ℕ) (finding : Option Finding) (asked : Option ℕ)
+pub record IsPage (G : Table) (reach : Reach) (m : Module) (title : List ℕ)
+    (finding : Option Finding) (asked : Option ℕ)
     (t : List ℕ) : Type 0 where
   pub subject : Subject
   pub scene : Scene
   pub of : IsSubject G reach m finding asked subject
   pub known : IsScene (plain_insts m) finding asked scene
-  pub all : t ≡ page_front title (notice (plain_insts m) asked finding) ++ (flat_map (contents_of scene) (beginnings (plain_insts m) asked)
+  pub all : t ≡ page_front title (notice (plain_insts m) asked finding)
+    ++ (flat_map (contents_of scene) (beginnings (plain_insts m) asked)
       ++ (MIDDLE.now ++ (flat_map (page_of scene) (document subject) ++ END.now)))

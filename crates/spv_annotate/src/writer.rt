@@ -512,8 +512,8 @@ pub fn write_text<P: Pen>(
 /// lines of its header, and the line of each instruction with a comment behind it; empty lines before sections and
 /// functions; and what is told of a fault, below the line of its instruction. Where a function is asked for, by the id
 /// of its OpFunction, only the line of the verdict, those of the header and those from its OpFunction to its
-/// OpFunctionEnd are written, and what is told of a fault there. The version is 1.6, and for OpenCL that which the module
-/// has.
+/// OpFunctionEnd are written, and what is told of a fault there. The version is 1.6, and for OpenCL that which the
+/// module has.
 ///
 /// Time is linear in the words, but for logarithms.
 ///

@@ -134,7 +134,8 @@ pub enum Command<'a> {
         /// Whether a text may tell version 1.0 to 1.5 too, which the module then has: `--opencl`.
         opencl: bool,
     },
-    /// `spv trace [--grammar G] --function FUNCTION [--choices 0,1] --limit N FILE`: the run of an entry point's function.
+    /// `spv trace [--grammar G] --function FUNCTION [--choices 0,1] --limit N FILE`: the run of an entry point's
+    /// function.
     Trace {
         /// The path of the grammar file, if one is named.
         grammar: Option<&'a str>,
@@ -222,7 +223,8 @@ fn show_in<'a>(
     })
 }
 
-/// The command `annotate` with the texts of these, if its own is a word for a use of colour and its options go together.
+/// The command `annotate` with the texts of these, if its own is a word for a use of colour and its options go
+/// together.
 fn annotate_in<'a>(
     found: &ArgMatches<'a>,
     grammar: Option<&'a str>,
@@ -522,8 +524,8 @@ pub fn arguments<'a>(alloc: Global, words: &'a [&'a str]) -> Result<Command<'a>,
 /// grammar file is that of `--grammar`, and without it that of the environment; where neither names one there is none,
 /// which asks for the built-in grammar. `grammar` takes its own word alone.
 ///
-/// A number is one or more ASCII digits, and one of 32 bits in decimal; a function is a number, which is its id, or else
-/// its name; choices are numbers joined by commas, none
+/// A number is one or more ASCII digits, and one of 32 bits in decimal; a function is a number, which is its id, or
+/// else its name; choices are numbers joined by commas, none
 /// where the option is not given. Colour is used by the word of `--color`: `auto`, `always` or `never`.
 ///
 /// # Errors

@@ -63,8 +63,8 @@ pub record IsImageOf (G : Table) (text words : List ℕ) : Type 0 where
   pub begins : IsHeader words
   pub told : IsHeaderOf words header
 
--- With `--opencl` a text that tells version 1.0 to 1.6 is read as one of 1.6, and the module that is made has the version
--- that it tells.
+-- With `--opencl` a text that tells version 1.0 to 1.6 is read as one of 1.6, and the module that is made has the
+-- version that it tells.
 abbrev pub text_read : Bool → List ℕ → List ℕ
 text_read false text = text
 text_read true text = with_text_minor 6 text
@@ -79,7 +79,8 @@ in_version (Some minor) bytes = with_minor minor bytes
 
 -- A writer that held `old` now also holds the first n of the bytes that stand for the words, in that version, and
 -- nothing else.
-pub record HoldsModule (o : Order) (minor : Option ℕ) (words old : List ℕ) (new : Option (List ℕ)) (n : ℕ) : Type 0 where
+pub record HoldsModule (o : Order) (minor : Option ℕ) (words old : List ℕ)
+    (new : Option (List ℕ)) (n : ℕ) : Type 0 where
   pub plain : List ℕ
   pub stands : StandFor o plain words
   pub bytes : List ℕ

@@ -89,8 +89,8 @@ view_of forms.Page color file = views.Page file
 -- fault, `asm` the line of a fault or nothing, `trace` the run or the verdict line, `annotate` and `graph` what people
 -- look at or the verdict line, `rules` what codes say, of no table and no file, `grammar` the grammar file of the
 -- table. Of a module it reads the bytes as it takes them, and looks at them as far as is asked for. The file that `asm`
--- makes held the bytes `held`, where they are known, and now also holds the module. The answer tells whether the line is
--- `valid`, or the text, the module or the run was written.
+-- makes held the bytes `held`, where they are known, and now also holds the module. The answer tells whether the line
+-- is `valid`, or the text, the module or the run was written.
 abbrev pub Does : Command → Table → List ℕ → Option (List ℕ) → Option (List ℕ) → Option (List ℕ)
     → Option (List ℕ) → Bool → Type 0
 Does (Judge task grammar files scope naming quiet json) G bytes old new held kept answer =
@@ -102,7 +102,8 @@ Does (Asm grammar file out big explain opencl) G bytes old new held kept answer 
 Does (Trace grammar file function choices limit scope) G bytes old new held kept answer =
     IfSome old (λ xs. Traces G (reach_of scope bytes) function choices.items limit (taken scope bytes) xs new answer)
 Does (Annotate grammar file scope function form color) G bytes old new held kept answer =
-    IfSome old (λ xs. Views (view_of form color file) G (reach_of scope bytes) function (taken scope bytes) xs new answer)
+    IfSome old (λ xs. Views (view_of form color file) G (reach_of scope bytes) function
+        (taken scope bytes) xs new answer)
 Does (Graph grammar file scope function) G bytes old new held kept answer =
     IfSome old (λ xs. Views views.Graph G (reach_of scope bytes) function (taken scope bytes) xs new answer)
 Does (Rules code json) G bytes old new held kept answer = WritesRules code json old new × (answer ≡ true)

@@ -45,7 +45,8 @@ pub record IsProgram (G : Table) (reach : Reach) (bytes : List ℕ) (p : Program
 
 -- This is what is written of all of these bytes for a function, choices and a limit, under the grammar table, and
 -- whether it is the text of a trace.
-pub data IsTracing (G : Table) (reach : Reach) (function : Chosen) (choices : List ℕ) (limit : ℕ) (bytes : List ℕ) : List ℕ
+pub data IsTracing (G : Table) (reach : Reach) (function : Chosen) (choices : List ℕ) (limit : ℕ)
+    (bytes : List ℕ) : List ℕ
     → Bool → Type 0 where
   -- they are no valid module: their verdict line
   judged : (line : List ℕ) → IsVerdict G reach bytes line → line ≢ valid_line

@@ -226,7 +226,8 @@ fn unread_part(alloc: Global, telling: Telling, name: &str, trouble: Trouble) ->
 }
 
 /// What is written of a file of this name that has these bytes, or was not read: the text on the standard output, why
-/// it was not judged, and the exit status for it alone. Of a module that is too long 16,777,217 of its bytes are enough.
+/// it was not judged, and the exit status for it alone. Of a module that is too long 16,777,217 of its bytes are
+/// enough.
 pub fn judge_file(
     alloc: Global,
     how: Judging,

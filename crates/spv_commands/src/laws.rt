@@ -15,7 +15,8 @@ ghost use Rattle.spv_commands.specs.Task.{detail_of};
 ghost use Rattle.spv_explain.specs.Stream.{BeginsExplaining, Explains};
 ghost use Rattle.spv_words.specs.declared.words.WordError.TheVariants.{W2};
 ghost use Rattle.spv_commands.specs.Show.{BeginsShowing, IsShowing, Shows};
-ghost use Rattle.spv_commands.specs.Assemble.{Assembles, BeginsAssembling, HoldsModule, in_version, minor_asked, text_read};
+ghost use Rattle.spv_commands.specs.Assemble.{Assembles, BeginsAssembling, HoldsModule, in_version, minor_asked};
+ghost use Rattle.spv_commands.specs.Assemble.{text_read};
 ghost use Rattle.spv_scope.specs.declared.scope.Scope.TheVariants.{Own};
 ghost use Rattle.spv_names.specs.declared.chosen.Chosen.{Chosen};
 ghost use Rattle.spv_commands.specs.Trace.{BeginsTracing, HasNoEntry, HasSeveral, Traces, step_line, trace_text};
@@ -63,7 +64,8 @@ pub fn show_examples()
     // A writer that held the byte 9 got the line of three bytes, which are no module and have no text.
     ensures shows { (G : Table) (reach : Reach) → Shows G reach (1 ∷ 2 ∷ 3 ∷ []) (9 ∷ [])
         (Some (9 ∷ codes "fault W2" ++ line_end)) false }
-    ensures shows_text { (G : Table) (reach : Reach) (new : Option (List ℕ)) → ¬ (Shows G reach (1 ∷ 2 ∷ 3 ∷ []) [] new true) }
+    ensures shows_text { (G : Table) (reach : Reach) (new : Option (List ℕ))
+        → ¬ (Shows G reach (1 ∷ 2 ∷ 3 ∷ []) [] new true) }
     // The first five bytes of that line.
     ensures begins { (G : Table) (reach : Reach)
         → BeginsShowing G reach (1 ∷ 2 ∷ 3 ∷ []) (9 ∷ []) (Some (9 ∷ codes "fault")) }
@@ -126,7 +128,8 @@ pub fn trace_examples()
     ensures begins { (G : Table) (reach : Reach) (function : Chosen) (choices : List ℕ) (limit : ℕ)
         → BeginsTracing G reach function choices limit (1 ∷ 2 ∷ 3 ∷ []) (9 ∷ []) (Some (9 ∷ codes "fault")) }
     // No function is told of bytes that are no module, nor a name of two.
-    ensures no_entry { (G : Table) (reach : Reach) (function : Chosen) → ¬ (HasNoEntry G reach (1 ∷ 2 ∷ 3 ∷ []) function) }
+    ensures no_entry { (G : Table) (reach : Reach) (function : Chosen)
+        → ¬ (HasNoEntry G reach (1 ∷ 2 ∷ 3 ∷ []) function) }
     ensures no_several { (G : Table) (reach : Reach) (function : Chosen)
         → ¬ (HasSeveral G reach (1 ∷ 2 ∷ 3 ∷ []) function) }
 {
@@ -173,7 +176,8 @@ pub fn version_examples()
     ensures not_read { text_read false (codes "; SPIR-V\n; Version: 1.4\n") ≢ codes "; SPIR-V\n; Version: 1.6\n" }
     ensures asked { minor_asked true (codes "; SPIR-V\n; Version: 1.4\n") ≡ Some 4 }
     ensures not_asked { minor_asked false (codes "; SPIR-V\n; Version: 1.4\n") ≡ None }
-    ensures made { in_version (Some 4) (3 ∷ 2 ∷ 35 ∷ 7 ∷ 0 ∷ 6 ∷ 1 ∷ 0 ∷ 9 ∷ []) ≡ 3 ∷ 2 ∷ 35 ∷ 7 ∷ 0 ∷ 4 ∷ 1 ∷ 0 ∷ 9 ∷ [] }
+    ensures made { in_version (Some 4) (3 ∷ 2 ∷ 35 ∷ 7 ∷ 0 ∷ 6 ∷ 1 ∷ 0 ∷ 9 ∷ [])
+        ≡ 3 ∷ 2 ∷ 35 ∷ 7 ∷ 0 ∷ 4 ∷ 1 ∷ 0 ∷ 9 ∷ [] }
     ensures left { in_version None (3 ∷ 2 ∷ 35 ∷ 7 ∷ 0 ∷ 6 ∷ 1 ∷ 0 ∷ 9 ∷ []) ≢ 3 ∷ 2 ∷ 35 ∷ 7 ∷ 0 ∷ 4 ∷ 1 ∷ 0 ∷ 9 ∷ [] }
     // The file that is made holds no module where nothing was written.
     ensures holds_none { (o : Order) (words : List ℕ) (n : ℕ) → ¬ (HoldsModule o None words [] None n) }

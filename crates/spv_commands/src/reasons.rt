@@ -100,8 +100,8 @@ fn is_terse(command: &Command) -> bool {
     }
 }
 
-/// What helps where the bytes of its file are none of a module, as a command takes them: the line of the key `help` that
-/// `explain` writes, where it writes one. Nothing of a command that writes that line itself, or no verdict.
+/// What helps where the bytes of its file are none of a module, as a command takes them: the line of the key `help`
+/// that `explain` writes, where it writes one. Nothing of a command that writes that line itself, or no verdict.
 ///
 /// # Errors
 ///

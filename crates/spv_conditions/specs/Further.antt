@@ -1,5 +1,6 @@
 -- What rows ask of instructions outside blocks, whose operands are no values. [3.49.3 to 3.49.5; own: Y5]
-use Rattle.std.specs.Prelude.{◌≡◌, ◌≢◌, ◌⊎◌, ◌<◌, ℕ, List, [], ◌∷◌, Option, Some, None, Bool, IsSomeAnd, IsTrue, MatchOption}
+use Rattle.std.specs.Prelude.{◌≡◌, ◌≢◌, ◌⊎◌, ◌<◌, ℕ, List, [], ◌∷◌, Option, Some, None, Bool, IsSomeAnd, IsTrue}
+use Rattle.std.specs.Prelude.{MatchOption}
 use Rattle.std.specs.Prelude.{◌||◌, codes, bytes_eq, nat_eq, drop, option_and_then, slice_get, if◌then◌else◌}
 use Rattle.std.specs.List.{AllByRecursion, starts_with}
 use Rattle.spv_module.specs.declared.opcode.TheConstants as opcode
@@ -24,8 +25,8 @@ after_enumerant os = []
 abbrev pub AreSome : (Plain → Type 0) → List Plain → Type 0
 AreSome P os = (os ≢ []) × AllByRecursion P os
 
--- an operand is the id of a constant of int type [3.49.5 OpExecutionModeId]; of a constant or of a variable of section 9
--- [3.49.3 OpDecorateId]; a text [3.49.3 OpDecorateString]
+-- an operand is the id of a constant of int type [3.49.5 OpExecutionModeId]; of a constant or of a variable of section
+-- 9 [3.49.3 OpDecorateId]; a text [3.49.3 OpDecorateString]
 abbrev pub IsIntConstant : List PlainInst → Plain → Type 0
 IsIntConstant is (Id x) = IsConstant is x × IsSomeAnd (type_of is x) (IsSomeInt is)
 IsIntConstant is o = ⊥
@@ -74,7 +75,8 @@ set_name_in (Result s ∷ Text name ∷ _) = Some name
 set_name_in _ = None
 
 abbrev pub set_name_of : List PlainInst → ℕ → Option (List ℕ)
-set_name_of is x = option_and_then (λ i. if nat_eq i.opcode opcode.EXT_INST_IMPORT then set_name_in i.operands else None)
+set_name_of is x =
+    option_and_then (λ i. if nat_eq i.opcode opcode.EXT_INST_IMPORT then set_name_in i.operands else None)
     (definition_of is x)
 
 abbrev pub IsSilent : List PlainInst → PlainInst → Type 0

@@ -54,7 +54,8 @@ IsImage is k t = IsSomeAnd (image_of is t) (λ m. IsTrue (has_images k m))
 
 -- a sampled image type of images without several samples [3.49.10 OpImageSampleExplicitLod]
 abbrev pub IsSampled : List PlainInst → ℕ → Type 0
-IsSampled is t = ((i : ℕ) × (form_of is t ≡ Some (form.SampledImage i))) × IsSomeAnd (image_behind is t) (λ m. m.multisampled ≡ 0)
+IsSampled is t = ((i : ℕ) × (form_of is t ≡ Some (form.SampledImage i)))
+    × IsSomeAnd (image_behind is t) (λ m. m.multisampled ≡ 0)
 
 -- A pointer of the class Image (11) to the sampled type of the images behind the type u. [3.49.10 OpImageTexelPointer]
 abbrev pub IsTexelPointer : List PlainInst → ℕ → ℕ → Type 0
@@ -85,8 +86,8 @@ IsOfSampledType is t u = IsSomeAnd (image_behind is u) (λ m.
 abbrev pub IsTexel : List PlainInst → ℕ → ℕ → Type 0
 IsTexel is t u = IsNumeric is t × IsOfSampledType is t u
 
--- Ints, one for each coordinate of an image; ints, or ints or floats, one for each or more; ints, one for each number of
--- its size. [3.49.10]
+-- Ints, one for each coordinate of an image; ints, or ints or floats, one for each or more; ints, one for each number
+-- of its size. [3.49.10]
 abbrev pub IsPlace : List PlainInst → ℕ → ℕ → Type 0
 IsPlace is t u = HasSort sort.Int is t × Counts is places_in (λ n m. n ≡ m) t u
 

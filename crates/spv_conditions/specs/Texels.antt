@@ -70,9 +70,9 @@ IsSampleFit is m o = IsSomeAnd (image_behind is o) (λ i. has_bit m 64 ≡ nat_e
 abbrev pub IsSignFit : List PlainInst → ℕ → ℕ → Type 0
 IsSignFit is m t = Where (has_bit m 4096 || has_bit m 8192) (HasSort sort.Int is t)
 
--- The types of the values, of an image of the type o: that of Lod is a float where an image is sampled, and else an int;
--- those of Grad are floats, one for each coordinate but the layer; that of ConstOffset is so many ints, a constant; that
--- of Sample is an int. [3.14]
+-- The types of the values, of an image of the type o: that of Lod is a float where an image is sampled, and else an
+-- int; those of Grad are floats, one for each coordinate but the layer; that of ConstOffset is so many ints, a
+-- constant; that of Sample is an int. [3.14]
 abbrev pub IsLod : List PlainInst → Texels → ℕ → Type 0
 IsLod is texels.Sampled t = (w : ℕ) × IsFloat is t w
 IsLod is _ t = IsSomeInt is t

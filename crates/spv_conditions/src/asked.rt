@@ -62,8 +62,8 @@ pub enum Rest {
     ClusterSize,
     /// The value of that number is a constant.
     Constant(u32),
-    /// The type of the first value is an int of width 32, where a packed vector format stands, and else a vector of ints
-    /// that are no wider than the result.
+    /// The type of the first value is an int of width 32, where a packed vector format stands, and else a vector of
+    /// ints that are no wider than the result.
     Packed,
     /// The mask of image operands has bits that the instruction takes, and there are as many values as it asks for.
     ImageMask(Texels),

@@ -29,8 +29,8 @@ ghost use Rattle.spv_conditions.specs.Variable.{HasClass, MayHave, MayInitialize
 
 /// Conditions of types of the module of `type_examples` of spv_type_forms that hold, and some that do not: `%1` and
 /// `%14` are ints of width 32 and 64, `%2` a float, `%3` and `%15` vectors of four and two of `%1`, `%13` of four
-/// bools; `%6` a struct of `%1` and `%2`; `%4` and `%7` pointers of CrossWorkgroup to `%2` and `%6`, `%16` of Generic to
-/// `%2`.
+/// bools; `%6` a struct of `%1` and `%2`; `%4` and `%7` pointers of CrossWorkgroup to `%2` and `%6`, `%16` of Generic
+/// to `%2`.
 pub fn condition_examples()
     ensures kind { IsOf small Ints 3 }
     ensures no_kind { ¬ (IsOf small Ints 2) }

@@ -1,5 +1,6 @@
 -- The JSON object of a verdict, and of what shows a fault. (Own.)
-use Rattle.std.specs.Prelude.{◌≡◌, ◌≤◌, ◌++◌, ◌-◌, ℕ, List, [], ◌∷◌, Bool, true, false, Option, Some, None, codes, drop, flat_map, slice_index}
+use Rattle.std.specs.Prelude.{◌≡◌, ◌≤◌, ◌++◌, ◌-◌, ℕ, List, [], ◌∷◌, Bool, true, false, Option, Some, None, codes, drop}
+use Rattle.std.specs.Prelude.{flat_map, slice_index}
 use Rattle.json.specs.Print.{print}
 use Rattle.json.specs.Token.{Token, begin_object, end_object}
 use Rattle.spv_words.specs.Header.{IsFirstBroken, IsModule}

@@ -12,7 +12,8 @@ ghost use Rattle.spv_fault_lines.specs.json_members.Members.{members_of, refused
 ghost use Rattle.spv_check.specs.Text.{refusal_of};
 ghost use Rattle.spv_check.specs.declared.verdict_line.Judgment.TheVariants as judgments;
 ghost use Rattle.spv_explain.specs.Json as objects;
-ghost use Rattle.spv_explain.specs.Json.{IsCheckAnswer, IsExplainAnswer, file_members, json_line, object_of, verdict_members};
+ghost use Rattle.spv_explain.specs.Json.{IsCheckAnswer, IsExplainAnswer, file_members, json_line, object_of};
+ghost use Rattle.spv_explain.specs.Json.{verdict_members};
 
 use crate::reading::{Explained, explained_of};
 use spv_check::{Judgment, Verdict, check};
@@ -187,7 +188,8 @@ fn verdict_answer(
     judgment: Judgment,
 ) -> Result<Answer, AllocError>
     ensures judgment { IfOk result (λ a. a.judgment ≡ judgment) }
-    ensures text { IfOk result (λ a. a.text.items ≡ json_line (object_of reach (option_map (λ n. n.now) name.entry) judgment [])) }
+    ensures text { IfOk result (λ a. a.text.items
+        ≡ json_line (object_of reach (option_map (λ n. n.now) name.entry) judgment [])) }
 {
     let out = begun(alloc, reach, name, judgment)?;
     ended(out, judgment)

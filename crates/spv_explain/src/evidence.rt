@@ -85,8 +85,8 @@ fn flow_evidence(
 }
 
 /// What shows that a fault's rule is broken at its instruction, of a module that is looked at as far as `reach` says.
-/// `reached` is how far `judge` came with the module, and the instruction at which the fault is told is looked at again,
-/// by the stage that found it.
+/// `reached` is how far `judge` came with the module, and the instruction at which the fault is told is looked at
+/// again, by the stage that found it.
 ///
 /// `Memory` comes only where a growth of memory was refused.
 pub fn evidence_of(

@@ -1,7 +1,8 @@
 //! That evidence suffices, whatever the rule, and worked examples. Each function does nothing: its contract is what is
 //! proved.
 
-ghost use Rattle.std.specs.Prelude.{◌≡◌, ◌≢◌, ◌≤◌, ◌++◌, ◌-◌, ◌⊎◌, ℕ, List, [], ◌∷◌, Some, None, codes, drop, false, true};
+ghost use Rattle.std.specs.Prelude.{◌≡◌, ◌≢◌, ◌≤◌, ◌++◌, ◌-◌, ◌⊎◌, ℕ, List, [], ◌∷◌, Some, None, codes, drop, false};
+ghost use Rattle.std.specs.Prelude.{true};
 ghost use Rattle.std.specs.Prelude.{slice_index};
 ghost use Rattle.json.specs.Token.{Token, key as name, string as text};
 ghost use Rattle.spv_words.specs.Header.{IsModule};

@@ -109,7 +109,8 @@ fn valid_told<'a>(alloc: Global, image: &Image, checked: Checked<'a>) -> Told<'a
     ensures verdict { result.explanation.judgment ≡ judgments.Valid }
     ensures lines { string_bytes result.explanation.lines ≡ [] }
     ensures walk { result.walk.items ≡ [] }
-    ensures decoded { IsSomeAnd result.«module» (λ m. (plain_insts m ≡ checked.entry.insts) × IsHeaderOf image.now m.header) }
+    ensures decoded { IsSomeAnd result.«module»
+        (λ m. (plain_insts m ≡ checked.entry.insts) × IsHeaderOf image.now m.header) }
 {
     Told {
         explanation: Explanation {

@@ -1,5 +1,6 @@
 -- Whose a type is that is told: the operands of an instruction that are of it. How many parts it has. (Own.)
-use Rattle.std.specs.Prelude.{◌+◌, ◌-◌, ℕ, List, [], ◌∷◌, Option, Some, None, Bool, true, false, length, map, nat_eq, take}
+use Rattle.std.specs.Prelude.{◌+◌, ◌-◌, ℕ, List, [], ◌∷◌, Option, Some, None, Bool, true, false, length, map, nat_eq}
+use Rattle.std.specs.Prelude.{take}
 use Rattle.std.specs.Prelude.{nat_lt, get_or, option_and_then, set, slice_get, unwrap_or, if◌then◌else◌}
 use Rattle.spv_table.specs.Lookups.{is_number}
 use Rattle.spv_module.specs.Operand.{Plain, OfType, Result, Id, Word, Number, PlainInst, type_in}

@@ -1,5 +1,6 @@
 -- What the lines tell of bytes that are no words of a module. (Own.)
-use Rattle.std.specs.Prelude.{◌++◌, ◌+◌, ◌*◌, ◌/◌, ◌%◌, ◌&&◌, ◌||◌, ℕ, List, [], ◌∷◌, Option, Some, None, Bool, codes, decimal, length}
+use Rattle.std.specs.Prelude.{◌++◌, ◌+◌, ◌*◌, ◌/◌, ◌%◌, ◌&&◌, ◌||◌, ℕ, List, [], ◌∷◌, Option, Some, None, Bool, codes}
+use Rattle.std.specs.Prelude.{decimal, length}
 use Rattle.std.specs.Prelude.{nat_eq, nat_le, nat_lt, slice_index, if◌then◌else◌}
 use Rattle.spv_words.specs.Header.{magic_number}
 use Rattle.spv_words.specs.Words.{word_of}
@@ -82,8 +83,8 @@ version_help w = if is_earlier w then Some (codes "--as-1.6 reads it as a module
 abbrev pub is_bitcode : ℕ → Bool
 is_bitcode w = nat_eq w 3737142082 || nat_eq w 186106078
 
--- May a byte be one of a text: a printing character of ASCII, a tab (9), a line feed (10) or a carriage return (13)? Are
--- all four of a word such bytes?
+-- May a byte be one of a text: a printing character of ASCII, a tab (9), a line feed (10) or a carriage return (13)?
+-- Are all four of a word such bytes?
 abbrev pub is_text_byte : ℕ → Bool
 is_text_byte b = nat_le 32 b && nat_lt b 127 || (nat_eq b 9 || (nat_eq b 10 || nat_eq b 13))
 

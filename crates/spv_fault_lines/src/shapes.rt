@@ -80,7 +80,8 @@ fn push_comma(out: &mut String, first: bool) -> Result<(), AllocError>
 
 /// Adds what is asked of an operand, the first or another.
 fn push_form(out: &mut String, first: bool, form: Form) -> Result<(), AllocError>
-    ensures { OnOk result (string_bytes out.new ≡ string_bytes out.old ++ (shapes.comma first ++ shapes.form_text form)) }
+    ensures { OnOk result (string_bytes out.new
+        ≡ string_bytes out.old ++ (shapes.comma first ++ shapes.form_text form)) }
 {
     push_comma(out, first)?;
     out.push_str(form_words(form))
@@ -126,7 +127,8 @@ fn push_file_and_text(out: &mut String, first: bool) -> Result<(), AllocError>
 
 /// Adds an operand and others that may be left out.
 fn push_maybe_others(out: &mut String, first: bool, form: Form) -> Result<(), AllocError>
-    ensures { OnOk result (string_bytes out.new ≡ string_bytes out.old ++ shapes.ending_text first (maybe_others form)) }
+    ensures { OnOk result (string_bytes out.new
+        ≡ string_bytes out.old ++ shapes.ending_text first (maybe_others form)) }
 {
     push_form(out, first, form)?;
     out.push_str(" or nothing, any others")
@@ -135,7 +137,8 @@ fn push_maybe_others(out: &mut String, first: bool, form: Form) -> Result<(), Al
 /// Adds an operand that may be left out, and that any number of another may follow it.
 fn push_maybe_before(out: &mut String, first: bool, form: Form) -> Result<(), AllocError>
     ensures { OnOk result (string_bytes out.new
-        ≡ string_bytes out.old ++ (shapes.comma first ++ shapes.form_text form ++ codes " or nothing, any number of: ")) }
+        ≡ string_bytes out.old ++ (shapes.comma first ++ shapes.form_text form
+            ++ codes " or nothing, any number of: ")) }
 {
     push_form(out, first, form)?;
     out.push_str(" or nothing, any number of: ")
@@ -164,7 +167,8 @@ fn push_maybe_repeated(
 
 /// Adds what may come after the fixed operands, and whether that is the first that is told.
 fn push_ending(out: &mut String, first: bool, ending: Ending) -> Result<(), AllocError>
-    ensures { OnOk result (string_bytes out.new ≡ string_bytes out.old ++ shapes.ending_text first (plain_ending ending)) }
+    ensures { OnOk result (string_bytes out.new
+        ≡ string_bytes out.old ++ shapes.ending_text first (plain_ending ending)) }
 {
     match ending {
         Ending::Closed => push_closed(out, first),

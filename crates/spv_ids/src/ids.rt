@@ -98,9 +98,9 @@ fn globals(plan: &Plan, count: u32, end: u32) -> u32
 
 /// The definitions of a module's ids. `plan` is what `lay_out` answered of that module.
 ///
-/// Time is linear in the words of the module; where ids are sparse, each takes the time of a search among the few beside
-/// it besides. What is kept takes at most 12 bytes for each instruction that has a result, and 4 more, whatever the
-/// bound.
+/// Time is linear in the words of the module; where ids are sparse, each takes the time of a search among the few
+/// beside it besides. What is kept takes at most 12 bytes for each instruction that has a result, and 4 more, whatever
+/// the bound.
 ///
 /// A `Fault` tells the first rule that is broken, with its instruction and that instruction's first word (words and
 /// instructions from 0). At one instruction the first in this order is told:

@@ -32,8 +32,8 @@ pub record PlainRow : Type 0 where
   pub fixed : List Form
   pub ending : RowEnding
 
--- a line of the code's table, as src/rows.rt writes it: the first and the last opcode, the profile, the class, the fixed
--- operands, what may come after them, and the operands that this names; and its row [own]
+-- a line of the code's table, as src/rows.rt writes it: the first and the last opcode, the profile, the class, the
+-- fixed operands, what may come after them, and the operands that this names; and its row [own]
 abbrev pub Forms : Type 0
 Forms = record { now : List Form }
 

@@ -118,7 +118,8 @@ fn fault(rule: Rule, inst: usize, word: u32) -> Stop
 
 /// The first instruction that does not fit its row, or has none in the profile.
 fn first_misfit(profile: Profile, kinds: &Kinds<'_>, insts: &[Inst<'_>]) -> Option<usize>
-    ensures some { IfSome result (λ n. IsFirst (Broken profile kinds.now (map plain_inst insts.now)) of_profile rule.P1 n) }
+    ensures some { IfSome result
+        (λ n. IsFirst (Broken profile kinds.now (map plain_inst insts.now)) of_profile rule.P1 n) }
     ensures within { IfSome result (λ n. n < length insts.now) }
     ensures none { IfNone result ((n : ℕ) (i : PlainInst) → slice_get (map plain_inst insts.now) n ≡ Some i
         → FitsProfile profile kinds.now i) }

@@ -30,7 +30,8 @@ pub fn name_of<'a>(naming: Naming, insts: &[Inst<'a>], id: u32) -> Option<&'a st
     None
 }
 
-/// The name of a function: that of its first OpName, else that of the first OpEntryPoint that names it, if there is one.
+/// The name of a function: that of its first OpName, else that of the first OpEntryPoint that names it, if there is
+/// one.
 ///
 /// Time is linear in the instructions.
 pub fn function_name<'a>(insts: &[Inst<'a>], id: u32) -> Option<&'a str>

@@ -1,5 +1,6 @@
 -- The lines that most instructions have, of operands as they mostly stand.
-use Rattle.std.proofs.Common.{◌≡◌, ◌↔◌, inl, ℕ, List, [], ◌∷◌, Some, None, Bool, sym, ap, subst}
+use Rattle.std.proofs.Common.{◌≡◌, ◌↔◌, inl, ℕ, List, [], ◌∷◌, Option, Some, None, Bool, tt, refl, sym}
+use Rattle.std.proofs.Common.{ap, subst}
 use Rattle.std.specs.Prelude.{IsTrue, IsSomeAnd}
 use Rattle.std.proofs.lemmas.Option.{none-some, same_Some}
 use Rattle.spv_module.specs.Operand.{Plain, OfType, Result, Id, Mask, PlainInst}
@@ -7,6 +8,7 @@ use Rattle.spv_module.specs.declared.opcode.TheConstants as opcode
 use Rattle.spv_type_forms.specs.declared.form.Sort.{Sort}
 use Rattle.spv_type_forms.specs.Operands.{words_in, after_head, result_type_in}
 use Rattle.spv_type_forms.specs.Values.{types_of}
+use Rattle.spv_conditions.specs.Further.{MayStand}
 use Rattle.spv_ops.specs.declared.common.Binary.{Binary as Ids}
 use Rattle.spv_ops.specs.declared.common.Two.{Two}
 use Rattle.spv_ops.specs.declared.table.Places.TheVariants as places
@@ -15,7 +17,7 @@ use Rattle.spv_ops.specs.inner.Table.{first_of}
 use Rattle.spv_ops.specs.inner.Typed.{IsTypedIn}
 use Rattle.spv_ops.specs.inner.Wide.{binary_of}
 use Rattle.spv_ops.proofs.Parts.{iff_to, typed_by, binary_line, load_line, store_line, branch_line, binary_asks}
-use Rattle.spv_ops.proofs.Parts.{load_asks, store_asks, branch_asks, combines_in, loads_in, stores_in, branches_in}
+use Rattle.spv_ops.proofs.Parts.{extended_line, extended_asks, load_asks, store_asks, branch_asks, combines_in, loads_in, stores_in, branches_in}
 
 pub binary_typed : (is : List PlainInst) (n : ℕ) (i : PlainInst) (s : Sort) (ids : Ids) (holds : Bool) (os : List Plain)
     → i.operands ≡ os → first_of i.opcode ≡ binary_of s → binary_in os ≡ Some ids
@@ -113,3 +115,12 @@ branch_typed is n i x holds (Id y ∷ Id l ∷ Id m ∷ []) e o f h =
     branch_of is n i y l m holds o e (subst
     (λ (z : ℕ). IsTrue holds ↔ IsSomeAnd (types_of is (z ∷ [])) (IsCondition is)) (sym same) h)
 branch_typed is n i x holds os e o f h = absurd (none-some x f)
+
+pub extended_typed : (is : List PlainInst) (n : ℕ) (i : PlainInst) (holds : Bool)
+    → first_of i.opcode ≡ opcode.EXT_INST → (IsTrue holds ↔ MayStand is n i (result_type_in i.operands))
+    → IsTrue holds ↔ IsTypedIn is n i
+extended_typed is n i holds o h =
+    let line = extended_asks i.opcode o in
+    let typed = typed_by is n i places.Nothing extended_line (result_type_in i.operands) (after_head i.operands)
+    line.0 line.1 refl refl in
+    iff_to h (iff_to (λ m. (m, tt), λ k. k.0) typed)

@@ -149,6 +149,9 @@ abbrev pub branch_line : List Asks
 branch_line = asks.Once (asked.Operands false 1) ∷ asks.Once (asked.Kind kind.Bool (seat.Value 0))
     ∷ asks.Once (asked.Rest beside.Weights) ∷ []
 
+abbrev pub extended_line : List Asks
+extended_line = asks.Once (asked.Rest beside.Extended) ∷ []
+
 pub binary_asks : (n : ℕ) (s : Sort) → first_of n ≡ binary_of s
     → (places_of n ≡ places.Ids) × (asks_of n ≡ binary_line s)
 unfolding lines
@@ -168,6 +171,11 @@ pub branch_asks : (n : ℕ) → first_of n ≡ opcode.BRANCH_CONDITIONAL
     → (places_of n ≡ places.One) × (asks_of n ≡ branch_line)
 unfolding lines
 branch_asks n e = (places_first n opcode.BRANCH_CONDITIONAL e, asks_first n opcode.BRANCH_CONDITIONAL e)
+
+pub extended_asks : (n : ℕ) → first_of n ≡ opcode.EXT_INST
+    → (places_of n ≡ places.Nothing) × (asks_of n ≡ extended_line)
+unfolding lines
+extended_asks n e = (places_first n opcode.EXT_INST e, asks_first n opcode.EXT_INST e)
 
 combines : (is : List PlainInst) (R : Rest → Type 0) (s : Sort) (r : ℕ) (ts : List ℕ)
     → Combines is s r ts ↔ AllByRecursion (Holds is R (Some r) ts) (conditions_in (binary_line s) (length ts))

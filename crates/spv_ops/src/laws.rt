@@ -328,8 +328,8 @@ pub fn object_examples()
 {}
 
 /// What images ask, of types of the module `objects` of spv_type_forms, and more: `%4` is a type of images of two
-/// dimensions and `%5` its sampled image type, `%24` a sampler type; `%21` and `%23` are vectors of four and two floats,
-/// `%22` one of two ints; `%26` is a pointer to `%4`, `%25` one of the class Image to `%3`, a float.
+/// dimensions and `%5` its sampled image type, `%24` a sampler type; `%21` and `%23` are vectors of four and two
+/// floats, `%22` one of two ints; `%26` is a pointer to `%4`, `%25` one of the class Image to `%3`, a float.
 #[tactic(auto, unfolding(crate::specs::Table::lines))]
 pub fn image_examples()
     ensures sampled { LineHolds with_images 8 label opcode.SAMPLED_IMAGE (Some 5) (4 ∷ 24 ∷ []) }

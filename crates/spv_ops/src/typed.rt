@@ -20,6 +20,7 @@ use crate::construct::constructs;
 use crate::enqueue::enqueues;
 use crate::table::{Found, Places, line_holds, look_up};
 use crate::variable::variable_holds;
+use spv_conditions::may_stand;
 use spv_module::{Inst, Operand, opcode};
 use spv_type_forms::{
     Definitions, MOST, Sort, after_head, all_pairs_of_type, gather, is_data, result_type,
@@ -244,6 +245,17 @@ fn branch_row_holds(definitions: &Definitions, number: u32, inst: &Inst, found: 
     }
 }
 
+/// The same, where the opcode is that of OpExtInst.
+#[inline(always)]
+fn extended_row_holds(definitions: &Definitions, number: u32, inst: &Inst, found: Found) -> bool
+    requires number { number < length definitions.now }
+    requires first { found.first ≡ first_of (plain_inst inst.now).opcode }
+    requires extended { found.first ≡ the_opcode.EXT_INST }
+    ensures { IsTrue result ↔ IsTypedIn definitions.now number (plain_inst inst.now) }
+{
+    may_stand(definitions, number, inst, result_type(inst.operands.as_slice()))
+}
+
 /// Whether what an instruction's opcode asks, if anything, holds of its result type, the types that its value operands
 /// are declared with, and its literals. The lines that most instructions have are looked at first.
 pub fn inst_holds(definitions: &Definitions, number: u32, inst: &Inst) -> bool
@@ -258,6 +270,7 @@ pub fn inst_holds(definitions: &Definitions, number: u32, inst: &Inst) -> bool
         opcode::LOAD => load_row_holds(definitions, number, inst, found),
         opcode::STORE => store_row_holds(definitions, number, inst, found),
         opcode::BRANCH_CONDITIONAL => branch_row_holds(definitions, number, inst, found),
+        opcode::EXT_INST => extended_row_holds(definitions, number, inst, found),
         _ => row_holds(definitions, number, inst, found),
     }
 }

@@ -24,7 +24,8 @@ pub enum Scope {
     OpenCl,
 }
 
-/// The minor number of the version of bytes, and 6 where they begin as a module of none of the versions 1.0 to 1.6 does.
+/// The minor number of the version of bytes, and 6 where they begin as a module of none of the versions 1.0 to 1.6
+/// does.
 fn own_minor(bytes: &[u8]) -> u8
     ensures told { result ≡ spec.own_minor bytes.now }
     ensures known { result ≤ 6 }

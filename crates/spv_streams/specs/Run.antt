@@ -10,8 +10,8 @@ use Rattle.spv_commands.specs.Trouble.{entry_line, file_line, function_line, gra
 use Rattle.spv_streams.specs.Begin.{BeginsByText, BeginsRulesOf}
 
 -- The error line of a run whose grammar file has this text, or which has none, for a reason: the grammar breaks a code,
--- a read or a write `failed`, a function is `strange` or `absent`, its name `ambiguous`, or memory was refused. No clause can tell when
--- memory is refused, so the last stands for itself.
+-- a read or a write `failed`, a function is `strange` or `absent`, its name `ambiguous`, or memory was refused. No
+-- clause can tell when memory is refused, so the last stands for itself.
 pub data IsErrorLine (text : Option (List ℕ)) (failed strange absent ambiguous : Type 0) : List ℕ → Type 0 where
   refused : (e : GrammarError) → breaks text e → IsErrorLine text failed strange absent ambiguous (grammar_text e)
   file : failed → IsErrorLine text failed strange absent ambiguous file_line

@@ -33,8 +33,8 @@ fn assembled_on<R: Source>(
 
 /// Makes the module of the text that a reader's bytes up to the end of input are: writes its bytes in an order to
 /// `made`, and answers true; or, where the text fails, writes the line of its fault to `out`, and answers false. Where
-/// it is to `explain`, lines behind that one say what is wanted at that place and what is found. Where `opencl` is asked
-/// for, a text that tells version 1.0 to 1.5 is read too, and the module has that version.
+/// it is to `explain`, lines behind that one say what is wanted at that place and what is found. Where `opencl` is
+/// asked for, a text that tells version 1.0 to 1.5 is read too, and the module has that version.
 ///
 /// # Errors
 ///

@@ -148,14 +148,14 @@ fn done<S: Source, W: Sink, O: Sink>(
 ///
 /// `grammar` is the text of the grammar file; without one the built-in grammar is used. `file` is the module or the
 /// text, `out` the standard output, `made` the file that a command makes (only `asm` makes one), `err` the standard
-/// error. A module is taken as the version that the command asks for, and looked at as far. Names, objects of JSON and `--quiet` are of `run_each`, and colour is
-/// written only where it is asked for in any case. 0: the module is valid, or its text, the module of a text, a run,
-/// what people look at, a grammar file or what codes say was written. 1: a fault line was written. 2: one line was
-/// written to `err`: `error J1` to `error J7` where the grammar file is refused, which is told first, `error file`
-/// where a read or a write failed or a text is not UTF-8, `error X1` where the function whose run is asked for is no
-/// entry point's, `error X2` where the function that is asked for is none of the module, `error use` where its name is
-/// that of several, `error memory` where a growth of memory was refused. Where the write to `err` fails too, it has got
-/// a beginning of that line, and the status is 2 all the same.
+/// error. A module is taken as the version that the command asks for, and looked at as far. Names, objects of JSON and
+/// `--quiet` are of `run_each`, and colour is written only where it is asked for in any case. 0: the module is valid,
+/// or its text, the module of a text, a run, what people look at, a grammar file or what codes say was written. 1: a
+/// fault line was written. 2: one line was written to `err`: `error J1` to `error J7` where the grammar file is
+/// refused, which is told first, `error file` where a read or a write failed or a text is not UTF-8, `error X1` where
+/// the function whose run is asked for is no entry point's, `error X2` where the function that is asked for is none of
+/// the module, `error use` where its name is that of several, `error memory` where a growth of memory was refused.
+/// Where the write to `err` fails too, it has got a beginning of that line, and the status is 2 all the same.
 pub fn run<S: Source, W: Sink, O: Sink, E: Sink>(
     alloc: Global,
     command: &Command,

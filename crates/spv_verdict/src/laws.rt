@@ -1,4 +1,5 @@
-//! The laws of verdicts and of the runs of checked modules; and what looking further at a module changes of its verdict.
+//! The laws of verdicts and of the runs of checked modules; and what looking further at a module changes of its
+//! verdict.
 
 ghost use Rattle.std.specs.Prelude.{◌++◌, ◌∷◌, [], ℕ, List};
 ghost use Rattle.spv_table.specs.Table.{Table};

@@ -92,7 +92,8 @@ shows_beginning (Text color) None = true
 shows_beginning (Page title) None = true
 shows_beginning how function = false
 
--- The verdict on the bytes, under the table, as far as they are looked at, breaks none of these rules; or it breaks one.
+-- The verdict on the bytes, under the table, as far as they are looked at, breaks none of these rules; or it breaks
+-- one.
 pub record AreLaidOut (G : Table) (reach : Reach) (bytes : List ℕ) : Type 0 where
   pub judgment : Judgment
   pub verdict : IsVerdict G reach bytes (line_of judgment)
@@ -127,7 +128,8 @@ IsMark (Some f) (Some g) = mark_in f g
 IsMark _ _ = ⊥
 
 -- The text is that of the pieces of the module's document, with what is told of its fault.
-pub record IsAnnotated (G : Table) (reach : Reach) (m : Module) (finding : Option annotate.Finding) (function : Option ℕ)
+pub record IsAnnotated (G : Table) (reach : Reach) (m : Module)
+    (finding : Option annotate.Finding) (function : Option ℕ)
     (color : Bool) (text : List ℕ) : Type 0 where
   pub subject : Subject
   pub of : IsSubject G reach m finding function subject
@@ -149,7 +151,8 @@ IsWritten (Page title) G reach m finding function text = IsPage G reach m title.
 IsWritten Graph G reach m finding None text = text ≡ call_graph_text (plain_insts m)
 IsWritten Graph G reach m finding (Some id) text = IsBlockGraph G m finding id text
 
--- What explains the verdict on the bytes is told, with the walk of its evidence; the graph of the calls needs no verdict.
+-- What explains the verdict on the bytes is told, with the walk of its evidence; the graph of the calls needs no
+-- verdict.
 pub data IsTold (G : Table) (reach : Reach) (bytes : List ℕ) : View → Option ℕ → Option annotate.Finding → Type 0 where
   explained : (how : View) (function : Option ℕ) (finding : Option annotate.Finding) (e : Explanation) (walk : List ℕ)
       → IsExplanation Short G reach bytes e → IsWalk Short G reach bytes e walk → IsFindingOf e walk finding
@@ -179,7 +182,8 @@ pub data IsViewing (how : View) (G : Table) (reach : Reach) (function : Option C
 
 -- A writer that held the bytes `old` now also holds what is written of the bytes, and nothing else; the answer tells
 -- whether it is the text of a module.
-pub record Views (how : View) (G : Table) (reach : Reach) (function : Option Chosen) (bytes old : List ℕ) (new : Option (List ℕ))
+pub record Views (how : View) (G : Table) (reach : Reach) (function : Option Chosen)
+    (bytes old : List ℕ) (new : Option (List ℕ))
     (answer : Bool) : Type 0 where
   pub output : List ℕ
   pub viewing : IsViewing how G reach function bytes output answer

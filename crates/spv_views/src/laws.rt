@@ -26,7 +26,8 @@ ghost use Rattle.spv_views.specs.declared.view.View.TheVariants.{Graph, Text};
 /// Worked examples of what is written of bytes.
 pub fn view_examples()
     // A writer that held the byte 9 got the line of three bytes, which are no module and have nothing to look at.
-    ensures views { (G : Table) (how : View) (reach : Reach) (function : Option Chosen) → Views how G reach function (1 ∷ 2 ∷ 3 ∷ []) (9 ∷ [])
+    ensures views { (G : Table) (how : View) (reach : Reach) (function : Option Chosen)
+        → Views how G reach function (1 ∷ 2 ∷ 3 ∷ []) (9 ∷ [])
         (Some (9 ∷ codes "fault W2" ++ line_end)) false }
     ensures views_none { (G : Table) (how : View) (reach : Reach) (function : Option Chosen) (new : Option (List ℕ))
         → ¬ (Views how G reach function (1 ∷ 2 ∷ 3 ∷ []) [] new true) }

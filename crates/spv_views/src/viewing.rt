@@ -322,8 +322,8 @@ fn is_of_calls(how: View<'_>, function: Option<Chosen<'_>>) -> bool
     }
 }
 
-/// The graph of the calls of the words of a module, which needs no verdict; or the verdict line of words that are no list
-/// of instructions.
+/// The graph of the calls of the words of a module, which needs no verdict; or the verdict line of words that are no
+/// list of instructions.
 fn calls_viewed(
     alloc: Global,
     table: &Table,
@@ -352,8 +352,8 @@ fn calls_viewed(
 ///
 /// # Errors
 ///
-/// `NoFunction`: the id is the result of no OpFunction, or the name that of none. `SeveralFunctions`: the name is that of
-/// several. `Memory`: a growth of memory was refused. There is no other.
+/// `NoFunction`: the id is the result of no OpFunction, or the name that of none. `SeveralFunctions`: the name is that
+/// of several. `Memory`: a growth of memory was refused. There is no other.
 pub fn view_image(
     alloc: Global,
     table: &Table,
@@ -390,7 +390,8 @@ fn viewed_on<R: Source>(
     r: &mut R,
 ) -> Result<Viewed, ViewError>
     ensures known { IfSome (R.remaining r.old)
-        (λ bytes. IfOk result (λ v. IsViewing how.entry table.now reach function.entry bytes (output_of v) (is_text v))) }
+        (λ bytes. IfOk result (λ v. IsViewing how.entry table.now reach function.entry bytes
+            (output_of v) (is_text v))) }
     ensures stranger { IsErrOf result trouble.NoFunction
         → IfSome (R.remaining r.old) (λ bytes. LacksFunction table.now reach bytes function.entry) }
     ensures several { IsErrOf result trouble.SeveralFunctions
@@ -441,15 +442,15 @@ impl Viewed {
 /// are no list of instructions the text and the page have those before the one that is malformed, and what explains
 /// that behind them; the answer is false too.
 ///
-/// Where a function is chosen only that function is written of; of a module that breaks a rule P or L, so that its functions
-/// cannot be told apart, the verdict line is written then, and the answer is false. Where the module is not valid, what
-/// explains that is part of the text, and the answer is true. Nothing is written before the text is whole.
+/// Where a function is chosen only that function is written of; of a module that breaks a rule P or L, so that its
+/// functions cannot be told apart, the verdict line is written then, and the answer is false. Where the module is not
+/// valid, what explains that is part of the text, and the answer is true. Nothing is written before the text is whole.
 ///
 /// # Errors
 ///
 /// `Failed`: a read or a write failed. After a failed read nothing was written, after a failed write a beginning of the
-/// output. `NoFunction`: the id is the result of no OpFunction, or the name that of none. `SeveralFunctions`: the name is
-/// that of several. `Memory`: a growth of memory was refused. Nothing was written with these three.
+/// output. `NoFunction`: the id is the result of no OpFunction, or the name that of none. `SeveralFunctions`: the name
+/// is that of several. `Memory`: a growth of memory was refused. Nothing was written with these three.
 pub fn view_stream<R: Source, W: Sink>(
     alloc: Global,
     table: &Table,
@@ -461,7 +462,8 @@ pub fn view_stream<R: Source, W: Sink>(
 ) -> Result<bool, ViewError>
     // The writer has got what is written of all the bytes that the reader still gave.
     ensures viewed { OfKnown (R.remaining r.old) (W.contents w.old)
-        (λ bytes old. IfOk result (λ answer. Views how.entry table.now reach function.entry bytes old (W.contents w.new) answer)) }
+        (λ bytes old. IfOk result (λ answer. Views how.entry table.now reach function.entry bytes old
+            (W.contents w.new) answer)) }
     // The answer is `Failed` exactly where a read or a write failed.
     ensures count { (HasFailed R.failures r.old r.new ⊎ HasFailed W.failures w.old w.new)
         ↔ IsErrOf result trouble.Failed }

@@ -19,8 +19,8 @@ use Rattle.spv_check.specs.declared.verdict_line.Judgment.TheVariants.{Valid, Re
 use Rattle.spvk.specs.Numbers.{numbers_of}
 use Rattle.spvk.specs.declared.text.Text.{Text}
 
--- This is what is shown of all of these bytes, under the grammar table. Where a module is looked at as one of OpenCL, the
--- text tells the version that is looked at.
+-- This is what is shown of all of these bytes, under the grammar table. Where a module is looked at as one of OpenCL,
+-- the text tells the version that is looked at.
 pub data IsShowing (G : Table) (reach : Reach) (bytes : List ℕ) (t : Text) : Type 0 where
   -- they are words of which those from word 5 on spell a list of instructions: the text of the header and the list
   text : (words : List ℕ) (order : Order) (header : Header) (is : List PlainInst) (lines : List ℕ)

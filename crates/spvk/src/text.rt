@@ -33,8 +33,8 @@ impl Text {
         }
     }
 
-    /// A verdict with the text of what was read, which tells the version that is looked at. The error is that memory ran
-    /// out.
+    /// A verdict with the text of what was read, which tells the version that is looked at. The error is that memory
+    /// ran out.
     pub fn of(alloc: Global, judgment: Judgment, reach: Reach, text: String) -> Result<Text, Memory>
         ensures verdict { IfOk result (λ t. t.verdict ≡ numbers_of judgment) }
         ensures buffer { IfOk result (λ t. t.buffer.bytes ≡ Some (told_text reach (string_bytes text))) }

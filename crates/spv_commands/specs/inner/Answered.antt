@@ -6,7 +6,8 @@ use Rattle.spv_commands.specs.Output.{is_done, made_of, out_of}
 use Rattle.spv_commands.specs.Task.{Does, IsAmbiguous, IsNoText, LacksAsked, LacksEntry, MakesNothing}
 use Rattle.spv_commands.specs.declared.replying.Reply.{Reply}
 use Rattle.spv_commands.specs.declared.trouble.Trouble.{Trouble}
-use Rattle.spv_commands.specs.declared.trouble.Trouble.TheVariants.{Memory, NoEntry, NoFunction, NotText, SeveralFunctions}
+use Rattle.spv_commands.specs.declared.trouble.Trouble.TheVariants.{Memory, NoEntry, NoFunction, NotText}
+use Rattle.spv_commands.specs.declared.trouble.Trouble.TheVariants.{SeveralFunctions}
 
 -- a writer that held nothing gets what is written of the bytes, and no file is made
 abbrev pub Gives : (List ℕ → List ℕ → Option (List ℕ) → Bool → Type 0) → List ℕ → Reply → Type 0

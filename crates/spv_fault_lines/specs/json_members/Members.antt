@@ -28,7 +28,8 @@ use Rattle.spv_fault_lines.specs.declared.key.Key.{Key}
 use Rattle.spv_fault_lines.specs.declared.key.Key.TheVariants as keys
 use Rattle.spv_fault_lines.specs.declared.refused.Front.{Front}
 use Rattle.spv_words.specs.declared.words.WordError.{WordError}
-use Rattle.spv_fault_lines.specs.json_members.Tokens.{array, key_token, maybe_number, number_member, number_token, text_member}
+use Rattle.spv_fault_lines.specs.json_members.Tokens.{array, key_token, maybe_number, number_member, number_token}
+use Rattle.spv_fault_lines.specs.json_members.Tokens.{text_member}
 
 -- {"inst":6,"text":"%5 = OpTypeInt 32 0"}: an instruction, by its number and its line
 abbrev pub inst_tokens : List (List ℕ) → ℕ → List Token

@@ -1,7 +1,8 @@
 //! Worked examples. Each function does nothing: its contract is what is proved.
 
 ghost use Rattle.std.specs.Prelude.{◌≡◌, ◌∷◌, [], None, Some, codes, true};
-ghost use Rattle.json.specs.Token.{begin_array, begin_object, boolean, end_array, end_object, key as name, null, number, string};
+ghost use Rattle.json.specs.Token.{begin_array, begin_object, boolean, end_array, end_object, key as name, null};
+ghost use Rattle.json.specs.Token.{number, string};
 ghost use Rattle.spv_module.specs.Example.{small, string as one_string};
 ghost use Rattle.spv_fault_lines.specs.declared.fact.Fact.TheVariants as fact;
 ghost use Rattle.spv_fault_lines.specs.declared.fact.Thing.TheVariants as thing;

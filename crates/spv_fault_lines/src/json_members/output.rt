@@ -30,7 +30,8 @@ impl Model for Output {
 impl Output {
     ghost use Rattle.std.specs.Prelude.{◌≡◌, ◌++◌, ◌∷◌, [], IfOk, OnOk, codes};
     ghost use Rattle.json.specs.Print.{print};
-    ghost use Rattle.json.specs.Token.{begin_array, begin_object, boolean, end_array, end_object, key as name, null, string};
+    ghost use Rattle.json.specs.Token.{begin_array, begin_object, boolean, end_array, end_object, key as name, null};
+    ghost use Rattle.json.specs.Token.{string};
     ghost use Rattle.spv_fault_lines.specs.json_members.Quiet.{quiet_of};
     ghost use Rattle.spv_fault_lines.specs.json_members.Tokens as tokens;
 
@@ -44,7 +45,8 @@ impl Output {
         }
     }
 
-    /// The text as one line, without control characters: DEL and those from U+0080 to U+009F stand as JSON escapes them.
+    /// The text as one line, without control characters: DEL and those from U+0080 to U+009F stand as JSON escapes
+    /// them.
     ///
     /// An `AllocError` comes only where a growth of memory was refused, as it does of each of these calls.
     pub fn into_line(self) -> Result<Vec<u8>, AllocError>

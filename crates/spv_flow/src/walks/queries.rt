@@ -17,7 +17,8 @@ ghost use Rattle.spv_ids.specs.inner.Outcome.{IsNear};
 ghost use Rattle.spv_ids.specs.inner.Uses as ids;
 ghost use Rattle.spv_flow.specs.walks.inner.Adds.{AddsBy};
 ghost use Rattle.spv_flow.specs.walks.inner.Leading.{AreBlocks};
-ghost use Rattle.spv_flow.specs.walks.inner.Due.{IsFoundAt, IsPairedAt, IsUseQuery, IsPairQuery, HasUseQuery, HasPairQuery};
+ghost use Rattle.spv_flow.specs.walks.inner.Due.{IsFoundAt, IsPairedAt, IsUseQuery, IsPairQuery, HasUseQuery};
+ghost use Rattle.spv_flow.specs.walks.inner.Due.{HasPairQuery};
 ghost use Rattle.spv_flow.specs.walks.inner.Due.{IsSettled, IsQueryAt, IsQueryIn, IsQuery};
 
 use crate::walks::code::{Code, has_type, is_label_or_branch};

@@ -1,5 +1,6 @@
 -- Lines that are found by a number. (For the code alone.)
-use Rattle.std.specs.Prelude.{◌-◌, ◌&&◌, ℕ, List, [], ◌∷◌, Option, Some, None, slice_get, unwrap_or, nat_le, if◌then◌else◌}
+use Rattle.std.specs.Prelude.{◌-◌, ◌&&◌, ℕ, List, [], ◌∷◌, Option, Some, None, slice_get, unwrap_or, nat_le}
+use Rattle.std.specs.Prelude.{if◌then◌else◌}
 use Rattle.spv_conditions.specs.declared.asked.Asks.{Asks}
 use Rattle.spv_ops.specs.declared.table.Entry.{Entry}
 use Rattle.spv_ops.specs.declared.table.Found.{Found}
@@ -10,8 +11,8 @@ use Rattle.spv_ops.specs.Table.{Line, line_of}
 abbrev pub line : Entry → Line
 line e = (record { now = e.opcodes.now }, e.places, record { now = e.asks.now })
 
--- where the number of the line of an opcode stands: the opcodes up to 403, 4450 to 4455, 5632 and 5633 in order; no number
--- stands at 412
+-- where the number of the line of an opcode stands: the opcodes up to 403, 4450 to 4455, 5632 and 5633 in order; no
+-- number stands at 412
 abbrev pub numbered_at : ℕ → ℕ
 numbered_at n = if nat_le n 403 then n
     else (if nat_le 4450 n && nat_le n 4455 then n - 4046

@@ -1,5 +1,6 @@
 -- What is written, as the code keeps it. (For the code alone.)
-use Rattle.std.specs.Prelude.{◌<◌, ◌≤◌, ◌^◌, All, length, ℕ, List, Option, Some, None, Bool, true, false, Result, Ok, Err, string_bytes}
+use Rattle.std.specs.Prelude.{◌<◌, ◌≤◌, ◌^◌, All, length, ℕ, List, Option, Some, None, Bool, true, false, Result, Ok}
+use Rattle.std.specs.Prelude.{Err, string_bytes}
 use Rattle.spv_words.specs.declared.words.WordError.{WordError}
 use Rattle.spv_words.specs.declared.words.WordError.TheVariants.{W1, W9}
 use Rattle.spv_module.specs.declared.fault.Rule.{Rule}

@@ -1,0 +1,15 @@
+use Rattle.std.proofs.Common.{◌≡◌, ◌∙◌, ◌↔◌, ℕ, Bool, Option, sym, ap, subst}
+use Rattle.std.specs.Prelude.{IsTrue}
+use Rattle.spv_module.specs.Module.{plain_inst, plain_operands}
+use Rattle.spv_type_forms.specs.Operands.{result_type_in}
+use Rattle.spv_conditions.specs.Further.{MayStand}
+use Rattle.spv_ops.proofs.CommonRows.{extended_typed}
+use Rattle.spv_ops.proofs.typed.extended_row_holds.Goals as goal
+
+pub returns : goal.returns
+returns c =
+    extended_typed c.args.definitions.now c.args.number (plain_inst c.args.inst.now) c.may_stand.result
+    (sym c.requires.first ∙ c.requires.extended)
+    (subst (λ (r : Option ℕ). IsTrue c.may_stand.result ↔ MayStand c.args.definitions.now c.args.number
+    (plain_inst c.args.inst.now) r)
+    (c.result_type.ensures ∙ ap result_type_in (ap plain_operands c.as_slice.ensures.value)) c.may_stand.ensures)
