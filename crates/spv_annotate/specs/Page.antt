@@ -242,5 +242,5 @@ pub record IsPage (G : Table) (reach : Reach) (m : Module) (title : List ℕ)
   pub of : IsSubject G reach m finding asked subject
   pub known : IsScene (plain_insts m) finding asked scene
   pub all : t ≡ page_front title (notice (plain_insts m) asked finding)
-    ++ (flat_map (contents_of scene) (beginnings (plain_insts m) asked)
+      ++ (flat_map (contents_of scene) (beginnings (plain_insts m) asked)
       ++ (MIDDLE.now ++ (flat_map (page_of scene) (document subject) ++ END.now)))

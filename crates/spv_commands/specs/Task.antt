@@ -103,7 +103,7 @@ Does (Trace grammar file function choices limit scope) G bytes old new held kept
     IfSome old (λ xs. Traces G (reach_of scope bytes) function choices.items limit (taken scope bytes) xs new answer)
 Does (Annotate grammar file scope function form color) G bytes old new held kept answer =
     IfSome old (λ xs. Views (view_of form color file) G (reach_of scope bytes) function
-        (taken scope bytes) xs new answer)
+    (taken scope bytes) xs new answer)
 Does (Graph grammar file scope function) G bytes old new held kept answer =
     IfSome old (λ xs. Views views.Graph G (reach_of scope bytes) function (taken scope bytes) xs new answer)
 Does (Rules code json) G bytes old new held kept answer = WritesRules code json old new × (answer ≡ true)

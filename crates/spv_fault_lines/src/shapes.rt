@@ -138,7 +138,7 @@ fn push_maybe_others(out: &mut String, first: bool, form: Form) -> Result<(), Al
 fn push_maybe_before(out: &mut String, first: bool, form: Form) -> Result<(), AllocError>
     ensures { OnOk result (string_bytes out.new
         ≡ string_bytes out.old ++ (shapes.comma first ++ shapes.form_text form
-            ++ codes " or nothing, any number of: ")) }
+        ++ codes " or nothing, any number of: ")) }
 {
     push_form(out, first, form)?;
     out.push_str(" or nothing, any number of: ")

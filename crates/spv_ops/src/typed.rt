@@ -253,7 +253,12 @@ fn extended_row_holds(definitions: &Definitions, number: u32, inst: &Inst, found
     requires extended { found.first ≡ the_opcode.EXT_INST }
     ensures { IsTrue result ↔ IsTypedIn definitions.now number (plain_inst inst.now) }
 {
-    may_stand(definitions, number, inst, result_type(inst.operands.as_slice()))
+    may_stand(
+        definitions,
+        number,
+        inst,
+        result_type(inst.operands.as_slice()),
+    )
 }
 
 /// Whether what an instruction's opcode asks, if anything, holds of its result type, the types that its value operands

@@ -216,7 +216,7 @@ fn first_leaf<'t>(forms: &[Form], kinds: &'t [u32], items: DueItems<'t>) -> Opti
     ensures { (G : grammar.Table) → forms.now ≡ map form_of G.kinds
         → IfSome result
         (λ p. BeginsWith G p.0 (due_first kinds.now items.entry.left.now)
-            (due_first p.1.kinds.now p.1.items.left.now)) }
+        (due_first p.1.kinds.now p.1.items.left.now)) }
 {
     let Some(next) = next_kind(kinds, items, true) else {
         return None;

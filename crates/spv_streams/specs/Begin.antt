@@ -57,7 +57,7 @@ BeginsToDo (Trace grammar file function choices limit scope) G bytes old new hel
     IfSome old (λ xs. BeginsTracing G (reach_of scope bytes) function choices.items limit (taken scope bytes) xs new)
 BeginsToDo (Annotate grammar file scope function form color) G bytes old new held kept =
     IfSome old (λ xs. BeginsViewing (view_of form color file) G (reach_of scope bytes) function
-        (taken scope bytes) xs new)
+    (taken scope bytes) xs new)
 BeginsToDo (Graph grammar file scope function) G bytes old new held kept =
     IfSome old (λ xs. BeginsViewing views.Graph G (reach_of scope bytes) function (taken scope bytes) xs new)
 BeginsToDo (Rules code json) G bytes old new held kept = BeginsRules code json old new

@@ -391,7 +391,7 @@ fn viewed_on<R: Source>(
 ) -> Result<Viewed, ViewError>
     ensures known { IfSome (R.remaining r.old)
         (λ bytes. IfOk result (λ v. IsViewing how.entry table.now reach function.entry bytes
-            (output_of v) (is_text v))) }
+        (output_of v) (is_text v))) }
     ensures stranger { IsErrOf result trouble.NoFunction
         → IfSome (R.remaining r.old) (λ bytes. LacksFunction table.now reach bytes function.entry) }
     ensures several { IsErrOf result trouble.SeveralFunctions
@@ -463,7 +463,7 @@ pub fn view_stream<R: Source, W: Sink>(
     // The writer has got what is written of all the bytes that the reader still gave.
     ensures viewed { OfKnown (R.remaining r.old) (W.contents w.old)
         (λ bytes old. IfOk result (λ answer. Views how.entry table.now reach function.entry bytes old
-            (W.contents w.new) answer)) }
+        (W.contents w.new) answer)) }
     // The answer is `Failed` exactly where a read or a write failed.
     ensures count { (HasFailed R.failures r.old r.new ⊎ HasFailed W.failures w.old w.new)
         ↔ IsErrOf result trouble.Failed }
