@@ -14,8 +14,8 @@ use crate::seat::{Seat, type_at};
 use spv_module::{Inst, Operand, opcode};
 use spv_type_forms::{Definitions, Form, after_head, after_result, is_int};
 
-/// The function type that an instruction names, if it is an OpFunction.
-fn function_type_in(inst: &Inst) -> Option<u32>
+/// The function type that an instruction names, if it is an OpFunction. It takes no memory.
+pub fn function_type_in(inst: &Inst) -> Option<u32>
     ensures { result ≡ spec.function_type_in (plain_inst inst.now) }
 {
     match (inst.opcode, after_head(inst.operands.as_slice())) {

@@ -22,7 +22,8 @@ mod variable;
 
 pub use asked::{Asked, Asks, Each, Rest, Texels};
 pub use block::{
-    after_block, are_taken, front_id, function_type, invoked_of, is_local_size, takes,
+    after_block, are_taken, front_id, function_type, function_type_in, invoked_of, is_local_size,
+    takes,
 };
 pub use chain::{base_in, chosen, first_index, front, indexes_of, led_by, led_to};
 pub use components::both_sizes;

@@ -49,8 +49,7 @@ fn may_come(alloc: Global, profile: Profile, before: &[Inst<'_>]) -> Result<Evid
 ///
 /// - P1: the opcode of the instruction, and whether the profile has a row for it.
 /// - L1, and at the end L2: the opcodes of the profile that may come at that place, in order, and whether the module
-/// may
-///   end there.
+///   may end there.
 ///
 /// Time is linear in the number of instructions. P1 takes no memory.
 ///
