@@ -7,11 +7,11 @@ short), any of them will do.
 import re
 from collections import deque
 
-from . import conditions, extended, owners
+from . import conditions, extended, objects, owners
 from .facts import FUNCTION, FUNCTION_END, LABEL, Facts, open_at
 from .flow import CALL, TOLD, ToldOfTargets, targets
 from .forms import UNLIKE, VECTOR, VOID
-from .order import BEGIN, MOST_NAMES, after, kind_of, may_come, may_end, row_text
+from .order import BEGIN, MOST_NAMES, after, kinds_of, may_come, may_end, row_text
 from .profiles import Profile
 from .text import CONTROL, bits_of, visible
 from .types import NEEDED, is_defined, is_import, parameters_of, plays
@@ -262,7 +262,7 @@ class Judge(ToldOfTargets, extended.ToldOfCalls):
         state, entries = self.state(), self.facts.grammar.entries
         come, end = may_come(state, self.facts.profile), ["end of module"] * may_end(state)
         if len(come) > MOST_NAMES and not self.is_full:
-            return text == "; ".join([*dict.fromkeys(map(kind_of, come)), *end])
+            return text == "; ".join([*kinds_of(come), *end])
         return text == " ".join([*(visible(entries[it]["opname"]) for it in come if it in entries), *end])
 
     def unended(self):
@@ -431,6 +431,10 @@ class Judge(ToldOfTargets, extended.ToldOfCalls):
         types, listed = self.facts.types, self.listed()
         if listed and not types.is_covered(listed):
             return text == " ".join(map(visible, listed))
+        lacking = next((it for it in objects.needed(self.inst) if it not in types.implied), None)
+        if lacking is not None:
+            place = self.operand() if self.one("operand") else None
+            return place == objects.NEEDED_AT[lacking] and text == self.capability(lacking)
         needed = NEEDED.get((self.inst.opcode, self.inst.operands[1][1]), ()) if self.inst.opcode in (21, 22) else ()
         if self.inst.opcode == VECTOR and self.inst.operands[2][1] in (8, 16):
             needed = (7,)
@@ -451,7 +455,7 @@ class Judge(ToldOfTargets, extended.ToldOfCalls):
 
     def is_part(self, text):
         types, inst = self.facts.types, self.inst
-        if inst.opcode == 16:
+        if inst.opcode in (16, 331):
             entries = [it.operands[1][1] for it in self.facts.insts if it.opcode == 15]
             return text == "the function is that of no OpEntryPoint" and inst.operands[0][1] not in entries
         if inst.opcode == 54:

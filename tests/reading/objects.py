@@ -29,6 +29,8 @@ from .order import opcodes_in
 
 WORKGROUP, CROSS_WORKGROUP, GENERIC, OF_IMAGE = 4, 5, 8, 11
 IMAGE_BASIC, IMAGE_READ_WRITE = 13, 14
+# The operand that needs each, None where it is the instruction.
+NEEDED_AT = {IMAGE_BASIC: None, IMAGE_READ_WRITE: 8}
 GROUP, MODEL, VARIABLE = 73, 14, 59
 # The bits of a mask of image operands that may be set, with the values that each has.
 IMAGE_OPERANDS = {2: 1, 4: 2, 8: 1, 64: 1, 4096: 0, 8192: 0, 16384: 0}

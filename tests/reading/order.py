@@ -275,8 +275,10 @@ def after(state, opcode, profile=Profile.OWN):
     return moves[name].get(opcode)
 
 
-# The kinds of what may come, where there are more opcodes than this; an opcode that is in none is one by itself.
+# The kinds of what may come, where there are more opcodes than this; an opcode that is in none is one by itself, and
+# OpExtInst where it alone of the instructions of a block may come.
 MOST_NAMES = 8
+EXT_INST = 12
 KINDS = {
     "a source": {7, 3, 4, 2},
     "a name": {5, 6},
@@ -295,6 +297,7 @@ ALONE = {
     15: "OpEntryPoint",
     16: "OpExecutionMode",
     331: "OpExecutionModeId",
+    EXT_INST: "OpExtInst",
     17: "OpCapability",
     54: "OpFunction",
     55: "OpFunctionParameter",
@@ -310,6 +313,13 @@ ALONE = {
 def kind_of(opcode):
     """The kind of an opcode that may come, in words."""
     return next((kind for kind, opcodes in KINDS.items() if opcode in opcodes), None) or ALONE[opcode]
+
+
+def kinds_of(opcodes):
+    """The kinds of opcodes that may come, each once, in words."""
+    is_alone = not IN_BODY.intersection(opcodes) - {1, EXT_INST}
+    told = (ALONE[EXT_INST] if it == EXT_INST and is_alone else kind_of(it) for it in opcodes)
+    return [*dict.fromkeys(told)]
 
 
 def may_end(state):

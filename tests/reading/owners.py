@@ -7,6 +7,8 @@ from .text import visible
 
 NAME, ENTRY_POINT, FUNCTION = 5, 15, 54
 ABOVE = ", part of a type above"
+# The sorts of operands that are ids; those that an OpExtInst has after its number are, wherever they are looked at.
+IDS = ("Id", "Argument", "Mention")
 # The conditions at which the number of parts of the type that is found is told.
 SIZED = ("Chosen", "Within", "Count", "ComponentCount", "Filled")
 
@@ -16,7 +18,7 @@ def type_at(facts, operand):
     declared with, or a type itself."""
     if operand[0] == "Type":
         return operand[1]
-    if operand[0] != "Id":
+    if operand[0] not in IDS:
         return None
     found = facts.first.get(operand[1])
     if found is None:

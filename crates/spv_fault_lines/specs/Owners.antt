@@ -4,15 +4,19 @@ use Rattle.std.specs.Prelude.{take}
 use Rattle.std.specs.Prelude.{nat_lt, get_or, option_and_then, set, slice_get, unwrap_or, if◌then◌else◌}
 use Rattle.spv_table.specs.Lookups.{is_number}
 use Rattle.spv_module.specs.Operand.{Plain, OfType, Result, Id, Word, Number, PlainInst, type_in}
-use Rattle.spv_module.specs.declared.opcode.TheConstants.{TYPE_ARRAY, TYPE_STRUCT, TYPE_VECTOR}
+use Rattle.spv_conditions.specs.Block.{function_type_in}
+use Rattle.spv_module.specs.declared.opcode.TheConstants.{FUNCTION, TYPE_ARRAY, TYPE_STRUCT, TYPE_VECTOR}
 use Rattle.spv_evidence.specs.declared.condition.Condition.{Condition}
 use Rattle.spv_evidence.specs.declared.condition.Condition.TheVariants as condition
 use Rattle.spv_fault_lines.specs.Definition.{defined_by}
 
--- The type of an operand: a result type itself; of an id the type that its definition has, or the id, where that has
--- none, as a type has none. [3.49.6]
+-- The type of an operand: a result type itself; of a function its function type; of another id the type that its
+-- definition has, or the id, where that has none, as a type has none. [3.49.6, 3.49.9]
+abbrev pub given_type : PlainInst → Option ℕ
+given_type i = if nat_eq i.opcode FUNCTION then function_type_in i else type_in i.operands
+
 abbrev pub type_of : List PlainInst → ℕ → ℕ
-type_of is x = unwrap_or (option_and_then (λ i. type_in i.operands) (defined_by is x)) x
+type_of is x = unwrap_or (option_and_then given_type (defined_by is x)) x
 
 abbrev pub operand_type : List PlainInst → Plain → Option ℕ
 operand_type is (OfType t) = Some t

@@ -3,7 +3,6 @@ ghost use Rattle.std.specs.Prelude.{◌≡◌, ◌<◌, ◌≤◌, ℕ, [], None
 ghost use Rattle.std.specs.Prelude.{◌++◌, ◌∷◌, OnOk, nat_eq, if◌then◌else◌, option_and_then, slice_get, take};
 ghost use Rattle.spv_table.specs.Lookups.{is_number};
 ghost use Rattle.spv_module.specs.Module.{plain_inst, plain_insts, plain_operand, plain_operands};
-ghost use Rattle.spv_module.specs.Operand.{type_in};
 ghost use Rattle.spv_layout.specs.Place.{AreFew};
 ghost use Rattle.spv_fault_lines.specs.Definition.{defined_by, definition_from};
 ghost use Rattle.spv_fault_lines.specs.Owners as owners;
@@ -11,6 +10,7 @@ ghost use Rattle.spv_fault_lines.specs.Owners.{places_from, types_at};
 ghost use Rattle.spv_fault_lines.specs.inner.Owned.{listed, listed_of, AreOwners};
 
 use crate::about::About;
+use spv_conditions::function_type_in;
 use spv_evidence::Condition;
 use spv_module::{Inst, Operand, opcode};
 use std::alloc::{AllocError, Global};
@@ -228,6 +228,16 @@ pub fn tells_size(condition: Condition) -> bool
     )
 }
 
+/// The type that an instruction gives the id that it defines, if it gives one.
+fn given_type(inst: &Inst<'_>) -> Option<u32>
+    ensures { result ≡ owners.given_type (plain_inst inst.now) }
+{
+    match inst.opcode {
+        opcode::FUNCTION => function_type_in(inst),
+        _ => inst.type_id(),
+    }
+}
+
 impl<'m, 'a> About<'m, 'a> {
     /// The first instruction that defines an id, where these are those of the ids below a number.
     fn definition_in(&self, found: &[Option<u32>], id: u32) -> Option<u32>
@@ -244,14 +254,14 @@ impl<'m, 'a> About<'m, 'a> {
 
     /// The type of an id that this instruction defines, or the id, where it has none.
     fn type_by(&self, definition: Option<u32>, id: u32) -> u32
-        ensures { result ≡ unwrap_or (option_and_then (λ i. type_in i.operands)
+        ensures { result ≡ unwrap_or (option_and_then owners.given_type
             (option_and_then (slice_get (plain_insts self.now.«module».now)) definition)) id }
     {
         let Some(at) = definition else {
             return id;
         };
         match self.inst(at) {
-            Some(inst) => inst.type_id().unwrap_or(id),
+            Some(inst) => given_type(inst).unwrap_or(id),
             None => id,
         }
     }
