@@ -41,7 +41,7 @@ pub fn gather_all(
 pub fn gather_beside(
     definitions: &Definitions,
     operands: &[Operand],
-    skip: u32,
+    skip: u8,
     types: &mut [u32; MOST],
 ) -> Option<usize>
     ensures some { IfSome result (λ n. (n ≤ 6)

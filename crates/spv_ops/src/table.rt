@@ -34,7 +34,7 @@ pub enum Places {
     /// They are all ids, of which the opcode has six at most, whatever stands between them.
     Around,
     /// They are the ids at the front but for the one of that number, a function's; the opcode has a number of its own.
-    Beside(u32),
+    Beside(u8),
     /// They are the ids at the front but for the seventh, a function's, any number.
     Enqueued,
 }

@@ -77,7 +77,7 @@ fn beside_holds(
     opcode: u16,
     r: Option<u32>,
     operands: &[Operand],
-    skip: u32,
+    skip: u8,
 ) -> bool
     requires number { number < length definitions.now }
     requires counted { is_counted (asks_of opcode) ≡ true }
