@@ -6,7 +6,7 @@ the result type (`r`), a value operand (`o`, `p`, `q` and on, by its place among
 conditions.
 """
 
-from . import object_conditions
+from . import object_conditions, owners
 from .forms import ARRAY, BOOL, CONSTANTS, FLOAT, INT, OPAQUE, POINTER, SCALARS, SPECIAL, STRUCT, VECTOR, VOID
 from .order import opcodes_in
 from .types import RULES, cast, selected
@@ -350,7 +350,8 @@ def fails(facts, number, words, at, wanted):
 
 
 def types_at(facts, number):
-    """The ids of all types that a condition at an instruction may read."""
+    """The ids of all types that a condition at an instruction may read, the function type of a function among them."""
     row = Row(facts, number)
     own = [it[1] for it in row.inst.operands if it[0] in ("Id", "Type")]
-    return row.closure([row.r, *row.tags, *(it for it in own if row.types.form(it) is not None)])
+    signatures = [owners.type_at(facts, it) for it in row.inst.operands if owners.is_function(facts, it)]
+    return row.closure([row.r, *row.tags, *(it for it in [*own, *signatures] if row.types.form(it) is not None)])

@@ -28,6 +28,12 @@ def type_at(facts, operand):
     return operand[1] if of is None else of
 
 
+def is_function(facts, operand):
+    """Whether an operand is the id of an OpFunction."""
+    found = facts.first.get(operand[1]) if operand[0] == "Id" else None
+    return found is not None and facts.insts[found].opcode == FUNCTION
+
+
 def places(facts, number, of):
     """The numbers of the operands of an instruction that are of a type."""
     return [at for at, it in enumerate(facts.insts[number].operands) if type_at(facts, it) == of]
