@@ -25,7 +25,9 @@ DECLARED = len(SECTIONS)
 MOST_OF_NAME, TOLD_OF_NAME = 40, (40, 20, 10, 6)
 # How floats of a width are packed, and those that their decimal value reads back as.
 FORMS = {16: ("<e", "<f"), 32: ("<f", "<f"), 64: ("<d", "<d")}
-IDS = ("Type", "Result", "Id")
+# The sorts of operands that are ids: of an OpExtInst whose ids are looked at an Argument or a Mention each, and its
+# literals an Id.
+IDS = ("Type", "Result", "Id", "Argument", "Mention")
 UNQUOTED = re.compile(r'"(?:[^"\\]|\\.)*"|;')
 VERDICT = "; fault "
 DIM, RED, PLAIN = "\x1b[2m", "\x1b[31m", "\x1b[0m"
@@ -154,7 +156,7 @@ class Reading:
     def literals(self, number):
         """The places, behind the number of an extended instruction, of the literals that are read as ids."""
         call = called(self.sets, self.insts[number])
-        if call is None or any(it[0] != "Id" for it in call[2]):
+        if call is None or any(it[0] not in IDS for it in call[2]):
             return set()
         kinds = kinds_of(*call[:2])
         return {at for at in range(len(call[2])) if not is_id(kinds, at)}
