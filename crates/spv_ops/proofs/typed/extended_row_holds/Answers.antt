@@ -1,4 +1,4 @@
-use Rattle.std.proofs.Common.{◌≡◌, ◌∙◌, ◌↔◌, ℕ, Bool, Option, sym, ap, subst}
+use Rattle.std.proofs.Common.{◌∙◌, ◌↔◌, ℕ, Option, sym, ap, subst}
 use Rattle.std.specs.Prelude.{IsTrue}
 use Rattle.spv_module.specs.Module.{plain_inst, plain_operands}
 use Rattle.spv_type_forms.specs.Operands.{result_type_in}
