@@ -26,7 +26,7 @@
  * it is given after it has returned. Nothing is kept between calls but what grammars and buffers hold.
  *
  * How much. As measured on hostile shapes (docs/PERFORMANCE.md), and not proved: `spvk_grammar_new` takes time
- * nearly linear in the text, at most 170 instructions of the processor a byte, and memory of at most 12 times its
+ * nearly linear in the text, at most 170 instructions of the processor a byte, and memory of at most 13 times its
  * size.
  * `spvk_check` and `spvk_explain` take time nearly linear in the module, at most 800 instructions for each word, and
  * may look at all that the module's capabilities imply in the grammar; their memory is at most 14 times the module.

@@ -252,7 +252,8 @@ def every_case(program, folder):
     count = 0
     for case in all_cases():
         words = case.one("run").split(" ")
-        if words[0] not in COMMANDS or not (case.all("F") or case.all("text")) or case.one("exit") == "2":
+        is_read = words[0] in COMMANDS and OPENCL not in words and (case.all("F") or case.all("text"))
+        if not is_read or case.one("exit") == "2":
             continue
         with tempfile.TemporaryDirectory(dir=folder) as name:
             place = Path(name)
