@@ -223,7 +223,7 @@ static bool begins(spvk_buffer it, const char *text) {
 static int objects(const spvk_grammar *grammar, file module) {
     spvk_verdict verdict = UNTOUCHED;
     spvk_buffer buffer = unread();
-    const file valid = {(uint8_t *)"{\"verdict\":\"valid\"}\n", 20};
+    const file valid = {(uint8_t *)"{\"verdict\":\"valid\",\"profile\":\"own\"}\n", 36};
     CHECK(nulls(spvk_explain_json, grammar, module) == 0);
     CHECK(spvk_explain_json(grammar, module.bytes, module.size, &verdict, &buffer) == SPVK_OK);
     CHECK(verdict.code == SPVK_VALID && has(buffer, valid));
@@ -334,7 +334,7 @@ static const calling CALLS_OF_SETS[] = {
 static int looked_at(const spvk_grammar *grammar, file module, uint32_t flags, uint32_t code, const char *name) {
     spvk_verdict verdict = UNTOUCHED;
     spvk_buffer buffer = unread();
-    char line[60] = "valid", member[60] = "{\"verdict\":\"valid\"}";
+    char line[60] = "valid", member[60] = "{\"verdict\":\"valid\",\"profile\":\"";
     const bool valid = code == SPVK_VALID;
     const uint32_t inst = valid ? SPVK_NOWHERE : 11, word = valid ? SPVK_NOWHERE : 40;
     if (!valid) {

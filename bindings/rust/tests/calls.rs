@@ -54,7 +54,7 @@ fn objects() {
     let (grammar, kernel) = (grammar(), kernel());
     let valid = grammar.explain_json(&kernel).unwrap();
     assert_eq!(valid.verdict, Verdict::Valid);
-    assert_eq!(&*valid.text, "{\"verdict\":\"valid\"}\n");
+    assert_eq!(&*valid.text, "{\"verdict\":\"valid\",\"profile\":\"own\"}\n");
     let cut = grammar.explain_json(&kernel[..kernel.len() - 4]).unwrap();
     assert_eq!(cut.verdict.to_string(), "fault L2 inst 9 word 29");
     let begin = "{\"verdict\":\"fault\",\"code\":\"L2\",\"inst\":9,\"word\":29,\"rule\":\"";
@@ -63,7 +63,7 @@ fn objects() {
     let mut older = kernel;
     older[5] = 4;
     let told = grammar.explain_json_with(&older, Version::As1_6).unwrap();
-    assert_eq!(&*told.text, "{\"verdict\":\"valid\"}\n");
+    assert_eq!(&*told.text, "{\"verdict\":\"valid\",\"profile\":\"own\"}\n");
 }
 
 #[test]
