@@ -292,7 +292,7 @@ static int older(const spvk_grammar *grammar, file module, file text, bool big, 
     CHECK(spvk_check_with(grammar, it.bytes, it.size, SPVK_OPENCL | SPVK_EXTENDED, &verdict) == SPVK_OK);
     CHECK(verdict.code == SPVK_VALID);
     CHECK(spvk_explain_json_with(grammar, it.bytes, it.size, SPVK_OPENCL, &verdict, &buffer) == SPVK_OK);
-    CHECK(begins(buffer, "{\"verdict\":\"valid\",\"profile\":\"opencl\"}\n"));
+    CHECK(begins(buffer, "{\"verdict\":\"valid\",\"profile\":\"opencl\"}"));
     spvk_buffer_delete(&buffer);
     CHECK(spvk_show_with(grammar, it.bytes, it.size, SPVK_OPENCL, &verdict, &buffer) == SPVK_OK);
     CHECK(verdict.code == SPVK_VALID && buffer.size == text.size && buffer.data[22] == '0' + minor);
