@@ -429,7 +429,8 @@ def names_that_are_no_text(program, folder):
         (folder / of).write_bytes(KERNEL.read_bytes())
     error = {"file": "no text \0\0.spv", "verdict": "error", "error": "file"}
     for words in ["check", JSON], ["explain", JSON]:
-        for names, wanted in ([name], [error]), ([name, KERNEL], [error, {"file": str(KERNEL), "verdict": "valid"}]):
+        valid = {"file": str(KERNEL), "verdict": "valid", "profile": "own"}
+        for names, wanted in ([name], [error]), ([name, KERNEL], [error, valid]):
             got = judged(program, folder, *words, *names)
             if objects(got.out) != wanted or got.status != 2:
                 return f"  {words}: {got}"
