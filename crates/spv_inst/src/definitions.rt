@@ -182,6 +182,12 @@ impl Definitions {
             self.near[place] = Some(definition);
             return Ok(());
         }
+        // What the call takes is put together here, since most definitions do not come to it.
+        let definition = Definition {
+            type_id: definition.type_id,
+            is_float: definition.is_float,
+            width: definition.width,
+        };
         self.put_far(id, definition)
     }
 

@@ -16,6 +16,12 @@ use Rattle.spv_layout.proofs.Remains.{goes_on, goes_no_further}
 use Rattle.spv_layout.proofs.Layouts.{layout_remains, stops_not_there, leads_end}
 use Rattle.spv_layout.proofs.Worked.{run, run_none, leads_by}
 
+-- a profile sees a class other than that of OpExtInst as it is
+pub seen_other : (p : Profile) (c : Class) → (c ≡ Extended → ⊥) → seen p c ≡ c
+seen_other OpenCl c h = refl
+seen_other Own Extended h = absurd (h refl)
+seen_other Own c h = refl
+
 -- a list leads from a state to one at which a module may stop
 pub record EndsWell (o : Option State) (cs : List Class) : Type 0 where
   pub state : State

@@ -152,9 +152,9 @@ fn wide_holds(
 }
 
 /// Whether what an instruction's opcode asks, if anything, holds of its result type, the types that its value operands
-/// are declared with, and its literals: whatever the opcode is.
-#[inline(never)]
-fn row_holds(definitions: &Definitions, number: u32, inst: &Inst, found: Found) -> bool
+/// are declared with, and its literals, by what the table tells of the opcode.
+#[inline(always)]
+fn found_holds(definitions: &Definitions, number: u32, inst: &Inst, found: Found) -> bool
     requires number { number < length definitions.now }
     requires first { found.first ≡ first_of (plain_inst inst.now).opcode }
     requires places { found.places ≡ places_of (plain_inst inst.now).opcode }
@@ -179,78 +179,78 @@ fn row_holds(definitions: &Definitions, number: u32, inst: &Inst, found: Found) 
     }
 }
 
+/// The same, whatever the opcode is. It is looked up here, so that the way to the lines that most instructions have
+/// keeps its registers.
+#[inline(never)]
+fn row_holds(definitions: &Definitions, number: u32, inst: &Inst) -> bool
+    requires { number < length definitions.now }
+    ensures { IsTrue result ↔ IsTypedIn definitions.now number (plain_inst inst.now) }
+{
+    found_holds(definitions, number, inst, look_up(inst.opcode))
+}
+
 /// The same, where the opcode is that of a binary operation.
 #[inline(always)]
 fn binary_row_holds(
     definitions: &Definitions,
     number: u32,
     inst: &Inst,
-    found: Found,
     sort: Sort,
 ) -> bool
     requires number { number < length definitions.now }
-    requires first { found.first ≡ first_of (plain_inst inst.now).opcode }
-    requires places { found.places ≡ places_of (plain_inst inst.now).opcode }
-    requires sort { found.first ≡ binary_of sort }
+    requires sort { first_of (plain_inst inst.now).opcode ≡ binary_of sort }
     ensures { IsTrue result ↔ IsTypedIn definitions.now number (plain_inst inst.now) }
 {
     match binary_in(inst.operands.as_slice()) {
         Some(ids) => binary_holds(definitions, sort, ids.result_type, ids.first, ids.second),
-        None => row_holds(definitions, number, inst, found),
+        None => row_holds(definitions, number, inst),
     }
 }
 
 /// The same, where the opcode is that of OpLoad.
 #[inline(always)]
-fn load_row_holds(definitions: &Definitions, number: u32, inst: &Inst, found: Found) -> bool
+fn load_row_holds(definitions: &Definitions, number: u32, inst: &Inst) -> bool
     requires number { number < length definitions.now }
-    requires first { found.first ≡ first_of (plain_inst inst.now).opcode }
-    requires places { found.places ≡ places_of (plain_inst inst.now).opcode }
-    requires load { found.first ≡ the_opcode.LOAD }
+    requires load { first_of (plain_inst inst.now).opcode ≡ the_opcode.LOAD }
     ensures { IsTrue result ↔ IsTypedIn definitions.now number (plain_inst inst.now) }
 {
     match load_in(inst.operands.as_slice()) {
         Some(ids) => load_holds(definitions, ids.first, ids.second),
-        None => row_holds(definitions, number, inst, found),
+        None => row_holds(definitions, number, inst),
     }
 }
 
 /// The same, where the opcode is that of OpStore.
 #[inline(always)]
-fn store_row_holds(definitions: &Definitions, number: u32, inst: &Inst, found: Found) -> bool
+fn store_row_holds(definitions: &Definitions, number: u32, inst: &Inst) -> bool
     requires number { number < length definitions.now }
-    requires first { found.first ≡ first_of (plain_inst inst.now).opcode }
-    requires places { found.places ≡ places_of (plain_inst inst.now).opcode }
-    requires store { found.first ≡ the_opcode.STORE }
+    requires store { first_of (plain_inst inst.now).opcode ≡ the_opcode.STORE }
     ensures { IsTrue result ↔ IsTypedIn definitions.now number (plain_inst inst.now) }
 {
     match store_in(inst.operands.as_slice()) {
         Some(ids) => store_holds(definitions, ids.first, ids.second),
-        None => row_holds(definitions, number, inst, found),
+        None => row_holds(definitions, number, inst),
     }
 }
 
 /// The same, where the opcode is that of OpBranchConditional.
 #[inline(always)]
-fn branch_row_holds(definitions: &Definitions, number: u32, inst: &Inst, found: Found) -> bool
+fn branch_row_holds(definitions: &Definitions, number: u32, inst: &Inst) -> bool
     requires number { number < length definitions.now }
-    requires first { found.first ≡ first_of (plain_inst inst.now).opcode }
-    requires places { found.places ≡ places_of (plain_inst inst.now).opcode }
-    requires branch { found.first ≡ the_opcode.BRANCH_CONDITIONAL }
+    requires branch { first_of (plain_inst inst.now).opcode ≡ the_opcode.BRANCH_CONDITIONAL }
     ensures { IsTrue result ↔ IsTypedIn definitions.now number (plain_inst inst.now) }
 {
     match condition_in(inst.operands.as_slice()) {
         Some(x) => stands_for_bool(definitions, x),
-        None => row_holds(definitions, number, inst, found),
+        None => row_holds(definitions, number, inst),
     }
 }
 
 /// The same, where the opcode is that of OpExtInst.
 #[inline(always)]
-fn extended_row_holds(definitions: &Definitions, number: u32, inst: &Inst, found: Found) -> bool
+fn extended_row_holds(definitions: &Definitions, number: u32, inst: &Inst) -> bool
     requires number { number < length definitions.now }
-    requires first { found.first ≡ first_of (plain_inst inst.now).opcode }
-    requires extended { found.first ≡ the_opcode.EXT_INST }
+    requires extended { first_of (plain_inst inst.now).opcode ≡ the_opcode.EXT_INST }
     ensures { IsTrue result ↔ IsTypedIn definitions.now number (plain_inst inst.now) }
 {
     may_stand(
@@ -267,15 +267,14 @@ pub fn inst_holds(definitions: &Definitions, number: u32, inst: &Inst) -> bool
     requires { number < length definitions.now }
     ensures { IsTrue result ↔ IsTypedIn definitions.now number (plain_inst inst.now) }
 {
-    let found = look_up(inst.opcode);
-    match found.first {
-        opcode::I_ADD => binary_row_holds(definitions, number, inst, found, Sort::Int),
-        opcode::F_ADD => binary_row_holds(definitions, number, inst, found, Sort::Float),
-        opcode::LOGICAL_EQUAL => binary_row_holds(definitions, number, inst, found, Sort::Bool),
-        opcode::LOAD => load_row_holds(definitions, number, inst, found),
-        opcode::STORE => store_row_holds(definitions, number, inst, found),
-        opcode::BRANCH_CONDITIONAL => branch_row_holds(definitions, number, inst, found),
-        opcode::EXT_INST => extended_row_holds(definitions, number, inst, found),
-        _ => row_holds(definitions, number, inst, found),
+    match look_up(inst.opcode).first {
+        opcode::I_ADD => binary_row_holds(definitions, number, inst, Sort::Int),
+        opcode::F_ADD => binary_row_holds(definitions, number, inst, Sort::Float),
+        opcode::LOGICAL_EQUAL => binary_row_holds(definitions, number, inst, Sort::Bool),
+        opcode::LOAD => load_row_holds(definitions, number, inst),
+        opcode::STORE => store_row_holds(definitions, number, inst),
+        opcode::BRANCH_CONDITIONAL => branch_row_holds(definitions, number, inst),
+        opcode::EXT_INST => extended_row_holds(definitions, number, inst),
+        _ => row_holds(definitions, number, inst),
     }
 }

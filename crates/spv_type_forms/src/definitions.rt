@@ -1,6 +1,6 @@
 //! What the ids of a module stand for.
 
-ghost use Rattle.std.specs.Prelude.{◌≡◌, ◌≢◌, ◌↔◌, ◌<◌, ℕ, IfOk, IsTrue, IsSome, IsSomeAnd, Some, length, map};
+ghost use Rattle.std.specs.Prelude.{◌≡◌, ◌≢◌, ◌↔◌, ◌<◌, ℕ, IfOk, IfSome, IsTrue, IsSome, IsSomeAnd, Some, length, map};
 ghost use Rattle.std.specs.Prelude.{option_map, option_and_then, slice_get};
 ghost use Rattle.spv_table.specs.Table.{Table};
 ghost use Rattle.spv_module.specs.declared.opcode.TheConstants as opcode;
@@ -14,11 +14,12 @@ ghost use Rattle.spv_ids.specs.Outcome.{IsDefinitionOf, IsOnly, definition_in};
 ghost use Rattle.spv_type_forms.specs.Form.{form_of};
 ghost use Rattle.spv_type_forms.specs.Types.{scalar_in, components_of, pointee_in};
 ghost use Rattle.spv_type_forms.specs.inner.Definitions as definitions;
+ghost use Rattle.spv_type_forms.specs.inner.Parts.{element_in};
 ghost use Rattle.spv_type_forms.specs.inner.Meaning.{AreMeant, IsMeant};
 ghost use Rattle.spv_type_forms.specs.Definitions.{IsConstant, IsGlobal};
 ghost use Rattle.spv_type_forms.specs.Objects.{addressing_of, size_in};
 
-use crate::form::{Components, Form, Scalar, form_in};
+use crate::form::{Components, Form, Scalar, array_in, form_in};
 use crate::meaning::{Meaning, note_in};
 use crate::objects::addressing;
 use spv_ids::Ids;
@@ -182,6 +183,33 @@ impl<'m, 'a> Definitions<'m, 'a> {
         ensures { result ≡ form_of self.now id }
     {
         form_in(self.definition(id)?)
+    }
+
+    /// The element type of an array type, by its definition. None where the id is that of no array type.
+    #[inline(never)]
+    fn defined_element(&self, id: u32) -> Option<u32>
+        ensures { IfSome result (λ e. option_and_then element_in (form_of self.now id) ≡ Some e) }
+    {
+        let inst = self.definition(id)?;
+        if inst.opcode != opcode::TYPE_ARRAY {
+            return None;
+        }
+        match array_in(inst.operands.as_slice()) {
+            Some(Form::Array { element, .. }) => Some(element),
+            _ => None,
+        }
+    }
+
+    /// The element type of an array type, of which no more is noted than that it is a type: for where most types that
+    /// are asked for are arrays. None where it is none, or nothing is noted of it.
+    #[inline(always)]
+    pub fn element(&self, id: u32) -> Option<u32>
+        ensures { IfSome result (λ e. option_and_then element_in (form_of self.now id) ≡ Some e) }
+    {
+        match self.meaning(id) {
+            Meaning::Declared => self.defined_element(id),
+            _ => None,
+        }
     }
 
     /// What is noted of an id.

@@ -90,7 +90,7 @@ fn vector_in(operands: &[Operand]) -> Option<Form>
 
 /// What the operands of OpTypeArray declare.
 #[inline(always)]
-fn array_in(operands: &[Operand]) -> Option<Form>
+pub(crate) fn array_in(operands: &[Operand]) -> Option<Form>
     ensures { result ≡ spec.array_in (plain_operands operands.now) }
 {
     match operands {

@@ -163,6 +163,10 @@ pub fn reached(definitions: &Definitions, t: u32, literals: &[Operand]) -> Optio
 fn chosen_part(definitions: &Definitions, t: u32, x: u32) -> Option<u32>
     ensures { result ≡ choice definitions.now t x }
 {
+    // Most steps lead into an array.
+    if let Some(element) = definitions.element(t) {
+        return Some(element);
+    }
     match definitions.read_form(t)? {
         Form::Vector { component, .. } => Some(component),
         Form::Array { element, .. } => Some(element),

@@ -10,7 +10,7 @@ use Rattle.spv_module.specs.declared.fault.Rule.TheVariants as rule
 use Rattle.spv_type_forms.proofs.Opcodes.{both, all_from, one_from}
 use Rattle.spv_type_rules.specs.declared.concern.Concern.{Concern}
 use Rattle.spv_type_rules.specs.declared.concern.Concern.TheVariants as concern
-use Rattle.spv_type_rules.specs.inner.Concern.{concern_of, is_between, is_operation}
+use Rattle.spv_type_rules.specs.inner.Concern.{concern_of, is_between, is_operation, is_silent}
 use Rattle.spv_type_rules.specs.Declaration.{declaration_of}
 use Rattle.spv_type_rules.specs.inner.Declaration.{IsSoundDeclaration}
 use Rattle.spv_type_rules.specs.Constant.{constant_of}
@@ -299,3 +299,21 @@ told_nothing is n i c =
 pub operation_kept : (is : List PlainInst) (n : ℕ) (i : PlainInst) → is_operation i.opcode ≡ true → (q : Rule)
     → Keeps Unasked is q n i
 operation_kept is n i e = told_nothing is n i (unconcerned i.opcode e)
+
+-- Nor of what is silent.
+abbrev of_silent : ℕ → Bool
+of_silent n = not (is_silent n) || is_it concern.Nothing (concern_of n)
+
+all_silent : all_from of_silent 0 limit ≡ true
+all_silent = refl
+
+silent_unconcerned : (n : ℕ) → is_silent n ≡ true → concern_of n ≡ concern.Nothing
+silent_unconcerned n e = elim (cases_lt n limit) [
+  | inl h ↦
+      no_concern (concern_of n) (left_of (not (is_silent n)) (is_it concern.Nothing (concern_of n))
+      (one_from of_silent limit 0 n all_silent (omega arith) h) (no_operation (is_silent n) e))
+  | inr h ↦ late_concern n h
+]
+
+pub silent_kept : (is : List PlainInst) (n : ℕ) (i : PlainInst) → is_silent i.opcode ≡ true → IsFirstHere is n i None
+silent_kept is n i e = told_nothing is n i (silent_unconcerned i.opcode e)

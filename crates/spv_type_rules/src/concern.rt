@@ -40,6 +40,17 @@ pub fn concern_of(number: u16) -> Concern
     }
 }
 
+/// Whether an opcode is one that stands before the types, or that of a label, a plain branch or the end of a function:
+/// none of the rules Y2 to Y8 speaks of one, unless it is that of an operation.
+#[inline(always)]
+pub fn is_silent(number: u16) -> bool
+    ensures { result ≡ spec.is_silent number }
+{
+    number <= opcode::CAPABILITY
+        || (opcode::LABEL..=opcode::BRANCH).contains(&number)
+        || number == opcode::FUNCTION_END
+}
+
 /// Whether an opcode is that of an operation: all that have a row of types (Y5) are among these, and none of the other
 /// rules Y2 to Y8 speaks of one.
 #[inline(always)]

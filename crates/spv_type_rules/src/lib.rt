@@ -16,7 +16,7 @@ pub mod roles;
 mod rules;
 
 pub use alike::are_alike;
-pub use concern::is_operation;
+pub use concern::{is_operation, is_silent};
 pub use constant::{Constant, constant_of, fits_width, is_bool, is_typed_part};
 pub use counted::next_count;
 pub use declaration::{

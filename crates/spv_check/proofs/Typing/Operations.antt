@@ -18,14 +18,14 @@ use Rattle.spv_ops.specs.Typed.{IsTyped, IsTypedAt}
 use Rattle.spv_ops.specs.inner.Typed.{IsTypedIn}
 use Rattle.spv_ops.proofs.Judged.{told}
 use Rattle.spv_type_rules.specs.declared.repeat.Seen.{Seen}
-use Rattle.spv_type_rules.specs.inner.Concern.{is_operation}
+use Rattle.spv_type_rules.specs.inner.Concern.{is_operation, is_silent}
 use Rattle.spv_type_rules.specs.inner.Counted.{AreCounted}
 use Rattle.spv_type_rules.specs.inner.Repeat.{is_declared_once}
 use Rattle.spv_type_rules.specs.inner.Seen.{AreSeen}
 use Rattle.spv_type_rules.specs.Keeps.{Keeps, KeepsFunctions, KeepsReturns}
 use Rattle.spv_type_rules.specs.inner.Keeps.{CallsAreSound}
 use Rattle.spv_type_rules.specs.inner.Rules.{Unasked, IsFirstHere}
-use Rattle.spv_type_rules.proofs.Concerns.{operation_kept}
+use Rattle.spv_type_rules.proofs.Concerns.{operation_kept, silent_kept}
 use Rattle.spv_type_rules.proofs.Counting.{counted_next}
 use Rattle.spv_type_rules.proofs.Firsts.{all_kept}
 use Rattle.spv_type_rules.proofs.Repeating.{not_once}
@@ -151,6 +151,10 @@ others_told G is n i (Some r) e f = record {
   least = λ q l. with_typed G is n i q (λ y. untyped_kept G is n i e) (f.least q l);
 }
 
+pub silent_told : (G : Table) (is : List PlainInst) (n : ℕ) (i : PlainInst) → is_operation i.opcode ≡ false
+    → is_silent i.opcode ≡ true → IsFirstTypeHere G is n i None
+silent_told G is n i e s = others_told G is n i None e (silent_kept is n i s)
+
 later : (q : Rule) → q ≡ rule.Y5 → rank_of q < 29 → ⊥
 later q e l = let k : rank_of q ≡ 29 = ap rank_of e in omega arith
 
@@ -188,10 +192,8 @@ no_longer : (b : Bool) → b ≡ true → not b ≡ false
 no_longer true h = refl
 no_longer false h = cc
 
-early_other : (n : ℕ) → n < limit → is_operation n ≡ true → IsOther n
-early_other n h e =
-    let t = left_of (not (is_operation n)) (is_other n) (one_from is_told limit 0 n all_told (omega arith) h)
-    (no_longer (is_operation n) e) in
+is_other_told : (n : ℕ) → is_other n ≡ true → IsOther n
+is_other_told n t =
     let p = both (not (is_declared_once n))
     (not (nat_eq n opcode.FUNCTION) && not (nat_eq n opcode.FUNCTION_PARAMETER)) t in
     let q = both (not (nat_eq n opcode.FUNCTION)) (not (nat_eq n opcode.FUNCTION_PARAMETER)) p.1 in
@@ -200,6 +202,11 @@ early_other n h e =
       function = not_yes (nat_eq n opcode.FUNCTION) q.0;
       parameter = not_yes (nat_eq n opcode.FUNCTION_PARAMETER) q.1;
     }
+
+early_other : (n : ℕ) → n < limit → is_operation n ≡ true → IsOther n
+early_other n h e =
+    is_other_told n (left_of (not (is_operation n)) (is_other n)
+    (one_from is_told limit 0 n all_told (omega arith) h) (no_longer (is_operation n) e))
 
 late_once : (n : ℕ) → limit ≤ n → is_declared_once n ≡ false
 late_once n l =
@@ -227,7 +234,35 @@ other n e = elim (cases_lt n limit) [
   }
 ]
 
--- What is known of the instructions before an operation is known of it too.
+-- Nor does what is silent.
+
+abbrev is_hushed : ℕ → Bool
+is_hushed n = not (is_silent n) || is_other n
+
+all_hushed : all_from is_hushed 0 limit ≡ true
+all_hushed = refl
+
+silent : (n : ℕ) → is_silent n ≡ true → IsOther n
+silent n e = elim (cases_lt n limit) [
+  | inl h ↦
+      is_other_told n (left_of (not (is_silent n)) (is_other n)
+      (one_from is_hushed limit 0 n all_hushed (omega arith) h) (no_longer (is_silent n) e))
+  | inr h ↦ record {
+    once = late_once n h;
+    function = differs n opcode.FUNCTION (omega arith);
+    parameter = differs n opcode.FUNCTION_PARAMETER (omega arith);
+  }
+]
+
+-- What is known of the instructions before an operation, or before what is silent, is known of it too.
+
+other_counted : (is : List PlainInst) (n c : ℕ) (i : PlainInst) → slice_get is n ≡ Some i → IsOther i.opcode
+    → AreCounted is n c → AreCounted is (n + 1) c
+other_counted is n c i at o a =
+    let s : (if nat_eq i.opcode opcode.FUNCTION then 0
+    else (if nat_eq i.opcode opcode.FUNCTION_PARAMETER then c + 1 else c)) ≡ c = rw
+    (o.function, o.parameter) refl in
+    subst (λ k. AreCounted is (n + 1) k) s (counted_next is n c i at a)
 
 pub operation_seen : (is : List PlainInst) (n : ℕ) (i : PlainInst) (s : Seen) → slice_get is n ≡ Some i
     → is_operation i.opcode ≡ true → AreSeen is n s → AreSeen is (n + 1) s
@@ -235,9 +270,12 @@ operation_seen is n i s at e a = not_once is n i s.slots.items s.others.keys at 
 
 pub operation_counted : (is : List PlainInst) (n c : ℕ) (i : PlainInst) → slice_get is n ≡ Some i
     → is_operation i.opcode ≡ true → AreCounted is n c → AreCounted is (n + 1) c
-operation_counted is n c i at e a =
-    let o = other i.opcode e in
-    let s : (if nat_eq i.opcode opcode.FUNCTION then 0
-    else (if nat_eq i.opcode opcode.FUNCTION_PARAMETER then c + 1 else c)) ≡ c = rw
-    (o.function, o.parameter) refl in
-    subst (λ k. AreCounted is (n + 1) k) s (counted_next is n c i at a)
+operation_counted is n c i at e a = other_counted is n c i at (other i.opcode e) a
+
+pub silent_seen : (is : List PlainInst) (n : ℕ) (i : PlainInst) (s : Seen) → slice_get is n ≡ Some i
+    → is_silent i.opcode ≡ true → AreSeen is n s → AreSeen is (n + 1) s
+silent_seen is n i s at e a = not_once is n i s.slots.items s.others.keys at (silent i.opcode e).once a
+
+pub silent_counted : (is : List PlainInst) (n c : ℕ) (i : PlainInst) → slice_get is n ≡ Some i
+    → is_silent i.opcode ≡ true → AreCounted is n c → AreCounted is (n + 1) c
+silent_counted is n c i at e a = other_counted is n c i at (silent i.opcode e) a

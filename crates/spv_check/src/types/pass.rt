@@ -13,7 +13,7 @@ use spv_module::{Inst, Rule};
 use spv_ops::inst_holds;
 use spv_table::Memory;
 use spv_type_forms::Nulls;
-use spv_type_rules::{Known, Rules, Seen, is_operation, next_count};
+use spv_type_rules::{Known, Rules, Seen, is_operation, is_silent, next_count};
 use std::alloc::Global;
 
 /// A broken rule, and its instruction.
@@ -57,7 +57,7 @@ pub fn first_fault<'a>(
                     inst: n,
                 }));
             }
-        } else {
+        } else if !is_silent(inst.opcode) {
             let known = Known {
                 repeats: seen.repeats(alloc, inst)?,
                 parameters,

@@ -3,6 +3,8 @@ use Rattle.std.specs.Prelude.{ℕ, List, Option, Some, None, nat_lt, if◌then�
 use Rattle.std.specs.Prelude.{slice_get}
 use Rattle.spv_module.specs.Operand.{PlainInst}
 use Rattle.spv_module.specs.Module.{plain_operands}
+use Rattle.spv_type_forms.specs.declared.form.Form.{Form}
+use Rattle.spv_type_forms.specs.declared.form.Form.TheVariants as form
 use Rattle.spv_type_forms.specs.declared.parts.Parts.{Parts}
 use Rattle.spv_type_forms.specs.declared.parts.Parts.TheVariants as parts
 use Rattle.spv_type_forms.specs.Parts.{count_of, id_in, members_of, part_of}
@@ -10,6 +12,11 @@ use Rattle.spv_type_forms.specs.Parts.{count_of, id_in, members_of, part_of}
 -- the type of the member k of a struct type [3.49.6]
 abbrev pub member_of : List PlainInst → ℕ → ℕ → Option ℕ
 member_of is t k = option_and_then (λ ms. option_and_then id_in (slice_get ms k)) (members_of is t)
+
+-- the type of an array's elements
+abbrev pub element_in : Form → Option ℕ
+element_in (form.Array e l) = Some e
+element_in _ = None
 
 -- the type of the part k, where k is below the number of parts
 abbrev pub inner_part_of : List PlainInst → ℕ → ℕ → Option ℕ

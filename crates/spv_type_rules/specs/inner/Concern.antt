@@ -20,6 +20,12 @@ concern_of n =
     else (if nat_eq n opcode.RETURN || nat_eq n opcode.RETURN_VALUE then Return
     else Nothing))))
 
+-- what stands before the types, labels, plain branches, and the ends of functions: no rule speaks of it, if it is no
+-- operation
+abbrev pub is_silent : ℕ → Bool
+is_silent n =
+    nat_le n opcode.CAPABILITY || is_between opcode.LABEL opcode.BRANCH n || nat_eq n opcode.FUNCTION_END
+
 -- what may have a row of types
 abbrev pub is_operation : ℕ → Bool
 is_operation n =

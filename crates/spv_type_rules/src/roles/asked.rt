@@ -73,6 +73,8 @@ fn late(number: u16) -> Option<Asked>
     ensures { result ≡ spec.late number }
 {
     match number {
+        // OpLabel and OpBranch, which are the most: nothing.
+        opcode::LABEL..=opcode::BRANCH => ask(Role::Any, Role::Any, Role::Any),
         // OpReturnValue and lifetimes: values.
         opcode::RETURN_VALUE | opcode::LIFETIME_START | opcode::LIFETIME_STOP => ask(
             Role::Value,

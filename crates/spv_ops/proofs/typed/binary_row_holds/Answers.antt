@@ -8,5 +8,5 @@ returns-in-Some c =
     binary_typed c.args.definitions.now c.args.number
     (plain_inst c.args.inst.now) c.args.sort c.in-Some.ids c.binary_holds.result
     (plain_operands c.as_slice.result.now) (ap plain_operands (sym c.as_slice.ensures.value))
-    (sym c.requires.first ∙ c.requires.sort)
+    c.requires.sort
     (sym c.binary_in.ensures ∙ c.in-Some.is) c.binary_holds.ensures

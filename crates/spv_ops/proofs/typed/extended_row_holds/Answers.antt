@@ -9,7 +9,7 @@ use Rattle.spv_ops.proofs.typed.extended_row_holds.Goals as goal
 pub returns : goal.returns
 returns c =
     extended_typed c.args.definitions.now c.args.number (plain_inst c.args.inst.now) c.may_stand.result
-    (sym c.requires.first ∙ c.requires.extended)
+    c.requires.extended
     (subst (λ (r : Option ℕ). IsTrue c.may_stand.result ↔ MayStand c.args.definitions.now c.args.number
     (plain_inst c.args.inst.now) r)
     (c.result_type.ensures ∙ ap result_type_in (ap plain_operands c.as_slice.ensures.value)) c.may_stand.ensures)

@@ -7,5 +7,5 @@ pub returns-in-Some : goal.returns-in-Some
 returns-in-Some c =
     load_typed c.args.definitions.now c.args.number (plain_inst c.args.inst.now) c.in-Some.ids c.load_holds.result
     (plain_operands c.as_slice.result.now) (ap plain_operands (sym c.as_slice.ensures.value))
-    (sym c.requires.first ∙ c.requires.load)
+    c.requires.load
     (sym c.load_in.ensures ∙ c.in-Some.is) c.load_holds.ensures

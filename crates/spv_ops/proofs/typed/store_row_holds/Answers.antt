@@ -7,5 +7,5 @@ pub returns-in-Some : goal.returns-in-Some
 returns-in-Some c =
     store_typed c.args.definitions.now c.args.number (plain_inst c.args.inst.now) c.in-Some.ids c.store_holds.result
     (plain_operands c.as_slice.result.now) (ap plain_operands (sym c.as_slice.ensures.value))
-    (sym c.requires.first ∙ c.requires.store)
+    c.requires.store
     (sym c.store_in.ensures ∙ c.in-Some.is) c.store_holds.ensures

@@ -52,13 +52,14 @@ takes_kernel n =
 -- of those past it that are not between others
 abbrev pub late : ℕ → Option Asked
 late n =
-    if nat_eq n opcode.RETURN_VALUE || nat_eq n opcode.LIFETIME_START || nat_eq n opcode.LIFETIME_STOP
+    if is_between opcode.LABEL opcode.BRANCH n then ask role.Any role.Any role.Any
+    else (if nat_eq n opcode.RETURN_VALUE || nat_eq n opcode.LIFETIME_START || nat_eq n opcode.LIFETIME_STOP
     then ask role.Value role.Value role.Any
     else (if nat_eq n opcode.BRANCH_CONDITIONAL || nat_eq n opcode.SWITCH then ask role.Value role.Any role.Any
     else (if nat_eq n opcode.EXECUTION_MODE_ID then ask role.Function role.Any role.Any
     else (if are_values n then ask role.Value role.Value role.Value
     else (if takes_kernel n || nat_eq n opcode.PHI then None
-    else ask role.Any role.Any role.Any))))
+    else ask role.Any role.Any role.Any)))))
 
 -- those that ask for values
 abbrev pub asks_values : ℕ → Bool

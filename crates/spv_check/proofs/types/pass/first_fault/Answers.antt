@@ -9,16 +9,18 @@ use Rattle.spv_type_forms.specs.declared.nulls.Nulls.{Nulls}
 use Rattle.spv_type_forms.specs.inner.Null.{AreNulls}
 use Rattle.spv_check.specs.inner.Pass.{IsFirstTypeHere}
 use Rattle.spv_type_rules.specs.declared.repeat.Seen.{Seen}
-use Rattle.spv_type_rules.specs.inner.Concern.{is_operation}
+use Rattle.spv_type_rules.specs.inner.Concern.{is_operation, is_silent}
 use Rattle.spv_type_rules.specs.inner.Counted.{AreCounted}
 use Rattle.spv_type_rules.specs.inner.Rules.{IsFirstHere}
 use Rattle.spv_type_rules.specs.inner.Seen.{AreSeen}
 use Rattle.spv_layout.proofs.Misfits.{inst_there}
 use Rattle.spv_check.proofs.Typing.Firsts.{capable_fault, typed_fault, more_kept}
 use Rattle.spv_check.proofs.Typing.Operations.{op_told, others_told, operation_told, operation_seen, operation_counted}
+use Rattle.spv_check.proofs.Typing.Operations.{silent_told, silent_seen, silent_counted}
 use Rattle.spv_check.proofs.types.pass.first_fault.Goals as goal
 use Rattle.spv_check.proofs.types.pass.first_fault.Goals.{then-is_operation+else-not-inst_holds}
-use Rattle.spv_check.proofs.types.pass.first_fault.Goals.{else-is_operation+in_ok-repeats+in_ok-broken+in_default-2}
+use Rattle.spv_check.proofs.types.pass.first_fault.Goals.{else-is_operation+else-not-is_silent}
+use Rattle.spv_check.proofs.types.pass.first_fault.Goals.{else-is_operation+then-not-is_silent+in_ok-repeats+in_ok-broken+in_default-2}
 
 pub first_in-requires : goal.first_in-requires
 first_in-requires c =
@@ -138,7 +140,19 @@ loop-n-preserved c =
                 (operation_counted is n c.loop-n.parameters i at o c.loop-n.invariant.counted);
             kept = more_kept G is n i at k u c.loop-n.invariant.kept;
           }
-      | else-is_operation+in_ok-repeats+in_ok-broken+in_default-2 w ↦
+      | else-is_operation+else-not-is_silent w ↦
+          let o : is_operation i.opcode ≡ false = sym c.is_operation.ensures ∙ w.if-is_operation.false in
+          let q : is_silent i.opcode ≡ true = sym w.is_silent.ensures ∙ w.if-not-is_silent.false in
+          record {
+            same = c.first_in.ensures.same ∙ e;
+            seen = subst (λ (s : Seen). AreSeen is (n + 1) s) (sym w.seen-is)
+                (silent_seen is n i c.loop-n.seen at q c.loop-n.invariant.seen);
+            nulls = subst (λ (m : Nulls). AreNulls is m) (sym w.nulls-is) c.loop-n.invariant.nulls;
+            counted = subst (λ (p : ℕ). AreCounted is (n + 1) p) (sym w.parameters-is)
+                (silent_counted is n c.loop-n.parameters i at q c.loop-n.invariant.counted);
+            kept = more_kept G is n i at k (silent_told G is n i o q) c.loop-n.invariant.kept;
+          }
+      | else-is_operation+then-not-is_silent+in_ok-repeats+in_ok-broken+in_default-2 w ↦
           let t = subst (λ js. IsFirstHere js n i w.in_ok-broken.field-0) c.requires.judged
           w.in_ok-broken.ensures.first in
           let v = others_told G is n i w.in_ok-broken.field-0 (sym c.is_operation.ensures ∙ w.if-is_operation.false) t in

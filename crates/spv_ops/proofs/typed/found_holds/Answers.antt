@@ -9,7 +9,7 @@ use Rattle.spv_ops.specs.inner.Wide.{IsWide}
 use Rattle.spv_ops.proofs.Judged.{free_holds}
 use Rattle.spv_ops.proofs.Parts.{iff_to, typed_by, wide_place, wide_told, wide_result}
 use Rattle.spv_ops.proofs.Rows.{around_counted, beside_counted, asks_first, places_first, counted}
-use Rattle.spv_ops.proofs.typed.row_holds.Goals as goal
+use Rattle.spv_ops.proofs.typed.found_holds.Goals as goal
 
 pub gathered_holds-requires-clause-counted : goal.gathered_holds-requires-clause-counted
 gathered_holds-requires-clause-counted c =
