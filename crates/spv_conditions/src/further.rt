@@ -313,7 +313,8 @@ fn is_void(definitions: &Definitions, r: Option<u32>) -> bool
 }
 
 /// Whether the instruction of a number is of a block.
-fn is_in_block(definitions: &Definitions, number: u32) -> bool
+#[inline(always)]
+pub fn is_in_block(definitions: &Definitions, number: u32) -> bool
     requires { number < length definitions.now }
     ensures { IsTrue result ↔ ((b : ℕ) × IsOfBlock definitions.now number b) }
 {

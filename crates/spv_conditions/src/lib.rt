@@ -31,7 +31,7 @@ pub use condition::{Images, Kind, Relation};
 pub use constituents::part_of;
 pub use decide::{holds, is_of};
 pub use first::first_failing;
-pub use further::may_stand;
+pub use further::{is_in_block, may_stand};
 pub use group::{enumerant, id_at};
 pub use path::{part_within, stop_at};
 pub use rest::reached_in;

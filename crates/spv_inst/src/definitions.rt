@@ -34,13 +34,14 @@ fn defined_in(operands: &[Operand]) -> Option<(u32, Option<u32>)>
         (λ p. (operand.result_in (plain_operands operands.now) ≡ Some p.0)
         × (operand.type_in (plain_operands operands.now) ≡ p.1)) }
 {
-    // Mostly they come first.
-    if let [Operand::OfType(type_id), Operand::Result(id), ..] = operands {
-        return Some((*id, Some(*type_id)));
-    }
-    match result_in(operands) {
-        Some(id) => Some((id, type_in(operands))),
-        None => None,
+    match operands {
+        // Mostly they come first, or there is a result alone.
+        [Operand::OfType(type_id), Operand::Result(id), ..] => Some((*id, Some(*type_id))),
+        [Operand::Result(id)] => Some((*id, None)),
+        _ => match result_in(operands) {
+            Some(id) => Some((id, type_in(operands))),
+            None => None,
+        },
     }
 }
 
@@ -182,12 +183,6 @@ impl Definitions {
             self.near[place] = Some(definition);
             return Ok(());
         }
-        // What the call takes is put together here, since most definitions do not come to it.
-        let definition = Definition {
-            type_id: definition.type_id,
-            is_float: definition.is_float,
-            width: definition.width,
-        };
         self.put_far(id, definition)
     }
 

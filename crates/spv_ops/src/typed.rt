@@ -20,7 +20,7 @@ use crate::construct::constructs;
 use crate::enqueue::enqueues;
 use crate::table::{Found, Places, line_holds, look_up};
 use crate::variable::variable_holds;
-use spv_conditions::may_stand;
+use spv_conditions::{is_in_block, may_stand};
 use spv_module::{Inst, Operand, opcode};
 use spv_type_forms::{
     Definitions, MOST, Sort, after_head, all_pairs_of_type, gather, is_data, result_type,
@@ -191,12 +191,7 @@ fn row_holds(definitions: &Definitions, number: u32, inst: &Inst) -> bool
 
 /// The same, where the opcode is that of a binary operation.
 #[inline(always)]
-fn binary_row_holds(
-    definitions: &Definitions,
-    number: u32,
-    inst: &Inst,
-    sort: Sort,
-) -> bool
+fn binary_row_holds(definitions: &Definitions, number: u32, inst: &Inst, sort: Sort) -> bool
     requires number { number < length definitions.now }
     requires sort { first_of (plain_inst inst.now).opcode ≡ binary_of sort }
     ensures { IsTrue result ↔ IsTypedIn definitions.now number (plain_inst inst.now) }
@@ -253,6 +248,10 @@ fn extended_row_holds(definitions: &Definitions, number: u32, inst: &Inst) -> bo
     requires extended { first_of (plain_inst inst.now).opcode ≡ the_opcode.EXT_INST }
     ensures { IsTrue result ↔ IsTypedIn definitions.now number (plain_inst inst.now) }
 {
+    // Most are.
+    if is_in_block(definitions, number) {
+        return true;
+    }
     may_stand(
         definitions,
         number,

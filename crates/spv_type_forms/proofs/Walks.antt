@@ -1,13 +1,16 @@
 -- Reach as a function says the same.
 use Rattle.std.proofs.Common.{◌≡◌, ℕ, ◌<◌, List, [], ◌∷◌, Option, Some, None, ◌↔◌, refl, nat_lt, Bool, true, false}
-use Rattle.std.proofs.Common.{if◌then◌else◌}
+use Rattle.std.proofs.Common.{if◌then◌else◌, option_and_then}
 use Rattle.std.proofs.lemmas.Bool.{ltb-true, lt-ltb}
 use Rattle.std.proofs.lemmas.Option.{option_and_then_some, none-some}
 use Rattle.spv_module.specs.Operand.{PlainInst}
-use Rattle.spv_type_forms.specs.Parts.{part_of, count_of}
-use Rattle.spv_type_forms.specs.inner.Parts.{inner_part_of}
+use Rattle.spv_type_forms.specs.declared.form.Form.{Form}
+use Rattle.spv_type_forms.specs.declared.form.Form.TheVariants as form
+use Rattle.spv_type_forms.specs.Form.{form_of}
+use Rattle.spv_type_forms.specs.Parts.{part_in, part_of, count_of}
+use Rattle.spv_type_forms.specs.inner.Parts.{inner_part_of, element_in}
 use Rattle.spv_type_forms.specs.Reach.{ReachesType, AreWithin}
-use Rattle.spv_type_forms.specs.inner.Walk.{walk}
+use Rattle.spv_type_forms.specs.inner.Walk.{walk, choice, choice_in}
 
 guarded : (b : Bool) (k n u : ℕ) (p : Option ℕ) → nat_lt k n ≡ b → (if b then p else None) ≡ Some u
     → (k < n) × (p ≡ Some u)
@@ -44,3 +47,16 @@ reaching is (k ∷ ks) t u w (ReachesType.by_part _ _ v _ _ p r) =
 pub walk_decides : (is : List PlainInst) (ks : List ℕ) (t u : ℕ)
     → (walk is ks t ≡ Some u) ↔ ((AreWithin is t ks) × (ReachesType is t ks u))
 walk_decides is ks t u = (walked is ks t u, λ p. reaching is ks t u p.0 p.1)
+
+-- an index of an access chain chooses an array's elements, whatever it is
+chosen_by : (is : List PlainInst) (t x e : ℕ) (o : Option Form) → form_of is t ≡ o
+    → option_and_then element_in o ≡ Some e → option_and_then (choice_in is t x) o ≡ Some e
+chosen_by is t x e (Some (form.Array a l)) f h =
+    let p : part_of is t 0 ≡ Some a = rw f refl in
+    let q : Some a ≡ Some e = h in rw (p, q) refl
+chosen_by is t x e (Some other) f h = cc
+chosen_by is t x e None f h = cc
+
+pub element_chosen : (is : List PlainInst) (t x e : ℕ) → option_and_then element_in (form_of is t) ≡ Some e
+    → choice is t x ≡ Some e
+element_chosen is t x e h = chosen_by is t x e (form_of is t) refl h
