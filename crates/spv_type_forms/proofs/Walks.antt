@@ -7,7 +7,7 @@ use Rattle.spv_module.specs.Operand.{PlainInst}
 use Rattle.spv_type_forms.specs.declared.form.Form.{Form}
 use Rattle.spv_type_forms.specs.declared.form.Form.TheVariants as form
 use Rattle.spv_type_forms.specs.Form.{form_of}
-use Rattle.spv_type_forms.specs.Parts.{part_in, part_of, count_of}
+use Rattle.spv_type_forms.specs.Parts.{part_of, count_of}
 use Rattle.spv_type_forms.specs.inner.Parts.{inner_part_of, element_in}
 use Rattle.spv_type_forms.specs.Reach.{ReachesType, AreWithin}
 use Rattle.spv_type_forms.specs.inner.Walk.{walk, choice, choice_in}
