@@ -23,8 +23,9 @@ use Rattle.spv_extended.specs.declared.set.Set.TheVariants.{OpenClStd, OpenClDeb
 use Rattle.spv_annotate.specs.Called.{called_by, ids_of}
 use Rattle.spv_annotate.specs.Module.{definition_of, inst_at, name_by, naming_of, predecessors}
 use Rattle.spv_annotate.specs.Notes.{block_note, call_name, call_note, call_text, column, comment, cut_at, each_once}
-use Rattle.spv_annotate.specs.Notes.{from_note, from_text, gap, entry_named, name_note, name_unless, name_notes, name_text, note}
-use Rattle.spv_annotate.specs.Notes.{notes, opencl_lines, opencl_name, place_text, short_name, told_most}
+use Rattle.spv_annotate.specs.Notes.{from_note, from_text, gap, entry_named, name_note, name_unless, name_notes}
+use Rattle.spv_annotate.specs.Notes.{name_text, note, notes, opencl_lines, opencl_name, place_text, short_name}
+use Rattle.spv_annotate.specs.Notes.{told_most}
 use Rattle.spv_annotate.specs.Values.{IsValue, IsValueOf, hex_of, is_nan}
 use Rattle.spv_annotate.specs.declared.values.Bits.TheVariants.{Half, Single, Double}
 use Rattle.spv_annotate.proofs.Inks.{AreInk, hex_ink}

@@ -13,8 +13,8 @@ use Rattle.spv_layout.specs.Place.{first_word_of}
 use Rattle.spv_extended.specs.Call.{call_in}
 use Rattle.spv_annotate.specs.Called.{ids_of, set_of}
 use Rattle.spv_annotate.specs.Module.{inst_at, named_by, naming_of}
-use Rattle.spv_annotate.specs.Notes.{block_note, call_note, call_text, comment, each_once, from_note, gap}
-use Rattle.spv_annotate.specs.Notes.{entry_named, name_note, name_notes, name_unless, name_text, note, notes, place_text}
+use Rattle.spv_annotate.specs.Notes.{block_note, call_note, call_text, comment, each_once, entry_named, from_note}
+use Rattle.spv_annotate.specs.Notes.{gap, name_note, name_notes, name_unless, name_text, note, notes, place_text}
 use Rattle.spv_annotate.specs.inner.Known.{is_naming}
 
 neither : (a b : Bool) → (a || b) ≡ false → (a ≡ false) × (b ≡ false)

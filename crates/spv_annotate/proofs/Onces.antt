@@ -1,16 +1,13 @@
 -- What is told of numbers, of each once.
-use Rattle.std.proofs.Common.{◌≡◌, ◌++◌, ◌∙◌, ℕ, List, [], ◌∷◌, Bool, true, false, refl, sym, ap, flat_map, nat_eq}
+use Rattle.std.proofs.Common.{◌≡◌, ◌++◌, ℕ, List, [], ◌∷◌, Bool, true, false, refl, sym, ap, flat_map, nat_eq}
 use Rattle.std.proofs.Common.{Result, Ok, Err, OnOk}
 use Rattle.std.specs.Prelude.{if◌then◌else◌, filter, not}
 use Rattle.spv_annotate.specs.Notes.{each_once}
 
+-- what follows from two facts of one answer
 pub on_ok_both : {T E P Q R : Type 0} (r : Result T E) → (P → Q → R) → OnOk r P → OnOk r Q → OnOk r R
 on_ok_both (Ok x) f p q = f p q
 on_ok_both (Err y) f p q = tt
-
-pub told_alike : (f g : ℕ → List ℕ) → ((x : ℕ) → f x ≡ g x) → (xs : List ℕ) → flat_map f xs ≡ flat_map g xs
-told_alike f g e [] = refl
-told_alike f g e (x ∷ xs) = rw (e x, told_alike f g e xs) refl
 
 -- without a number the same is told as where nothing is told of that number
 without : (told left : ℕ → List ℕ) (x : ℕ) → ((y : ℕ) → left y ≡ (if nat_eq x y then [] else told y)) → (ys : List ℕ)

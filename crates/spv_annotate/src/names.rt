@@ -44,12 +44,7 @@ pub fn name_at<'a>(insts: &'a [Inst<'_>], at: u32) -> &'a str
 }
 
 /// Adds an id and the name that the OpName of that number gives.
-fn push_name(
-    out: &mut String,
-    insts: &[Inst<'_>],
-    id: u32,
-    naming: u32,
-) -> Result<(), AllocError>
+fn push_name(out: &mut String, insts: &[Inst<'_>], id: u32, naming: u32) -> Result<(), AllocError>
     ensures { OnOk result (string_bytes out.new
         ≡ string_bytes out.old ++ name_text (map plain_inst insts.now) id (Some naming)) }
 {
