@@ -266,6 +266,59 @@ def noted(program, folder):
     return wrong or (f"  lacks {lacking}:\n{text}" if lacking else None)
 
 
+# Instructions that use named ids several times: a sum of one value, a call with 200 arguments that are one, and a
+# composite of 20 constants, three times each.
+OF_INT, PARTS = 200, range(100, 120)
+REPEATED = [
+    "OpCapability Addresses",
+    "OpCapability Kernel",
+    "OpMemoryModel Physical64 OpenCL",
+    'OpEntryPoint Kernel %10 "main"',
+    *(f'OpName %{of} "{name}"' for of, name in ((2, "int"), (12, "sum"), (14, "callee"))),
+    *(f'OpName %{of} "part{of}"' for of in PARTS),
+    "%1 = OpTypeVoid",
+    "%2 = OpTypeInt 32 0",
+    "%3 = OpTypeFunction %1",
+    f"%4 = OpTypeFunction %1{' %2' * OF_INT}",
+    f"%5 = OpTypeStruct{' %2' * (3 * len(PARTS))}",
+    *(f"%{of} = OpConstant %2 {of}" for of in PARTS),
+    f"%6 = OpConstantComposite %5{''.join(f' %{of}' for of in [*PARTS, *PARTS[::-1], *PARTS])}",
+    "%10 = OpFunction %1 None %3",
+    "%11 = OpLabel",
+    "%12 = OpIAdd %2 %100 %100",
+    f"%13 = OpFunctionCall %1 %14{' %12' * OF_INT}",
+    *ENDED,
+    "%14 = OpFunction %1 None %4",
+    *(f"%{200 + at} = OpFunctionParameter %2" for at in range(OF_INT)),
+    "%15 = OpLabel",
+    *ENDED,
+]
+# What comments tell of them.
+TOLD_ONCE = {
+    "OpTypeFunction %1 %2": ["%2 int"],
+    "OpConstantComposite": [f"%{of} part{of}" for of in PARTS],
+    "OpIAdd": ["%2 int", "%12 sum", "%100 part100"],
+    "OpFunctionCall": ["%14 callee", "%12 sum"],
+}
+
+
+def names_once(program, folder):
+    """The name of an id that an instruction uses several times is told once, where it is used first."""
+    grammar_read = grammar_in(GRAMMAR)
+    content = assembled(grammar_read, REPEATED)
+    path = folder / "module.spv"
+    path.write_bytes(content)
+    wrong = module_differs(program, folder, GRAMMAR, Facts(grammar_read, content), path)
+    if wrong:
+        return wrong
+    lines = text_of(asked(program, folder, "annotate", path)).split("\n")
+    for front, names in TOLD_ONCE.items():
+        told = [line.split(", ")[1:] for line in lines if f" {front} " in line]
+        if told != [names]:
+            return f"  {front}: {told}, and not {names}"
+    return None
+
+
 def names_of_opencl(program, folder):
     """Each instruction of OpenCL.std is told by its name in Khronos' file, and other numbers by none."""
     grammar_read = grammar_in(GRAMMAR)
@@ -442,6 +495,7 @@ def checks():
         ("modules of --opencl beside the second reading", modules_of_opencl_read, ()),
         ("cases without comments", cases_read, ()),
         ("all that comments say", noted, ("khronos",)),
+        ("names of ids that are used several times", names_once, ()),
         ("names of OpenCL.std", names_of_opencl, ("khronos",)),
         ("no such function", no_such_function, ()),
         ("a function by its name", by_name, ()),

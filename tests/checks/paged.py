@@ -19,7 +19,7 @@ from reading.facts import FUNCTION, FUNCTION_END, LABEL, Facts
 from reading.text import visible
 from reading.verdict import grammar_in
 
-from .annotated import BEGUN, DECLARATIONS, ENDED, LOOP, asked, code_of, functions_of, text_of
+from .annotated import BEGUN, DECLARATIONS, ENDED, LOOP, REPEATED, asked, code_of, functions_of, text_of
 from .cases import written
 from .common import LAYERS as ALL_LAYERS
 from .common import TESTS, Answer, Check, difference, run
@@ -351,6 +351,13 @@ def modules_paged(program, folder):
     return None
 
 
+def repeated_paged(program, folder):
+    """The page of a module whose instructions use named ids several times."""
+    content = assembled(grammar_in(GRAMMAR), REPEATED)
+    (folder / "module.spv").write_bytes(content)
+    return module_differs(program, folder, Facts(grammar_in(GRAMMAR), content), "module.spv")
+
+
 # Hostile texts and names.
 
 TAGS = (
@@ -560,6 +567,7 @@ def checks():
     chromium = ("chromium",)
     found = [
         ("modules", modules_paged, ()),
+        ("names of ids that are used several times", repeated_paged, ()),
         ("texts and names that are HTML", hostile_paged, ()),
         ("a fault of words", nothing_of_faults, ()),
         ("8 MB", large, ()),

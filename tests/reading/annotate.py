@@ -179,7 +179,7 @@ class Reading:
         """The notes on an instruction, in order."""
         inst, found = self.insts[number], []
         entry = [it[1] for it in inst.operands[1:3]] if inst.opcode == ENTRY else []
-        for of in self.ids(number) if inst.opcode != NAME else ():
+        for of in dict.fromkeys(self.ids(number)) if inst.opcode != NAME else ():
             # (an OpEntryPoint that has the name of its function is not followed by it)
             if of in self.names and [of, self.names[of]] != entry:
                 found.append(f"%{of} {short(self.names[of])}")

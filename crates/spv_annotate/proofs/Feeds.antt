@@ -22,9 +22,10 @@ use Rattle.spv_extended.specs.declared.set.Set.{Set}
 use Rattle.spv_extended.specs.declared.set.Set.TheVariants.{OpenClStd, OpenClDebugInfo, DebugInfo, Other}
 use Rattle.spv_annotate.specs.Called.{called_by, ids_of}
 use Rattle.spv_annotate.specs.Module.{definition_of, inst_at, name_by, naming_of, predecessors}
-use Rattle.spv_annotate.specs.Notes.{block_note, call_name, call_note, call_text, column, comment, cut_at, from_note}
-use Rattle.spv_annotate.specs.Notes.{from_text, gap, entry_named, name_note, name_unless, name_notes, name_text, note}
-use Rattle.spv_annotate.specs.Notes.{notes, opencl_lines, opencl_name, place_text, short_name, told_most}
+use Rattle.spv_annotate.specs.Notes.{block_note, call_name, call_note, call_text, column, comment, cut_at, each_once}
+use Rattle.spv_annotate.specs.Notes.{from_note, from_text, gap, entry_named, name_note, name_unless, name_notes}
+use Rattle.spv_annotate.specs.Notes.{name_text, note, notes, opencl_lines, opencl_name, place_text, short_name}
+use Rattle.spv_annotate.specs.Notes.{told_most}
 use Rattle.spv_annotate.specs.Values.{IsValue, IsValueOf, hex_of, is_nan}
 use Rattle.spv_annotate.specs.declared.values.Bits.TheVariants.{Half, Single, Double}
 use Rattle.spv_annotate.proofs.Inks.{AreInk, hex_ink}
@@ -113,9 +114,10 @@ names_feedless is i = split (nat_eq i.opcode NAME)
     unless x true = tt
     unless x false = name_note_feedless is x (naming_of is x)
 
-    split : (z : Bool) → NoFeed (if z then [] else flat_map (name_unless is (entry_named is i)) (ids_of is i))
+    split : (z : Bool)
+        → NoFeed (if z then [] else flat_map (name_unless is (entry_named is i)) (each_once (ids_of is i)))
     split true = tt
-    split false = flat_feedless (name_unless is (entry_named is i)) (ids_of is i)
+    split false = flat_feedless (name_unless is (entry_named is i)) (each_once (ids_of is i))
         (λ x. unless x (is_number x (entry_named is i)))
 
 opencl_feedless : (k : ℕ) → NoFeed (opencl_name k)

@@ -32,3 +32,4 @@ pub mod Drafts
 pub mod Fronts
 pub mod Lines
 pub mod Noteless
+pub mod Onces

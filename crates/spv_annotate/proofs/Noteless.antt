@@ -13,8 +13,8 @@ use Rattle.spv_layout.specs.Place.{first_word_of}
 use Rattle.spv_extended.specs.Call.{call_in}
 use Rattle.spv_annotate.specs.Called.{ids_of, set_of}
 use Rattle.spv_annotate.specs.Module.{inst_at, named_by, naming_of}
-use Rattle.spv_annotate.specs.Notes.{block_note, call_note, call_text, comment, from_note, gap, entry_named, name_note}
-use Rattle.spv_annotate.specs.Notes.{name_notes, name_unless, name_text, note, notes, place_text}
+use Rattle.spv_annotate.specs.Notes.{block_note, call_note, call_text, comment, each_once, entry_named, from_note}
+use Rattle.spv_annotate.specs.Notes.{gap, name_note, name_notes, name_unless, name_text, note, notes, place_text}
 use Rattle.spv_annotate.specs.inner.Known.{is_naming}
 
 neither : (a b : Bool) → (a || b) ≡ false → (a ≡ false) × (b ≡ false)
@@ -59,8 +59,8 @@ no_notes is value n i h e l v =
     let f : nat_eq i.opcode EXT_INST ≡ false = grind (arith, nat_tests) in
     let g : nat_eq i.opcode LABEL ≡ false = grind (arith, nat_tests) in
     four_nothing (name_notes is i) (call_note is i) (note value) (block_note is n i)
-    (none_either (nat_eq i.opcode NAME) (flat_map (name_unless is (entry_named is i)) (ids_of is i))
-    (no_names is (entry_named is i) (ids_of is i) (unnamed is h)))
+    (none_either (nat_eq i.opcode NAME) (flat_map (name_unless is (entry_named is i)) (each_once (ids_of is i)))
+    (no_names is (entry_named is i) (each_once (ids_of is i)) (unnamed is h)))
     (ap (λ (b : Bool). call_text (if b then call_in (set_of is) i.operands else None)) f)
     (no_value value v)
     (ap (λ (b : Bool). if b then from_note is n (result_in i.operands) else []) g)

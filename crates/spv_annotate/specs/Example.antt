@@ -23,3 +23,7 @@ two_blocks =
 -- an entry point of that name, which is %3
 abbrev pub entry_point : List ℕ → PlainInst
 entry_point name = record { opcode = opcode.ENTRY_POINT; operands = Value 0 6 ∷ Id 3 ∷ Text name ∷ [] }
+
+-- a sum of %3 and %3
+abbrev pub doubled : PlainInst
+doubled = record { opcode = opcode.F_ADD; operands = OfType 2 ∷ Result 9 ∷ Id 3 ∷ Id 3 ∷ [] }

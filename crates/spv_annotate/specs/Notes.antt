@@ -1,7 +1,7 @@
 -- The comment behind the line of an instruction. (Own.)
 use Rattle.std.specs.Prelude.{◌+◌, ◌++◌, ◌&&◌, ℕ, zero, suc, List, [], ◌∷◌, Option, Some, None, Bool}
 use Rattle.std.specs.Prelude.{nat_eq, nat_le, nat_lt, slice_get, slice_index, unwrap_or, if◌then◌else◌, codes}
-use Rattle.std.specs.Prelude.{bytes_eq, drop, false, length, take, decimal}
+use Rattle.std.specs.Prelude.{bytes_eq, drop, false, filter, length, not, take, decimal}
 use Rattle.std.specs.List.{flat_map}
 use Rattle.spv_table.specs.Lookups.{is_number}
 use Rattle.spv_module.specs.Operand.{PlainInst, result_in}
@@ -85,10 +85,16 @@ entry_named is i = entry_in is (named_by EntryPoint i)
 abbrev pub name_unless : List PlainInst → Option ℕ → ℕ → List ℕ
 name_unless is named x = if is_number x named then [] else name_note is x
 
--- the names of the ids on a line: none at an OpName, which has the name itself, and so with the function of an
--- OpEntryPoint that has the same one
+-- each number of a list once, where it first stands
+abbrev pub each_once : List ℕ → List ℕ
+each_once [] = []
+each_once (x ∷ xs) = x ∷ filter (λ y. not (nat_eq x y)) (each_once xs)
+
+-- the names of the ids on a line, that of each id once: none at an OpName, which has the name itself, and so with the
+-- function of an OpEntryPoint that has the same one
 abbrev pub name_notes : List PlainInst → PlainInst → List ℕ
-name_notes is i = if nat_eq i.opcode NAME then [] else flat_map (name_unless is (entry_named is i)) (ids_of is i)
+name_notes is i =
+    if nat_eq i.opcode NAME then [] else flat_map (name_unless is (entry_named is i)) (each_once (ids_of is i))
 
 -- the table of src/opencl.rt, where each number of an instruction of OpenCL.std has a line with its name
 unfoldable pub opencl_lines : List (List ℕ)

@@ -11,3 +11,4 @@ pub mod Look
 pub mod Uses
 pub mod Tame
 pub mod Buffer
+pub mod Seen

@@ -19,9 +19,9 @@ ghost use Rattle.spv_extended.specs.declared.reach.Reach.TheVariants.{Extended, 
 ghost use Rattle.spv_extended.specs.declared.signature.More.TheVariants.{Nothing};
 ghost use Rattle.spv_annotate.specs.declared.linked.Quoting.TheVariants.{Outside};
 ghost use Rattle.spv_annotate.specs.Called.{ids_of, told_operands, unmarked};
-ghost use Rattle.spv_annotate.specs.Example.{entry_point, two_blocks};
+ghost use Rattle.spv_annotate.specs.Example.{doubled, entry_point, two_blocks};
 ghost use Rattle.spv_annotate.specs.Module.{inst_at, predecessors};
-ghost use Rattle.spv_annotate.specs.Notes.{call_note, comment, name_notes, short_name};
+ghost use Rattle.spv_annotate.specs.Notes.{call_note, comment, each_once, name_notes, short_name};
 ghost use Rattle.spv_annotate.specs.Piece.{Block, Comment, Function, Section, text_of};
 ghost use Rattle.spv_annotate.specs.Values.{IsValue, float_of, hex_of, is_nan, widened};
 
@@ -47,6 +47,11 @@ pub fn version_examples()
 /// Names and calls.
 pub fn note_examples()
     ensures names { name_notes two_blocks (inst_at two_blocks 8) ≡ codes ", %3 one" }
+    // An instruction that uses an id twice is followed by its name once.
+    ensures once { name_notes two_blocks doubled ≡ codes ", %3 one" }
+    ensures not_twice { ¬ (name_notes two_blocks doubled ≡ codes ", %3 one, %3 one") }
+    ensures each { each_once (3 ∷ 5 ∷ 3 ∷ 7 ∷ 5 ∷ 3 ∷ []) ≡ 3 ∷ 5 ∷ 7 ∷ [] }
+    ensures not_last { ¬ (each_once (3 ∷ 5 ∷ 3 ∷ []) ≡ 5 ∷ 3 ∷ []) }
     // The OpName has the name itself.
     ensures none { name_notes two_blocks (inst_at two_blocks 0) ≡ [] }
     // An OpEntryPoint has the name itself, if it is the same one.

@@ -26,6 +26,7 @@ pub mod page_laws;
 mod page_pen;
 mod piece;
 mod section;
+mod seen;
 mod short;
 mod standing;
 mod style;

@@ -1,17 +1,21 @@
 //! The names of ids.
 
-ghost use Rattle.std.specs.Prelude.{◌≡◌, ◌++◌, ◌≤◌, ◌<◌, ℕ, OnOk, length, map, string_bytes, take};
+ghost use Rattle.std.specs.Prelude.{◌≡◌, ◌++◌, ◌≤◌, ◌<◌, ◌∷◌, [], ℕ, List, OnOk, Some, if◌then◌else◌, length, map};
+ghost use Rattle.std.specs.Prelude.{nat_eq, string_bytes, take};
 ghost use Rattle.std.specs.List.{flat_map, filter_map};
 ghost use Rattle.spv_module.specs.Module.{plain_inst, plain_operand, plain_operands};
+ghost use Rattle.spv_module.specs.Operand.{Plain};
 ghost use Rattle.spv_annotate.specs.Module as specs;
 ghost use Rattle.spv_annotate.specs.Called.{told_from};
 ghost use Rattle.spv_annotate.specs.Module.{definition_of, id_in, inst_at, naming_of};
 ghost use Rattle.spv_annotate.specs.Notes as notes;
-ghost use Rattle.spv_annotate.specs.Notes.{name_note, name_notes, name_text, name_unless};
+ghost use Rattle.spv_annotate.specs.Notes.{each_once, name_note, name_notes, name_text};
 ghost use Rattle.spv_annotate.specs.inner.Numbers.{kept};
+ghost use Rattle.spv_annotate.specs.inner.Seen.{if_unseen};
 
 use crate::literals::{signature_at, told};
 use crate::numbers::Numbers;
+use crate::seen::Seen;
 use crate::short::push_short;
 use crate::words::push_id;
 use spv_extended::Signature;
@@ -39,23 +43,15 @@ pub fn name_at<'a>(insts: &'a [Inst<'_>], at: u32) -> &'a str
     }
 }
 
-/// Adds an id and its name, if it has one.
-fn push_name(
-    out: &mut String,
-    insts: &[Inst<'_>],
-    namings: &Numbers,
-    id: u32,
-) -> Result<(), AllocError>
-    requires { kept namings.now id ≡ naming_of (map plain_inst insts.now) id }
-    ensures { OnOk result (string_bytes out.new ≡ string_bytes out.old ++ name_note (map plain_inst insts.now) id) }
+/// Adds an id and the name that the OpName of that number gives.
+fn push_name(out: &mut String, insts: &[Inst<'_>], id: u32, naming: u32) -> Result<(), AllocError>
+    ensures { OnOk result (string_bytes out.new
+        ≡ string_bytes out.old ++ name_text (map plain_inst insts.now) id (Some naming)) }
 {
-    let Some(at) = namings.get(id) else {
-        return Ok(());
-    };
     out.push_str(", ")?;
     push_id(out, id)?;
     out.push(' ')?;
-    push_short(out, name_at(insts, at))
+    push_short(out, name_at(insts, naming))
 }
 
 /// The id that an operand is, if it is one.
@@ -93,49 +89,75 @@ fn entry_named(insts: &[Inst<'_>], namings: &Numbers, inst: &Inst<'_>) -> Option
     }
 }
 
-/// Adds an id and its name, if it has one, but for an id whose name stands on the line already.
-fn push_name_unless(
+/// Adds an id and its name, if it has one and was not seen before.
+fn push_name_once(
     out: &mut String,
     insts: &[Inst<'_>],
     namings: &Numbers,
-    named: Option<u32>,
+    seen: &mut Seen,
     id: u32,
 ) -> Result<(), AllocError>
     requires { kept namings.now id ≡ naming_of (map plain_inst insts.now) id }
-    ensures { OnOk result (string_bytes out.new
-        ≡ string_bytes out.old ++ name_unless (map plain_inst insts.now) named id) }
+    ensures text { OnOk result (string_bytes out.new
+        ≡ string_bytes out.old ++ if_unseen (name_note (map plain_inst insts.now)) seen.old id) }
+    ensures once { OnOk result ((x : ℕ) → if_unseen (name_note (map plain_inst insts.now)) seen.new x
+        ≡ (if nat_eq id x then [] else if_unseen (name_note (map plain_inst insts.now)) seen.old x)) }
 {
-    if named == Some(id) {
+    let Some(naming) = namings.get(id) else {
+        return Ok(());
+    };
+    if !seen.add(id)? {
         return Ok(());
     }
-    push_name(out, insts, namings, id)
+    push_name(out, insts, id, naming)
 }
 
-/// Adds the names of the ids that operands are, of which some are literals, but for an id whose name stands on the line
-/// already.
+/// Adds the name of the id that an operand is, if it is one, has one and was not seen before. What is told of further
+/// operands is then told without that id.
+fn push_name_in(
+    out: &mut String,
+    insts: &[Inst<'_>],
+    namings: &Numbers,
+    seen: &mut Seen,
+    operand: Operand<'_>,
+) -> Result<(), AllocError>
+    requires { (x : ℕ) → kept namings.now x ≡ naming_of (map plain_inst insts.now) x }
+    ensures { OnOk result ((further : List Plain) → string_bytes out.new
+        ++ flat_map (if_unseen (name_note (map plain_inst insts.now)) seen.new)
+        (each_once (filter_map id_in further))
+        ≡ string_bytes out.old ++ flat_map (if_unseen (name_note (map plain_inst insts.now)) seen.old)
+        (each_once (filter_map id_in (plain_operand operand.entry ∷ further)))) }
+{
+    match id_of(operand) {
+        Some(id) => push_name_once(out, insts, namings, seen, id),
+        None => Ok(()),
+    }
+}
+
+/// Adds the names of the ids that operands are, of which some are literals, each once, but for those that were seen
+/// before.
 fn push_operand_names(
     out: &mut String,
     insts: &[Inst<'_>],
     namings: &Numbers,
+    seen: &mut Seen,
     signature: Signature,
-    named: Option<u32>,
     operands: &[Operand<'_>],
 ) -> Result<(), AllocError>
     requires { (x : ℕ) → kept namings.now x ≡ naming_of (map plain_inst insts.now) x }
-    ensures { OnOk result (string_bytes out.new ≡ string_bytes out.old ++ flat_map
-        (name_unless (map plain_inst insts.now) named)
-        (filter_map id_in (told_from signature 0 (plain_operands operands.now)))) }
+    ensures { OnOk result (string_bytes out.new ≡ string_bytes out.old
+        ++ flat_map (if_unseen (name_note (map plain_inst insts.now)) seen.old)
+        (each_once (filter_map id_in (told_from signature 0 (plain_operands operands.now))))) }
 {
     for (place, operand) in operands.iter().enumerate() {
-        if let Some(id) = id_of(told(signature, place, *operand)) {
-            push_name_unless(out, insts, namings, named, id)?;
-        }
+        let operand = told(signature, place, *operand);
+        push_name_in(out, insts, namings, seen, operand)?;
     }
     Ok(())
 }
 
-/// Adds the names of the ids on the line of an instruction, but for that of an OpName, which has the name itself, and
-/// of the function of an OpEntryPoint, which has the same one.
+/// Adds the names of the ids on the line of an instruction, each once, but for that of an OpName, which has the name
+/// itself, and of the function of an OpEntryPoint, which has the same one.
 ///
 /// An `AllocError` comes only where a growth of memory was refused, and then nothing is said of what is left.
 pub fn push_names(
@@ -155,12 +177,13 @@ pub fn push_names(
     }
     let signature = signature_at(insts, definitions, inst);
     let named = entry_named(insts, namings, inst);
+    let mut seen = Seen::new(*out.allocator(), named);
     push_operand_names(
         out,
         insts,
         namings,
+        &mut seen,
         signature,
-        named,
         inst.operands.as_slice(),
     )
 }

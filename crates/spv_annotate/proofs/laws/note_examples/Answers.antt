@@ -1,4 +1,4 @@
-use Rattle.std.proofs.Common.{refl}
+use Rattle.std.proofs.Common.{◌≡◌, ap, arith, length, refl}
 use Rattle.std.specs.Fmt.{digits}
 use Rattle.spv_extended.specs.Facts.{facts_of}
 use Rattle.spv_annotate.specs.Notes.{cut_at, opencl_lines}
@@ -7,6 +7,14 @@ use Rattle.spv_annotate.proofs.laws.note_examples.Goals as goal
 pub returns-clause-names : goal.returns-clause-names
 unfolding digits facts_of
 returns-clause-names c = refl
+
+pub returns-clause-once : goal.returns-clause-once
+unfolding digits facts_of
+returns-clause-once c = refl
+
+pub returns-clause-not_twice : goal.returns-clause-not_twice
+unfolding digits facts_of
+returns-clause-not_twice c = λ e. let l : 8 ≡ 16 = ap length e in omega (arith, l)
 
 pub returns-clause-other_entry : goal.returns-clause-other_entry
 unfolding digits facts_of
