@@ -36,7 +36,7 @@ use Rattle.spv_words.specs.Streams.{HoldsBytes}
 use Rattle.spv_commands.specs.Assemble.{Assembles, HoldsModule, IsFaultOf, IsImageOf, in_version, minor_asked, text_read}
 use Rattle.spv_commands.specs.Output.{is_done, made_of, out_of, status_of, written_err, written_made, written_out}
 use Rattle.spv_commands.specs.Show.{IsShowing, Shows}
-use Rattle.spv_commands.specs.Task.{IsAmbiguous, IsNoText, LacksAsked, LacksEntry, WritesRules, detail_of}
+use Rattle.spv_commands.specs.Task.{ReadsGrammar, IsAmbiguous, IsNoText, LacksAsked, LacksEntry, WritesRules, detail_of}
 use Rattle.spv_commands.specs.Task.{view_of}
 use Rattle.spv_scope.specs.Scope.{reach_of, taken}
 use Rattle.spv_scope.proofs.Lengths.{length_with_minor, long_taken}
@@ -293,13 +293,19 @@ pub failed_assembles : (G : Table) (o : Order) (explain opencl : Bool) (text wri
 failed_assembles G o explain opencl text written out e h = Assembles.failed written h e refl
 
 -- a grammar file that is refused
-pub grammar_refused : (command : Command) (text file : Option (List ℕ)) (e : GrammarError) → (e ≢ J8 → breaks text e)
-    → IsRefusal command text file (grammar_text e)
-grammar_refused command text file J8 h = memory
-grammar_refused command text file J1 h = grammar J1 (h (λ q. cc))
-grammar_refused command text file J2 h = grammar J2 (h (λ q. cc))
-grammar_refused command text file J3 h = grammar J3 (h (λ q. cc))
-grammar_refused command text file J4 h = grammar J4 (h (λ q. cc))
-grammar_refused command text file J5 h = grammar J5 (h (λ q. cc))
-grammar_refused command text file J6 h = grammar J6 (h (λ q. cc))
-grammar_refused command text file J7 h = grammar J7 (h (λ q. cc))
+pub grammar_refused : (command : Command) (text file : Option (List ℕ)) (e : GrammarError)
+    → ReadsGrammar command → (e ≢ J8 → breaks text e) → IsRefusal command text file (grammar_text e)
+grammar_refused command text file J8 reads h = memory
+grammar_refused command text file J1 reads h = grammar J1 reads (h (λ q. cc))
+grammar_refused command text file J2 reads h = grammar J2 reads (h (λ q. cc))
+grammar_refused command text file J3 reads h = grammar J3 reads (h (λ q. cc))
+grammar_refused command text file J4 reads h = grammar J4 reads (h (λ q. cc))
+grammar_refused command text file J5 reads h = grammar J5 reads (h (λ q. cc))
+grammar_refused command text file J6 reads h = grammar J6 reads (h (λ q. cc))
+grammar_refused command text file J7 reads h = grammar J7 reads (h (λ q. cc))
+
+-- every command but `rules` reads a grammar
+pub reads_grammar : (command : Command) → ((code : Option AnyCode) (json : Bool) → ¬ (command ≡ Rules code json))
+    → ReadsGrammar command
+reads_grammar (Rules code json) h = h code json refl
+reads_grammar command h = tt

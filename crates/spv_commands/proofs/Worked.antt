@@ -1,14 +1,15 @@
 -- Worked examples of grammar files.
 use Rattle.std.proofs.Common.{◌∷◌, ◌+◌, ◌<◌, ℕ, List, Option, false, true, ap, arith, get_or, length, length-append}
-use Rattle.std.proofs.Common.{◌≡◌, ◌++◌, [], Some, None, IsUtf8, codes, refl, sym}
+use Rattle.std.proofs.Common.{◌≡◌, ◌++◌, [], Bool, Some, None, IsUtf8, codes, refl, sym}
 use Rattle.std.specs.Borrow.{Bor}
 use Rattle.spv_words.specs.Header.{IsFirstBroken}
 use Rattle.spv_words.specs.declared.words.WordError.TheVariants.{W2}
 use Rattle.spv_command_line.specs.declared.command_line.Command.{Command}
-use Rattle.spv_command_line.specs.declared.command_line.Command.TheVariants.{Show}
+use Rattle.spv_command_line.specs.declared.command_line.Command.TheVariants.{Rules, Show}
 use Rattle.spv_scope.specs.declared.scope.Scope.TheVariants.{Own}
 use Rattle.spv_commands.specs.Answer.{Answers, IsRefusal}
 use Rattle.spv_commands.specs.Show.{IsShowing}
+use Rattle.spv_commands.specs.Task.{ReadsGrammar}
 use Rattle.spv_commands.specs.Trouble.{file_line}
 use Rattle.spv_check.specs.Verdict.{refused_line}
 use Rattle.spv_table.specs.Table.{Table}
@@ -73,9 +74,9 @@ no_third command text file out made err status e (Answers.told w m r s) = omega 
 no_third command text file out made err status e (Answers.refused i o m s) = omega (arith, e, s)
 
 -- no text at all breaks J1, and it is that which is told
-pub nothing_refuses : (command : Command) (file : Option (List ℕ))
+pub nothing_refuses : (command : Command) (file : Option (List ℕ)) → ReadsGrammar command
     → IsRefusal command (Some []) file (codes "error J1" ++ line_end)
-nothing_refuses command file = IsRefusal.grammar J1 (λ _. nothing_read)
+nothing_refuses command file reads = IsRefusal.grammar J1 reads (λ _. nothing_read)
 
 abbrev letter : List ℕ → ℕ
 letter xs = get_or xs 6 0
@@ -85,17 +86,28 @@ differ a b h e = omega (arith, h, e)
 
 pub never_unread : (command : Command) (file : Option (List ℕ)) (line : List ℕ) → line ≡ file_line
     → ¬ (IsRefusal command (Some []) file line)
-never_unread command file _ q (IsRefusal.grammar J1 b) = differ 74 102 (omega arith) (ap letter q)
-never_unread command file _ q (IsRefusal.grammar J2 b) = differ 74 102 (omega arith) (ap letter q)
-never_unread command file _ q (IsRefusal.grammar J3 b) = differ 74 102 (omega arith) (ap letter q)
-never_unread command file _ q (IsRefusal.grammar J4 b) = differ 74 102 (omega arith) (ap letter q)
-never_unread command file _ q (IsRefusal.grammar J5 b) = differ 74 102 (omega arith) (ap letter q)
-never_unread command file _ q (IsRefusal.grammar J6 b) = differ 74 102 (omega arith) (ap letter q)
-never_unread command file _ q (IsRefusal.grammar J7 b) = differ 74 102 (omega arith) (ap letter q)
-never_unread command file _ q (IsRefusal.grammar J8 b) = differ 102 109 (omega arith) (sym (ap letter q))
+never_unread command file _ q (IsRefusal.grammar J1 reads b) = differ 74 102 (omega arith) (ap letter q)
+never_unread command file _ q (IsRefusal.grammar J2 reads b) = differ 74 102 (omega arith) (ap letter q)
+never_unread command file _ q (IsRefusal.grammar J3 reads b) = differ 74 102 (omega arith) (ap letter q)
+never_unread command file _ q (IsRefusal.grammar J4 reads b) = differ 74 102 (omega arith) (ap letter q)
+never_unread command file _ q (IsRefusal.grammar J5 reads b) = differ 74 102 (omega arith) (ap letter q)
+never_unread command file _ q (IsRefusal.grammar J6 reads b) = differ 74 102 (omega arith) (ap letter q)
+never_unread command file _ q (IsRefusal.grammar J7 reads b) = differ 74 102 (omega arith) (ap letter q)
+never_unread command file _ q (IsRefusal.grammar J8 reads b) = differ 102 109 (omega arith) (sym (ap letter q))
 never_unread command file _ q (IsRefusal.unread G t f) = nothing_given G t
 never_unread command file _ q (IsRefusal.no_text G bytes t f n) = nothing_given G t
 never_unread command file _ q (IsRefusal.no_entry bytes f n) = nothing_given n.table n.given
 never_unread command file _ q (IsRefusal.no_function bytes f n) = nothing_given n.table n.given
 never_unread command file _ q (IsRefusal.several bytes f n) = nothing_given n.table n.given
 never_unread command file _ q IsRefusal.memory = differ 102 109 (omega arith) (sym (ap letter q))
+
+-- `rules` reads no grammar, so it is not refused for one
+pub rules_unrefused : (code : Option AnyCode) (json : Bool) (file : Option (List ℕ)) (line : List ℕ)
+    → line ≡ codes "error J1" ++ line_end → ¬ (IsRefusal (Rules code json) (Some []) file line)
+rules_unrefused code json file _ q (IsRefusal.grammar e reads b) = absurd reads
+rules_unrefused code json file _ q (IsRefusal.unread G t f) = nothing_given G t
+rules_unrefused code json file _ q (IsRefusal.no_text G bytes t f n) = nothing_given G t
+rules_unrefused code json file _ q (IsRefusal.no_entry bytes f n) = nothing_given n.table n.given
+rules_unrefused code json file _ q (IsRefusal.no_function bytes f n) = nothing_given n.table n.given
+rules_unrefused code json file _ q (IsRefusal.several bytes f n) = nothing_given n.table n.given
+rules_unrefused code json file _ q IsRefusal.memory = differ 74 109 (omega arith) (sym (ap letter q))

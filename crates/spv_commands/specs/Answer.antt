@@ -6,14 +6,15 @@ use Rattle.spv_builtin.specs.Source.{IsTableOf, breaks}
 use Rattle.spv_grammar.specs.declared.error.GrammarError.{GrammarError}
 use Rattle.spv_command_line.specs.declared.command_line.Command.{Command}
 use Rattle.spv_commands.specs.Task.{DoesByText, IsAmbiguousByText, IsNoText, LacksAskedByText, LacksEntryByText}
-use Rattle.spv_commands.specs.Task.{MakesNothing, WritesRulesOf}
+use Rattle.spv_commands.specs.Task.{MakesNothing, ReadsGrammar, WritesRulesOf}
 use Rattle.spv_commands.specs.Trouble.{entry_line, file_line, function_line, grammar_text, memory_line, use_line}
 
 -- Why a command ends with an error, and the line that tells it, with a grammar file of this text or without one. FILE
 -- has these bytes, or none where it could not be read. No clause can tell when memory is refused, so the last stands
 -- for itself.
 pub data IsRefusal (command : Command) (text file : Option (List ℕ)) : List ℕ → Type 0 where
-  grammar : (e : GrammarError) → breaks text e → IsRefusal command text file (grammar_text e)
+  grammar : (e : GrammarError) → ReadsGrammar command → breaks text e
+      → IsRefusal command text file (grammar_text e)
   unread : (G : Table) → IsTableOf text G → file ≡ None → IsRefusal command text file file_line
   no_text : (G : Table) (bytes : List ℕ) → IsTableOf text G → file ≡ Some bytes → IsNoText command (Some bytes)
       → IsRefusal command text file file_line

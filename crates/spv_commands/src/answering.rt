@@ -4,6 +4,7 @@ ghost use Rattle.spv_builtin.specs.Source.{IsTableOf};
 ghost use Rattle.spv_command_line.specs.declared.command_line.Command.{Command};
 ghost use Rattle.spv_commands.specs.Answer.{Answers, IsRefusal};
 ghost use Rattle.spv_commands.specs.Output.{bytes_in, status_of, written_err, written_made, written_out};
+ghost use Rattle.spv_commands.specs.Task.{ReadsGrammar};
 ghost use Rattle.spv_commands.specs.Trouble.{grammar_text, trouble_text};
 
 use crate::replying::{Reply, reply_to, ruled};
@@ -49,7 +50,7 @@ fn grammar_trouble(error: GrammarError) -> Trouble
 /// `Grammar`: the text is refused. `Memory`: a growth of memory was refused. There is no other.
 pub fn table_in(alloc: Global, grammar: Option<&[u8]>) -> Result<Table, Trouble>
     ensures table { IfOk result (IsTableOf (option_map (λ g. g.now) grammar.entry)) }
-    ensures refused { (command : Command) (file : Option (List ℕ)) → IfErr result
+    ensures refused { (command : Command) (file : Option (List ℕ)) → ReadsGrammar command → IfErr result
         (λ t. IsRefusal command (option_map (λ g. g.now) grammar.entry) file (trouble_text t)) }
 {
     match table_of(alloc, grammar) {

@@ -21,7 +21,7 @@ ghost use Rattle.spv_scope.specs.declared.scope.Scope.TheVariants.{Own};
 ghost use Rattle.spv_names.specs.declared.chosen.Chosen.{Chosen};
 ghost use Rattle.spv_commands.specs.Trace.{BeginsTracing, HasNoEntry, HasSeveral, Traces, step_line, trace_text};
 ghost use Rattle.spv_run.specs.declared.parts.Ending.TheVariants.{Finished, Limit};
-ghost use Rattle.spv_commands.specs.Task.{DoesByText, MakesNothing, ReadsNoFile};
+ghost use Rattle.spv_commands.specs.Task.{DoesByText, MakesNothing, ReadsGrammar, ReadsNoFile};
 ghost use Rattle.spv_commands.specs.Task.{AreRules, WritesGrammar};
 ghost use Rattle.spv_rules.specs.declared.errors.AnyCode.{AnyCode};
 ghost use Rattle.spv_rules.specs.declared.errors.AnyCode.TheVariants.{Error};
@@ -36,7 +36,7 @@ ghost use Rattle.spv_commands.specs.declared.judging.Telling.TheVariants.{Bare, 
 ghost use Rattle.spv_lines.specs.Digits.{hex_digit};
 ghost use Rattle.spv_commands.specs.Name.{label, shown_byte};
 ghost use Rattle.spv_command_line.specs.declared.command_line.Command.{Command};
-ghost use Rattle.spv_command_line.specs.declared.command_line.Command.TheVariants.{Show};
+ghost use Rattle.spv_command_line.specs.declared.command_line.Command.TheVariants.{Rules, Show};
 ghost use Rattle.std.specs.Borrow.{Bor};
 ghost use Rattle.spv_commands.specs.declared.judging.Judging.{Judging};
 ghost use Rattle.spv_check.specs.Verdict.{line_end};
@@ -254,8 +254,10 @@ pub fn answer_examples()
     ensures not_answered { (command : Command) (text file : Option (List ℕ)) (out made err : List ℕ)
         → ¬ (Answers command text file out made err 3) }
     // A grammar file without a text is refused by J1, and FILE is not told then.
-    ensures refusal { (command : Command) (file : Option (List ℕ))
+    ensures refusal { (command : Command) (file : Option (List ℕ)) → ReadsGrammar command
         → IsRefusal command (Some []) file (codes "error J1" ++ line_end) }
+    ensures rules_unrefused { (code : Option AnyCode) (json : Bool) (file : Option (List ℕ))
+        → ¬ (IsRefusal (Rules code json) (Some []) file (codes "error J1" ++ line_end)) }
     ensures no_refusal { (command : Command) (file : Option (List ℕ)) → ¬ (IsRefusal command (Some []) file file_line) }
     // What a file that was not read is told as, in an object and by a line.
     ensures unread { unread_of trouble.File ≡ unread.File }

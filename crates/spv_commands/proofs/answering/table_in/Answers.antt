@@ -3,5 +3,5 @@ use Rattle.spv_commands.proofs.answering.table_in.Goals as goal
 
 pub returns-in-Err-clause-refused : goal.returns-in-Err-clause-refused
 returns-in-Err-clause-refused c =
-    λ command file. rw c.grammar_trouble.ensures
-    (grammar_refused command _ file c.in-Err.error c.in-Err.ensures.refused)
+    λ command file reads. rw c.grammar_trouble.ensures
+    (grammar_refused command _ file c.in-Err.error reads c.in-Err.ensures.refused)

@@ -1,6 +1,6 @@
 use Rattle.std.proofs.Common.{refl}
 use Rattle.spv_table.specs.Example.{empty_table}
-use Rattle.spv_commands.proofs.Worked.{empty_given, never_unread, no_third, nothing_refuses, show_answers}
+use Rattle.spv_commands.proofs.Worked.{empty_given, never_unread, no_third, nothing_refuses, rules_unrefused, show_answers}
 use Rattle.spv_commands.proofs.laws.answer_examples.Goals as goal
 
 pub returns-clause-answers : goal.returns-clause-answers
@@ -15,3 +15,6 @@ returns-clause-refusal c = nothing_refuses
 
 pub returns-clause-no_refusal : goal.returns-clause-no_refusal
 returns-clause-no_refusal c = λ command file. never_unread command file _ refl
+
+pub returns-clause-rules_unrefused : goal.returns-clause-rules_unrefused
+returns-clause-rules_unrefused c = λ code json file. rules_unrefused code json file _ refl
