@@ -3,7 +3,7 @@
  *     spvk_grammar grammar = SPVK_GRAMMAR_NONE;
  *     spvk_verdict verdict;
  *     if (spvk_grammar_default(&grammar) == SPVK_OK) {
- *         if (spvk_check_with(&grammar, bytes, len, SPVK_EXTENDED, &verdict) == SPVK_OK
+ *         if (spvk_check_with(&grammar, bytes, len, SPVK_OPENCL, &verdict) == SPVK_OK
  *             && verdict.code == SPVK_VALID) { .. }
  *         spvk_grammar_delete(&grammar);
  *     }

@@ -189,7 +189,7 @@ def strangers_looked_at(_program, _folder):
     text = SECURITY.read_text(encoding="utf-8")
     lines = [line for _, part in sections_of(text) for it in blocks_of(part) for line in it.text.splitlines()]
     found = [line for line in lines if re.search(r"/spv check\b", line)]
-    wrong = [line for line in found if "spv check --extended " not in line]
+    wrong = [line for line in found if "spv check --opencl " not in line]
     return f"  {wrong}, of {len(found)}" if wrong or len(found) < 2 else None
 
 

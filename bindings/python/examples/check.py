@@ -1,4 +1,4 @@
-"""Says of each module whether it is valid, extended instructions looked at too.
+"""Says of each module whether it is valid, as what compilers make of OpenCL C; extended instructions are looked at too.
 
 usage: python3 check.py [--grammar GRAMMAR] FILE..
 
@@ -15,7 +15,7 @@ import spvk
 
 def check(grammar: spvk.Grammar, name: str) -> spvk.Verdict:
     """Prints the verdict on a file, and answers it."""
-    verdict = grammar.check(Path(name).read_bytes(), extended=True)
+    verdict = grammar.check(Path(name).read_bytes(), opencl=True)
     print(f"{name}: {verdict}" if verdict else f"{name}: {verdict}: {verdict.sentence}")
     return verdict
 

@@ -1,6 +1,6 @@
 """Says of each module what shows that it is not valid: the rule, the instruction, and what it names.
 
-Extended instructions are looked at too.
+It is judged as what compilers make of OpenCL C; extended instructions are looked at too.
 
 usage: python3 explain.py FILE..
 
@@ -31,7 +31,7 @@ def lines_of(found: spvk.Evidence) -> Iterator[str]:
 
 def explain(grammar: spvk.Grammar, name: str) -> bool:
     """Prints what there is to say of a file, and answers whether it is valid."""
-    found = grammar.evidence(Path(name).read_bytes(), extended=True)
+    found = grammar.evidence(Path(name).read_bytes(), opencl=True)
     if found:
         print(f"{name}: valid")
     for number, line in enumerate(() if found else lines_of(found)):

@@ -1,4 +1,5 @@
-//! Says of each module whether it is valid, extended instructions looked at too: `check [--grammar GRAMMAR] FILE..`.
+//! Says of each module whether it is valid, as what compilers make of OpenCL C: `check [--grammar GRAMMAR] FILE..`.
+//! Extended instructions are looked at too.
 //! Exit status 0 if all are, 1 if one is not, 2 for an error.
 
 use spvk::{Grammar, Verdict, Version};
@@ -34,7 +35,7 @@ fn check_all(words: &[&str]) -> Result<bool, Box<dyn Error>> {
     };
     let mut are_valid = true;
     for file in files {
-        let verdict = grammar.check_with(&read(file)?, Version::AsTold.extended())?;
+        let verdict = grammar.check_with(&read(file)?, Version::OpenCl)?;
         println!("{file}: {}", line(verdict));
         are_valid &= verdict.is_valid();
     }
