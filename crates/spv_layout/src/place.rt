@@ -1,15 +1,13 @@
-ghost use Rattle.std.specs.Prelude.{◌≡◌, ◌+◌, ◌<◌, ◌≤◌, true, length, None, IfErr, OnOk};
-ghost use Rattle.std.specs.Vec.{vec_len, vec_capacity};
+ghost use Rattle.std.specs.Prelude.{◌≡◌, ◌+◌, ◌≤◌, true, length};
 ghost use Rattle.spv_layout.specs.inner.Single.{IsFront};
 ghost use Rattle.spv_words.specs.Header.{greatest_length};
 ghost use Rattle.spv_module.specs.Module.{plain_inst, plain_operand};
-ghost use Rattle.spv_module.specs.declared.fault.Stop.TheVariants.{Memory};
 ghost use Rattle.spv_layout.specs.Place as specs;
-ghost use Rattle.spv_layout.specs.inner.Kept.{early_with, late_with, count_with, early_place, late_place};
+ghost use Rattle.spv_layout.specs.inner.Kept.{early_place, late_place};
 
 use crate::form::Row;
-use crate::span::{Spans, number};
-use spv_module::{Inst, Operand, Stop};
+use crate::span::number;
+use spv_module::{Inst, Operand};
 
 /// Where an instruction stands.
 #[derive(Clone, Copy, Debug, PartialEq, Eq)]
@@ -73,34 +71,6 @@ impl Standing {
             word: self.word,
         }
     }
-}
-
-/// Keeps an instruction with its first word. `section` is that of its class, if it is one of sections 1 to 8; for one
-/// of the others there is room.
-#[inline(always)]
-pub fn keep(
-    early: &mut Vec<Early>,
-    late: &mut Vec<Standing>,
-    section: Option<u8>,
-    spans: Spans,
-    word: u32,
-) -> Result<(), Stop>
-    requires { section ≡ None → vec_len late.old < vec_capacity late.old }
-    ensures early { OnOk result (early.new.items ≡ early_with section word early.old.items) }
-    ensures late { OnOk result (late.new.items ≡ late_with section spans word late.old.items) }
-    ensures len { OnOk result (vec_len late.new ≡ count_with section (vec_len late.old)) }
-    ensures capacity { vec_capacity late.new ≡ vec_capacity late.old }
-    ensures memory { IfErr result (λ e. e ≡ Memory) }
-{
-    match section {
-        Some(section) => early.push(Early { section, word })?,
-        None => late.push_reserved(Standing {
-            function: spans.function,
-            block: spans.block,
-            word,
-        }),
-    }
-    Ok(())
 }
 
 /// How many words an operand takes.

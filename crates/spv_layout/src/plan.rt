@@ -12,13 +12,13 @@ ghost use Rattle.spv_layout.specs.DeadPlace.{IsDeadPlace};
 ghost use Rattle.spv_layout.specs.Profile.{FitsProfile};
 ghost use Rattle.spv_layout.specs.Place.{AreFew, IsAt, IsShort, first_word_of};
 ghost use Rattle.spv_layout.specs.declared.class.Class.TheVariants.{Function};
-ghost use Rattle.spv_layout.specs.inner.Kept.{AreSectioned};
+ghost use Rattle.spv_layout.specs.inner.Kept.{AreSectioned, IsUnsectioned};
 ghost use Rattle.spv_layout.specs.inner.Outcome.{ArePlacesOf, IsStopAt};
 ghost use Rattle.spv_layout.specs.Plan.{IsPlan, IsLaidOut, IsRefusal};
 
 use crate::fitting::fitting;
 use crate::kinds::Kinds;
-use crate::place::{Early, Place, Standing, inst_words, keep, words_of};
+use crate::place::{Early, Place, Standing, inst_words, words_of};
 use crate::rows::row;
 use crate::span::Spans;
 use crate::state::{State, next_seen, stops};
@@ -173,6 +173,7 @@ fn refused(
 fn count_early(insts: &[Inst<'_>]) -> usize
     ensures within { result ≤ length insts.now }
     ensures early { AreSectioned (map plain_inst insts.now) result }
+    ensures late { IsUnsectioned (map plain_inst insts.now) result }
 {
     for (i, inst) in insts.iter().enumerate() {
         let Some(row) = row(inst.opcode) else {
@@ -202,9 +203,9 @@ fn plan_of(
     let mut early = Vec::with_capacity(alloc, count)?;
     let mut late = Vec::with_capacity(alloc, insts.len() - count)?;
     let mut state = State::Capabilities;
-    let mut spans = Spans::new();
     let mut word = 5;
-    for (i, inst) in insts.iter().enumerate() {
+    for i in 0..count {
+        let inst = &insts[i];
         let Some(row) = fitting(profile, kinds, inst) else {
             return Err(fault(Rule::P1, i, word));
         };
@@ -212,8 +213,27 @@ fn plan_of(
             return Err(refused(profile, kinds, insts, Rule::L1, i, word));
         };
         state = after;
-        spans.enter(row.class, i as u32);
-        keep(&mut early, &mut late, row.section, spans, word)?;
+        if let Some(section) = row.section {
+            early.push_reserved(Early { section, word });
+        }
+        word += words_of(inst, row);
+    }
+    let mut spans = Spans::new();
+    for at in count..insts.len() {
+        let inst = &insts[at];
+        let Some(row) = fitting(profile, kinds, inst) else {
+            return Err(fault(Rule::P1, at, word));
+        };
+        let Some(after) = next_seen(profile, state, row.class) else {
+            return Err(refused(profile, kinds, insts, Rule::L1, at, word));
+        };
+        state = after;
+        spans.enter(row.class, at as u32);
+        late.push_reserved(Standing {
+            function: spans.function,
+            block: spans.block,
+            word,
+        });
         spans.leave(row.class);
         word += words_of(inst, row);
     }

@@ -39,7 +39,7 @@ use Rattle.spv_ops.specs.inner.Common.{Combines, Loads, Stores, IsCondition}
 use Rattle.spv_ops.specs.inner.Chain.{Chains, ChainsByElement}
 use Rattle.spv_ops.specs.inner.Composite.{Constructs}
 use Rattle.spv_ops.specs.inner.Declares.{DeclaresVariable}
-use Rattle.spv_ops.specs.inner.Wide.{AreSame, IsWide, binary_of, is_counted}
+use Rattle.spv_ops.specs.inner.Wide.{AreSame, IsWide, IsWidePlace, binary_of, is_counted}
 use Rattle.spv_ops.proofs.Rows.{asks_first, places_first, many_first, pairs_first, initializers_first}
 use Rattle.spv_ops.proofs.Rows.{enqueued_first}
 use Rattle.spv_ops.proofs.Enqueued.{enqueue_line, enqueue_holds, holds_enqueue}
@@ -298,14 +298,6 @@ construct_first = refl
 enqueue_first : asks_of opcode.ENQUEUE_KERNEL ≡ enqueue_line
 unfolding lines
 enqueue_first = refl
-
--- a place of values of any number
-abbrev pub IsWidePlace : Places → Type 0
-IsWidePlace places.Many = Unit {0}
-IsWidePlace places.Pairs = Unit {0}
-IsWidePlace places.Initializers = Unit {0}
-IsWidePlace places.Enqueued = Unit {0}
-IsWidePlace p = ⊥
 
 pub wide_place : (p : Places)
     → (p ≡ places.Many) ⊎ (p ≡ places.Pairs) ⊎ (p ≡ places.Initializers) ⊎ (p ≡ places.Enqueued) → IsWidePlace p

@@ -4,11 +4,10 @@ ghost use Rattle.std.specs.Prelude.{◌≡◌, ◌↔◌, ◌∷◌, [], IsTrue,
 ghost use Rattle.spv_module.specs.Module.{plain_operands};
 ghost use Rattle.spv_ops.specs.inner.Common as spec;
 ghost use Rattle.spv_ops.specs.inner.Common.{Combines, IsCondition, Loads, Stores};
-ghost use Rattle.spv_type_forms.specs.Types.{PointsTo};
 ghost use Rattle.spv_type_forms.specs.Values.{types_of};
 
 use spv_module::Operand;
-use spv_type_forms::{Definitions, Form, Scalar, Sort, has_sort, is_data, is_typed};
+use spv_type_forms::{Definitions, Sort, has_sort, is_bool, is_data, is_typed, points_to};
 
 /// Ids that a binary operation names.
 #[derive(Clone, Copy)]
@@ -106,17 +105,6 @@ pub fn binary_holds(definitions: &Definitions, sort: Sort, r: u32, a: u32, b: u3
     is_typed(definitions, r, a) && is_typed(definitions, r, b) && has_sort(definitions, sort, r)
 }
 
-/// Whether a type is a pointer to another.
-#[inline(always)]
-fn points_to(definitions: &Definitions, t: u32, to: u32) -> bool
-    ensures { IsTrue result ↔ PointsTo definitions.now t to }
-{
-    match definitions.read_form(t) {
-        Some(Form::Pointer { pointee, .. }) => pointee == to,
-        _ => false,
-    }
-}
-
 /// Whether what OpLoad asks holds of the result type and the declared type of the pointer.
 #[inline(always)]
 pub fn load_holds(definitions: &Definitions, r: u32, p: u32) -> bool
@@ -147,10 +135,7 @@ pub fn stands_for_bool(definitions: &Definitions, x: u32) -> bool
     ensures { IsTrue result ↔ IsSomeAnd (types_of definitions.now (x ∷ [])) (IsCondition definitions.now) }
 {
     match definitions.type_of(x) {
-        Some(t) => match definitions.read_form(t) {
-            Some(Form::Scalar(Scalar::Bool)) => true,
-            _ => false,
-        },
+        Some(t) => is_bool(definitions, t),
         None => false,
     }
 }

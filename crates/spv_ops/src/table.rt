@@ -368,6 +368,16 @@ macro_rules! entries {
     };
 }
 
+/// The first opcode of each line.
+macro_rules! firsts {
+    (() $({ $(
+        $first:ident $(to $last:ident)? $(, $more:ident $(to $end:ident)?)* $(by $places:ident $($place:ident)?)?:
+            $([$($ask:tt)+])+;
+    )+ })+) => {
+        [$($(opcode::$first),+),+]
+    };
+}
+
 /// The table as definitions read it, and its two further parts.
 pub static TABLE: [Line; 46] = table!(lines);
 
@@ -381,6 +391,9 @@ static ENTRIES: [Entry; 46] = table!(entries);
 static FURTHER_ENTRIES: [Entry; 35] = further!(entries);
 
 static OBJECT_ENTRIES: [Entry; 49] = objects!(entries);
+
+/// The first opcode of each line of the first part.
+static FIRSTS: [u16; 46] = table!(firsts);
 
 /// For each opcode up to 403, and then for 4450 to 4455, 5632 and 5633, the number of its line, from 0, or 255 where it
 /// has none. Written by `tests/rows-of-opcodes`.
@@ -522,6 +535,18 @@ pub fn look_up(opcode: u16) -> Found
     ensures places { result.places ≡ spec.places_of opcode }
 {
     found_at(number_of(opcode))
+}
+
+/// The first opcode of the line of an opcode, or 0.
+#[inline(always)]
+pub fn first_opcode(opcode: u16) -> u16
+    ensures { result ≡ first_of opcode }
+{
+    let number = number_of(opcode);
+    match FIRSTS.get(number) {
+        Some(first) => *first,
+        None => found_at(number).first,
+    }
 }
 
 /// What the line of a number asks.

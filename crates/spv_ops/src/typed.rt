@@ -6,7 +6,7 @@ ghost use Rattle.spv_type_forms.specs.Types.{IsData};
 ghost use Rattle.spv_type_forms.specs.Values.{types_of, paired_ids_in};
 ghost use Rattle.spv_ops.specs.inner.Table.{first_of};
 ghost use Rattle.spv_ops.specs.inner.Typed.{IsTypedBy, IsTypedIn};
-ghost use Rattle.spv_ops.specs.inner.Wide.{AreSame, IsWide, binary_of, is_counted};
+ghost use Rattle.spv_ops.specs.inner.Wide.{IsWidePlace, AreSame, IsWide, binary_of, is_counted};
 ghost use Rattle.spv_ops.specs.declared.table.Places.TheVariants.{Around, Beside, Ids, One};
 ghost use Rattle.spv_ops.specs.Table.{asks_of, places_of};
 
@@ -18,7 +18,7 @@ use crate::common::{
 };
 use crate::construct::constructs;
 use crate::enqueue::enqueues;
-use crate::table::{Found, Places, line_holds, look_up};
+use crate::table::{Found, Places, first_opcode, line_holds, look_up};
 use crate::variable::variable_holds;
 use spv_conditions::{is_in_block, may_stand};
 use spv_module::{Inst, Operand, opcode};
@@ -151,6 +151,21 @@ fn wide_holds(
     }
 }
 
+/// Whether what an instruction's opcode asks that takes any number of values holds, by the first opcode of its line.
+#[inline(always)]
+fn wide_row_holds(definitions: &Definitions, number: u32, inst: &Inst, first: u16) -> bool
+    requires number { number < length definitions.now }
+    requires first { first ≡ first_of (plain_inst inst.now).opcode }
+    requires wide { IsWidePlace (places_of (plain_inst inst.now).opcode) }
+    ensures { IsTrue result ↔ IsTypedIn definitions.now number (plain_inst inst.now) }
+{
+    let operands = inst.operands.as_slice();
+    match result_type(operands) {
+        Some(r) => wide_holds(definitions, number, first, r, after_head(operands)),
+        None => false,
+    }
+}
+
 /// Whether what an instruction's opcode asks, if anything, holds of its result type, the types that its value operands
 /// are declared with, and its literals, by what the table tells of the opcode.
 #[inline(always)]
@@ -172,10 +187,9 @@ fn found_holds(definitions: &Definitions, number: u32, inst: &Inst, found: Found
             beside_holds(definitions, number, inst, found.first, r, rest, skip)
         }
         Places::One => one_holds(definitions, number, inst, found.first, r, rest),
-        Places::Many | Places::Pairs | Places::Initializers | Places::Enqueued => match r {
-            Some(r) => wide_holds(definitions, number, found.first, r, rest),
-            None => false,
-        },
+        Places::Many | Places::Pairs | Places::Initializers | Places::Enqueued => {
+            wide_row_holds(definitions, number, inst, found.first)
+        }
     }
 }
 
@@ -266,7 +280,7 @@ pub fn inst_holds(definitions: &Definitions, number: u32, inst: &Inst) -> bool
     requires { number < length definitions.now }
     ensures { IsTrue result ↔ IsTypedIn definitions.now number (plain_inst inst.now) }
 {
-    match look_up(inst.opcode).first {
+    match first_opcode(inst.opcode) {
         opcode::I_ADD => binary_row_holds(definitions, number, inst, Sort::Int),
         opcode::F_ADD => binary_row_holds(definitions, number, inst, Sort::Float),
         opcode::LOGICAL_EQUAL => binary_row_holds(definitions, number, inst, Sort::Bool),
@@ -274,6 +288,11 @@ pub fn inst_holds(definitions: &Definitions, number: u32, inst: &Inst) -> bool
         opcode::STORE => store_row_holds(definitions, number, inst),
         opcode::BRANCH_CONDITIONAL => branch_row_holds(definitions, number, inst),
         opcode::EXT_INST => extended_row_holds(definitions, number, inst),
+        opcode::VARIABLE => wide_row_holds(definitions, number, inst, opcode::VARIABLE),
+        opcode::ACCESS_CHAIN => wide_row_holds(definitions, number, inst, opcode::ACCESS_CHAIN),
+        opcode::PTR_ACCESS_CHAIN => {
+            wide_row_holds(definitions, number, inst, opcode::PTR_ACCESS_CHAIN)
+        }
         _ => row_holds(definitions, number, inst),
     }
 }

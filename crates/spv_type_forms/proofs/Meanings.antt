@@ -13,10 +13,17 @@ use Rattle.spv_module.specs.Width.{definition_of, type_of}
 use Rattle.spv_ids.specs.Definition.{IsDefinedAt}
 use Rattle.spv_ids.specs.Outcome.{IsDefinitionOf}
 use Rattle.spv_type_forms.specs.declared.form.Form.{Form}
-use Rattle.spv_type_forms.specs.Form.{form_in}
+use Rattle.spv_type_forms.specs.declared.form.Form.TheVariants as form
+use Rattle.spv_type_forms.specs.declared.form.Scalar.TheVariants as scalar
+use Rattle.spv_type_forms.specs.declared.form.Sort.{Sort}
+use Rattle.spv_type_forms.specs.declared.form.Sort.TheVariants as sort
+use Rattle.spv_type_forms.specs.Form.{form_in, form_of}
+use Rattle.spv_type_forms.specs.Types.{IsBool, IsData, IsDataForm, HasSort, pointee_in}
+use Rattle.spv_type_forms.specs.inner.Tests.{is_int_form}
 use Rattle.spv_type_forms.specs.declared.meaning.Meaning.{Meaning}
 use Rattle.spv_type_forms.specs.declared.meaning.Meaning.TheVariants as meaning
 use Rattle.spv_type_forms.specs.inner.Meaning.{type_meant, typed_by, IsMeaningOf, IsValueOf, IsSaid, IsMeant, AreMeant}
+use Rattle.spv_type_forms.specs.inner.Meaning.{is_int, is_bool, is_data, is_of_sort, pointee_meant}
 use Rattle.spv_type_forms.proofs.Lookups.{finds}
 
 -- an instruction is the definition of its result
@@ -34,6 +41,7 @@ said_form i f m d s = record {
   typed = λ t e. absurd (none-some t (sym s.0 ∙ e));
   of_form = λ g e. d ∙ ap Some (sym (let same : g ≡ f = rw e at s.1 in same));
   declares = λ e. rw d refl;
+  other = λ g e. let same : f ≡ g = cc in rw (← same) s.2;
 }
 
 said_typed_by : (i : PlainInst) (t : ℕ) (b : Bool) → nat_eq i.opcode opcode.FUNCTION ≡ b → type_in i.operands ≡ Some t
@@ -43,6 +51,7 @@ said_typed_by i t true e d =
       typed = λ u n. absurd (none-some u n);
       of_form = λ g n. absurd (none-some g n);
       declares = λ n. absurd (let no : false ≡ true = n in cc);
+      other = λ g n. tt;
     }
 said_typed_by i t false e d = record {
   typed = λ u s. (
@@ -52,6 +61,7 @@ said_typed_by i t false e d = record {
   );
   of_form = λ g n. absurd (none-some g n);
   declares = λ n. absurd (let no : false ≡ true = n in cc);
+  other = λ g n. tt;
 }
 
 pub said_typed : (i : PlainInst) (t : ℕ) → type_in i.operands ≡ Some t → IsSaid i (typed_by i.opcode t)
@@ -64,6 +74,7 @@ said_means is x i m d s = record {
   typed = λ t e. rw d (s.typed t e);
   of_form = λ f e. rw d (s.of_form f e);
   declares = λ e. rw d (s.declares e);
+  other = λ f e. s.other f (rw d at e);
 }
 
 -- and so what is read of it
@@ -91,7 +102,59 @@ unknown_meant is x = record {
   typed = λ t e. absurd (none-some t e);
   of_form = λ f e. absurd (none-some f e);
   declares = λ e. absurd (let no : false ≡ true = e in cc);
+  other = λ f e. tt;
 }
+
+-- what is noted of a type is what it is
+pub int_meant : (is : List PlainInst) (x : ℕ) (m : Meaning) → IsMeant is x m → is_int m ≡ true
+    → is_int_form (form_of is x) ≡ true
+int_meant is x (meaning.Int w) h e = rw (h.of_form (form.Scalar (scalar.Int w)) refl) refl
+int_meant is x _ h e = cc
+
+pub bool_meant : (is : List PlainInst) (x : ℕ) (m : Meaning) → IsMeant is x m → is_bool m ≡ true → IsBool is x
+bool_meant is x meaning.Bool h e = h.of_form (form.Scalar scalar.Bool) refl
+bool_meant is x _ h e = cc
+
+pub sort_meant : (is : List PlainInst) (x : ℕ) (s : Sort) (m : Meaning) → IsMeant is x m → is_of_sort s m ≡ true
+    → HasSort s is x
+sort_meant is x sort.Int (meaning.Int w) h e = rw (h.of_form (form.Scalar (scalar.Int w)) refl) refl
+sort_meant is x sort.Float (meaning.Float w) h e = rw (h.of_form (form.Scalar (scalar.Float w)) refl) refl
+sort_meant is x sort.Bool meaning.Bool h e = rw (h.of_form (form.Scalar scalar.Bool) refl) refl
+sort_meant is x s _ h e = cc
+
+pub pointee_read : (is : List PlainInst) (x : ℕ) (m : Meaning) (p : ℕ) → IsMeant is x m → pointee_meant m ≡ Some p
+    → pointee_in (form_of is x) ≡ Some p
+pointee_read is x (meaning.UniformConstant q) p h e = rw (h.of_form (form.Pointer 0 q) refl) e
+pointee_read is x (meaning.Input q) p h e = rw (h.of_form (form.Pointer 1 q) refl) e
+pointee_read is x (meaning.Workgroup q) p h e = rw (h.of_form (form.Pointer 4 q) refl) e
+pointee_read is x (meaning.CrossWorkgroup q) p h e = rw (h.of_form (form.Pointer 5 q) refl) e
+pointee_read is x (meaning.Local q) p h e = rw (h.of_form (form.Pointer 7 q) refl) e
+pointee_read is x (meaning.Generic q) p h e = rw (h.of_form (form.Pointer 8 q) refl) e
+pointee_read is x _ p h e = cc
+
+data_in : (o : Option Form) → IsSome o → ((f : Form) → o ≡ Some f → IsDataForm f) → IsSomeAnd o IsDataForm
+data_in None s h = absurd (let no : false ≡ true = s in cc)
+data_in (Some f) s h = h f refl
+
+pub data_meant : (is : List PlainInst) (x : ℕ) (m : Meaning) → IsMeant is x m → is_data m ≡ true → IsData is x
+data_meant is x meaning.Declared h e = data_in (form_of is x) (h.declares refl) h.other
+data_meant is x meaning.Bool h e = rw (h.of_form (form.Scalar scalar.Bool) refl) tt
+data_meant is x (meaning.Int w) h e = rw (h.of_form (form.Scalar (scalar.Int w)) refl) tt
+data_meant is x (meaning.Float w) h e = rw (h.of_form (form.Scalar (scalar.Float w)) refl) tt
+data_meant is x meaning.Struct h e = rw (h.of_form form.Struct refl) tt
+data_meant is x (meaning.Vector2 c) h e = rw (h.of_form (form.Vector c 2) refl) tt
+data_meant is x (meaning.Vector3 c) h e = rw (h.of_form (form.Vector c 3) refl) tt
+data_meant is x (meaning.Vector4 c) h e = rw (h.of_form (form.Vector c 4) refl) tt
+data_meant is x (meaning.Vector8 c) h e = rw (h.of_form (form.Vector c 8) refl) tt
+data_meant is x (meaning.Vector16 c) h e = rw (h.of_form (form.Vector c 16) refl) tt
+data_meant is x (meaning.UniformConstant p) h e = rw (h.of_form (form.Pointer 0 p) refl) tt
+data_meant is x (meaning.Input p) h e = rw (h.of_form (form.Pointer 1 p) refl) tt
+data_meant is x (meaning.Workgroup p) h e = rw (h.of_form (form.Pointer 4 p) refl) tt
+data_meant is x (meaning.CrossWorkgroup p) h e = rw (h.of_form (form.Pointer 5 p) refl) tt
+data_meant is x (meaning.Local p) h e = rw (h.of_form (form.Pointer 7 p) refl) tt
+data_meant is x (meaning.Generic p) h e = rw (h.of_form (form.Pointer 8 p) refl) tt
+data_meant is x (meaning.Object o) h e = rw (h.of_form (form.Object o) refl) tt
+data_meant is x _ h e = cc
 
 set_same : (l : List Meaning) (n : ℕ) (v a : Meaning) → n < length l → slice_get (set l n v) n ≡ Some a → v ≡ a
 set_same l n v a h s =

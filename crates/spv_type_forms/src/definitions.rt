@@ -187,7 +187,7 @@ impl<'m, 'a> Definitions<'m, 'a> {
 
     /// The element type of an array type, by its definition. None where the id is that of no array type.
     #[inline(never)]
-    fn defined_element(&self, id: u32) -> Option<u32>
+    pub(crate) fn defined_element(&self, id: u32) -> Option<u32>
         ensures { IfSome result (λ e. option_and_then element_in (form_of self.now id) ≡ Some e) }
     {
         let inst = self.definition(id)?;
@@ -200,21 +200,9 @@ impl<'m, 'a> Definitions<'m, 'a> {
         }
     }
 
-    /// The element type of an array type, of which no more is noted than that it is a type: for where most types that
-    /// are asked for are arrays. None where it is none, or nothing is noted of it.
-    #[inline(always)]
-    pub fn element(&self, id: u32) -> Option<u32>
-        ensures { IfSome result (λ e. option_and_then element_in (form_of self.now id) ≡ Some e) }
-    {
-        match self.meaning(id) {
-            Meaning::Declared => self.defined_element(id),
-            _ => None,
-        }
-    }
-
     /// What is noted of an id.
     #[inline(always)]
-    fn meaning(&self, id: u32) -> Meaning
+    pub(crate) fn meaning(&self, id: u32) -> Meaning
         ensures { IsMeant self.now id result }
     {
         match self.meanings.get(id as usize) {

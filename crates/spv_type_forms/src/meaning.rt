@@ -7,7 +7,7 @@ ghost use Rattle.spv_type_forms.specs.declared.form.Form.TheVariants as forms;
 ghost use Rattle.spv_type_forms.specs.inner.Meaning as spec;
 ghost use Rattle.spv_type_forms.specs.inner.Meaning.{IsSaid, IsMeaningOf};
 
-use crate::form::{Form, Object, Scalar, form_in};
+use crate::form::{Form, Object, Scalar, Sort, form_in};
 use spv_module::{Inst, Operand, opcode};
 
 /// What an id stands for, as far as it was noted. Each variant has one number at most, so that a list of these is
@@ -19,7 +19,7 @@ pub enum Meaning {
     Unknown,
     /// A value that is declared with a type, other than a function.
     Typed(u32),
-    /// A type of which no more was noted.
+    /// A data type of which no more was noted.
     Declared,
     Void,
     Bool,
@@ -111,6 +111,67 @@ impl Meaning {
             Meaning::Generic(pointee) => Some(Form::Pointer { class: 8, pointee }),
             Meaning::Object(object) => Some(Form::Object(object)),
             Meaning::SampledImage(image) => Some(Form::SampledImage(image)),
+        }
+    }
+
+    /// The type that a pointer type points to, as far as it was noted.
+    #[inline(always)]
+    pub fn pointee(self) -> Option<u32>
+        ensures { result ≡ spec.pointee_meant self }
+    {
+        match self {
+            Meaning::UniformConstant(pointee)
+            | Meaning::Input(pointee)
+            | Meaning::Workgroup(pointee)
+            | Meaning::CrossWorkgroup(pointee)
+            | Meaning::Local(pointee)
+            | Meaning::Generic(pointee) => Some(pointee),
+            _ => None,
+        }
+    }
+
+    /// Whether it is that of an int.
+    #[inline(always)]
+    pub fn is_int(self) -> bool
+        ensures { result ≡ spec.is_int self }
+    {
+        matches!(self, Meaning::Int(_))
+    }
+
+    /// Whether it is that of bool.
+    #[inline(always)]
+    pub fn is_bool(self) -> bool
+        ensures { result ≡ spec.is_bool self }
+    {
+        matches!(self, Meaning::Bool)
+    }
+
+    /// Whether it is that of an int, a float or a bool.
+    #[inline(always)]
+    pub fn is_of(self, sort: Sort) -> bool
+        ensures { result ≡ spec.is_of_sort sort self }
+    {
+        match (sort, self) {
+            (Sort::Int, Meaning::Int(_))
+            | (Sort::Float, Meaning::Float(_))
+            | (Sort::Bool, Meaning::Bool) => true,
+            _ => false,
+        }
+    }
+
+    /// Whether it is that of a data type. A type of which no more was noted is one.
+    #[inline(always)]
+    pub fn is_data(self) -> bool
+        ensures { result ≡ spec.is_data self }
+    {
+        match self {
+            Meaning::Unknown
+            | Meaning::Typed(_)
+            | Meaning::Void
+            | Meaning::Opaque
+            | Meaning::Function
+            | Meaning::SampledImage(_) => false,
+            _ => true,
         }
     }
 

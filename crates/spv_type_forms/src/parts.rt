@@ -8,6 +8,7 @@ ghost use Rattle.spv_type_forms.specs.inner.Walk.{walk, choice, int_choices};
 
 use crate::definitions::Definitions;
 use crate::form::Form;
+use crate::meaning::Meaning;
 use crate::operands::after_result;
 use crate::several::stands_for_int;
 use spv_module::{Operand, opcode};
@@ -158,16 +159,36 @@ pub fn reached(definitions: &Definitions, t: u32, literals: &[Operand]) -> Optio
     Some(at)
 }
 
-/// The type of the part that an index of an access chain chooses.
+/// The type of the part that an index of an access chain chooses. Most steps lead into an array or a struct.
 #[inline(always)]
 fn chosen_part(definitions: &Definitions, t: u32, x: u32) -> Option<u32>
     ensures { result ≡ choice definitions.now t x }
 {
-    // Most steps lead into an array.
-    if let Some(element) = definitions.element(t) {
-        return Some(element);
+    match definitions.meaning(t) {
+        Meaning::Declared => chosen_element(definitions, t, x),
+        Meaning::Struct => member(definitions, t, constant(definitions, x)?),
+        _ => defined_part(definitions, t, x),
     }
-    match definitions.read_form(t)? {
+}
+
+/// The same, where no more is noted of the type than that it is one: it is an array, but for pointers of rare storage
+/// classes.
+#[inline(never)]
+fn chosen_element(definitions: &Definitions, t: u32, x: u32) -> Option<u32>
+    ensures { result ≡ choice definitions.now t x }
+{
+    match definitions.defined_element(t) {
+        Some(element) => Some(element),
+        None => defined_part(definitions, t, x),
+    }
+}
+
+/// The same, by the definition of the type.
+#[inline(never)]
+fn defined_part(definitions: &Definitions, t: u32, x: u32) -> Option<u32>
+    ensures { result ≡ choice definitions.now t x }
+{
+    match definitions.form(t)? {
         Form::Vector { component, .. } => Some(component),
         Form::Array { element, .. } => Some(element),
         Form::Struct => member(definitions, t, constant(definitions, x)?),

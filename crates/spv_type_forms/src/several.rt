@@ -9,9 +9,10 @@ ghost use Rattle.spv_type_forms.specs.Values.{paired_ids_in, types_of};
 ghost use Rattle.spv_type_forms.specs.Parts.{count_of, AreParts};
 
 use crate::definitions::Definitions;
-use crate::form::{Form, Scalar};
+use crate::meaning::Meaning;
 use crate::operands::id_count;
 use crate::parts::{count, parts_of};
+use crate::types::is_int;
 use spv_module::Operand;
 
 /// Whether an id stands for an int.
@@ -20,10 +21,7 @@ pub fn stands_for_int(definitions: &Definitions, x: u32) -> bool
     ensures { result ≡ has_int definitions.now x }
 {
     match definitions.type_of(x) {
-        Some(t) => match definitions.read_form(t) {
-            Some(Form::Scalar(Scalar::Int(_))) => true,
-            _ => false,
-        },
+        Some(t) => is_int(definitions, t),
         None => false,
     }
 }
@@ -31,6 +29,17 @@ pub fn stands_for_int(definitions: &Definitions, x: u32) -> bool
 /// Whether an id is declared with a type.
 #[inline(always)]
 pub fn is_typed(definitions: &Definitions, t: u32, x: u32) -> bool
+    ensures { result ≡ has_type definitions.now t x }
+{
+    match definitions.meaning(x) {
+        Meaning::Typed(u) => u == t,
+        _ => defined_typed(definitions, t, x),
+    }
+}
+
+/// Whether an id is declared with a type, by its definition.
+#[inline(never)]
+fn defined_typed(definitions: &Definitions, t: u32, x: u32) -> bool
     ensures { result ≡ has_type definitions.now t x }
 {
     match definitions.type_of(x) {

@@ -94,8 +94,8 @@ late_declaration n h =
       differs n opcode.TYPE_SAMPLED_IMAGE (omega arith),
     ) refl
 
-late_repeat : (n : ℕ) → limit ≤ n → is_declared_once n ≡ false
-late_repeat n h = rw (
+pub late_once : (n : ℕ) → limit ≤ n → is_declared_once n ≡ false
+late_once n h = rw (
   past opcode.TYPE_VOID opcode.TYPE_SAMPLED_IMAGE n (omega arith),
   differs n opcode.TYPE_OPAQUE (omega arith),
   past opcode.TYPE_FUNCTION opcode.TYPE_PIPE n (omega arith),
@@ -145,7 +145,7 @@ no_repeat n e = elim (cases_lt n limit) [
       let l = left_of (is_it concern.Declaration (concern_of n))
       (is_nothing (declaration_of n) && not (is_declared_once n)) t.0 e in
       not_yes (is_declared_once n) (both (is_nothing (declaration_of n)) (not (is_declared_once n)) l).1
-  | inr h ↦ late_repeat n h
+  | inr h ↦ late_once n h
 ]
 
 no_constant : (n : ℕ) → is_it concern.Constant (concern_of n) ≡ false → constant_of n ≡ None
@@ -157,7 +157,7 @@ no_constant n e = elim (cases_lt n limit) [
   | inr h ↦ late_constant n h
 ]
 
-late_concern : (n : ℕ) → limit ≤ n → concern_of n ≡ concern.Nothing
+pub late_concern : (n : ℕ) → limit ≤ n → concern_of n ≡ concern.Nothing
 late_concern n h =
     rw (
       past opcode.TYPE_VOID opcode.TYPE_FORWARD_POINTER n (omega arith),

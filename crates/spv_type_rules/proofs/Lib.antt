@@ -9,6 +9,7 @@ pub mod Same
 pub mod Slots
 pub mod Repeating
 pub mod Concerns
+pub mod Turns
 pub mod Parted
 mod Worked
 pub mod lemmas

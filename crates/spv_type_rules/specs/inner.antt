@@ -1,5 +1,6 @@
 -- Definitions that serve the code alone.
 pub mod Concern
+pub mod Turn
 pub mod Constant
 pub mod Counted
 pub mod Declaration

@@ -2,8 +2,8 @@
 
 ghost use Rattle.std.specs.Prelude.{◌≡◌};
 ghost use Rattle.spv_type_rules.specs.inner.Concern as spec;
-
-use spv_module::opcode;
+ghost use Rattle.spv_type_rules.specs.inner.Repeat as repeat;
+ghost use Rattle.spv_type_rules.specs.inner.Turn.{IsTurn};
 
 /// The rules that speak of an instruction.
 #[derive(Clone, Copy)]
@@ -22,22 +22,57 @@ pub enum Concern {
     Nothing,
 }
 
+/// For each opcode below that of OpNamedBarrierInitialize the number of what the rules of types ask of it; all from
+/// there on are operations. 0: nothing. 1: nothing, and it is silent. 2: it declares a type that may be declared once only.
+/// 3: it declares another type. 4: it is a constant. 5: it begins a function or is a parameter. 6: it returns. 7: it is a
+/// call. 8: it is an operation. 9: it is an operation, and silent. A proof compares it with the functions below.
+static TURNS: [u8; 328] = [
+    1, 9, 1, 1, 1, 1, 1, 1, 1, 1, 1, 1, 9, 1, 1, 1, 1, 1, 0, 2, 2, 2, 2, 2, 2, 2, 2, 2, 3, 3, 3, 2,
+    3, 2, 2, 2, 2, 2, 2, 3, 0, 4, 4, 4, 4, 4, 4, 4, 4, 4, 4, 4, 0, 0, 5, 5, 1, 7, 0, 8, 8, 8, 8, 8,
+    8, 8, 8, 8, 8, 8, 8, 8, 8, 8, 8, 8, 8, 8, 8, 8, 8, 8, 8, 8, 8, 8, 8, 8, 8, 8, 8, 8, 8, 8, 8, 8,
+    8, 8, 8, 8, 8, 8, 8, 8, 8, 8, 8, 8, 8, 8, 8, 8, 8, 8, 8, 8, 8, 8, 8, 8, 8, 8, 8, 8, 8, 8, 8, 8,
+    8, 8, 8, 8, 8, 8, 8, 8, 8, 8, 8, 8, 8, 8, 8, 8, 8, 8, 8, 8, 8, 8, 8, 8, 8, 8, 8, 8, 8, 8, 8, 8,
+    8, 8, 8, 8, 8, 8, 8, 8, 8, 8, 8, 8, 8, 8, 8, 8, 8, 8, 8, 8, 8, 8, 8, 8, 8, 8, 8, 8, 8, 8, 8, 8,
+    8, 8, 8, 8, 8, 8, 8, 8, 8, 8, 8, 8, 8, 8, 8, 8, 8, 8, 8, 8, 8, 8, 8, 8, 8, 8, 8, 8, 8, 8, 8, 8,
+    8, 8, 8, 8, 8, 8, 8, 8, 8, 8, 8, 8, 8, 8, 8, 8, 8, 8, 8, 8, 8, 8, 8, 8, 1, 1, 8, 8, 0, 6, 6, 0,
+    8, 8, 8, 8, 8, 8, 8, 8, 8, 8, 8, 8, 8, 8, 8, 8, 8, 8, 8, 8, 8, 8, 8, 8, 8, 8, 8, 8, 8, 8, 8, 8,
+    8, 8, 8, 8, 8, 8, 8, 8, 8, 8, 8, 8, 8, 8, 8, 8, 8, 8, 8, 8, 8, 8, 8, 8, 8, 8, 8, 8, 8, 8, 8, 8,
+    8, 8, 2, 4, 8, 8, 8, 2,
+];
+
+/// The number of what the rules of types ask of an opcode, as in the list.
+#[inline(always)]
+fn turn_of(number: u16) -> u8
+    ensures { IsTurn result number }
+{
+    match TURNS.get(usize::from(number)) {
+        Some(turn) => *turn,
+        None => 8,
+    }
+}
+
 /// The rules that speak of an opcode.
 #[inline(always)]
 pub fn concern_of(number: u16) -> Concern
     ensures { result ≡ spec.concern_of number }
 {
-    match number {
-        opcode::TYPE_VOID..=opcode::TYPE_FORWARD_POINTER
-        | opcode::TYPE_PIPE_STORAGE
-        | opcode::TYPE_NAMED_BARRIER => Concern::Declaration,
-        opcode::CONSTANT_TRUE..=opcode::SPEC_CONSTANT_COMPOSITE | opcode::CONSTANT_PIPE_STORAGE =>
-            Concern::Constant,
-        opcode::FUNCTION | opcode::FUNCTION_PARAMETER => Concern::Function,
-        opcode::FUNCTION_CALL => Concern::Call,
-        opcode::RETURN | opcode::RETURN_VALUE => Concern::Return,
+    match turn_of(number) {
+        2 | 3 => Concern::Declaration,
+        4 => Concern::Constant,
+        5 => Concern::Function,
+        6 => Concern::Return,
+        7 => Concern::Call,
         _ => Concern::Nothing,
     }
+}
+
+/// Whether an opcode is that of a type declaration other than of an array, a structure or a pointer: those may be declared
+/// once only.
+#[inline(always)]
+pub fn is_declared_once(number: u16) -> bool
+    ensures { result ≡ repeat.is_declared_once number }
+{
+    turn_of(number) == 2
 }
 
 /// Whether an opcode is one that stands before the types, or that of a label, a plain branch or the end of a function:
@@ -46,9 +81,7 @@ pub fn concern_of(number: u16) -> Concern
 pub fn is_silent(number: u16) -> bool
     ensures { result ≡ spec.is_silent number }
 {
-    number <= opcode::CAPABILITY
-        || (opcode::LABEL..=opcode::BRANCH).contains(&number)
-        || number == opcode::FUNCTION_END
+    matches!(turn_of(number), 1 | 9)
 }
 
 /// Whether an opcode is that of an operation: all that have a row of types (Y5) are among these, and none of the other
@@ -57,14 +90,5 @@ pub fn is_silent(number: u16) -> bool
 pub fn is_operation(number: u16) -> bool
     ensures { result ≡ spec.is_operation number }
 {
-    match number {
-        opcode::VARIABLE..=opcode::SELECTION_MERGE
-        | opcode::UNDEF
-        | opcode::EXT_INST
-        | opcode::BRANCH_CONDITIONAL
-        | opcode::SWITCH
-        | opcode::LIFETIME_START..=opcode::SIZE_OF
-        | opcode::CREATE_PIPE_FROM_PIPE_STORAGE..=opcode::GET_KERNEL_MAX_NUM_SUBGROUPS => true,
-        number => number >= opcode::NAMED_BARRIER_INITIALIZE,
-    }
+    turn_of(number) >= 8
 }

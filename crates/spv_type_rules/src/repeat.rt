@@ -12,26 +12,12 @@ ghost use Rattle.spv_type_rules.specs.inner.Slots.{IsHeld, IsPlace};
 ghost use Rattle.spv_type_rules.specs.inner.Seen.{AreSeen, HasKey};
 
 use crate::alike::are_alike;
+use crate::concern::is_declared_once;
 use crate::fingerprint::fingerprint_of;
 use crate::key::key_of;
 use spv_module::{Inst, opcode};
 use std::alloc::{AllocError, Global};
 use std::collections::BTreeSet;
-
-/// Whether an opcode declares a type that may be declared once only.
-#[inline(always)]
-pub fn is_declared_once(number: u16) -> bool
-    ensures { result ≡ spec.is_declared_once number }
-{
-    match number {
-        opcode::TYPE_VOID..=opcode::TYPE_SAMPLED_IMAGE
-        | opcode::TYPE_OPAQUE
-        | opcode::TYPE_FUNCTION..=opcode::TYPE_PIPE
-        | opcode::TYPE_PIPE_STORAGE
-        | opcode::TYPE_NAMED_BARRIER => true,
-        _ => false,
-    }
-}
 
 /// In how many slots a declaration may lie: in the one that its fingerprint tells, and in those behind it.
 const NEAR: usize = 4;

@@ -1,9 +1,10 @@
 //! The first of the rules F that a module breaks.
 
-ghost use Rattle.std.specs.Prelude.{◌≡◌, ◌≤◌, ◌<◌, ◌+◌, ℕ, List, false, length, sum_by, IsTrue};
+ghost use Rattle.std.specs.Prelude.{◌≡◌, ◌≤◌, ◌<◌, ◌+◌, ℕ, List, Some, false, length, map, slice_get, sum_by, IsTrue};
 ghost use Rattle.std.specs.Prelude.{IfOk, IfErr, MatchOption};
 ghost use Rattle.spv_table.specs.Table.{Table};
-ghost use Rattle.spv_module.specs.Module.{plain_insts};
+ghost use Rattle.spv_module.specs.declared.opcode.TheConstants as code;
+ghost use Rattle.spv_module.specs.Module.{plain_inst, plain_insts};
 ghost use Rattle.spv_module.specs.Operand.{PlainInst};
 ghost use Rattle.spv_layout.specs.Stage.{of_branches};
 ghost use Rattle.spv_layout.specs.First.{IsFirst, IsUnbroken};
@@ -25,7 +26,8 @@ use crate::branches::gather::{Overview, edges_for, survey};
 use crate::branches::rules::broken_at;
 use spv_ids::Ids;
 use spv_layout::Plan;
-use spv_module::{Module, Rule, Stop};
+use spv_module::opcode::PHI;
+use spv_module::{Inst, Module, Rule, Stop};
 use std::alloc::{AllocError, Global};
 
 /// A broken rule at an instruction.
@@ -43,6 +45,23 @@ fn marks_for(alloc: Global, count: usize, has_phis: bool) -> Result<Vec<bool>, A
 {
     let room = if has_phis { count } else { 0 };
     vec![in alloc; false; room]
+}
+
+/// The first instruction from one on that the rules F may speak of: an OpPhi, or one of a higher opcode. Where there is
+/// none, how many instructions there are.
+#[inline(always)]
+fn next_asked(insts: &[Inst<'_>], from: usize) -> usize
+    requires { from ≤ length insts.now }
+    ensures within { result ≤ length insts.now }
+    ensures further { from ≤ result }
+    ensures passed { (n : ℕ) (i : PlainInst) → from ≤ n → n < result
+        → slice_get (map plain_inst insts.now) n ≡ Some i → i.opcode < code.PHI }
+{
+    let mut at = from;
+    while at < insts.len() && insts[at].opcode < PHI {
+        at += 1;
+    }
+    at
 }
 
 /// The first of the rules F that is broken. No block is marked before.
@@ -69,13 +88,15 @@ fn first_broken(
         (λ f. IsFirst (Broken fork G (insts_of code.now)) of_branches f.rule f.inst) }
 {
     let entries = survey.entries.as_slice();
-    for at in 0..code.insts.len() {
+    let mut at = next_asked(code.insts, 0);
+    while at < code.insts.len() {
         if let Some(rule) = broken_at(code, fork, edges, entries, marks, at as u32) {
             return Some(Found {
                 rule,
                 inst: at as u32,
             });
         }
+        at = next_asked(code.insts, at + 1);
     }
     None
 }

@@ -1,6 +1,6 @@
 -- What a plan keeps of instructions, and the places that it gives. (For the code alone; `IsPlan` says what the places
 -- are.)
-use Rattle.std.specs.Prelude.{◌≡◌, ◌≢◌, ◌<◌, ◌≤◌, ◌⊎◌, ℕ, ◌+◌, slice_get, List, []}
+use Rattle.std.specs.Prelude.{◌≡◌, ◌≢◌, ◌<◌, ◌≤◌, ℕ, ◌+◌, slice_get, List, []}
 use Rattle.std.specs.Prelude.{◌∷◌, ◌++◌, if◌then◌else◌, Option, Some, None, nat_lt, map, length}
 use Rattle.spv_layout.specs.declared.place.Early.{Early}
 use Rattle.spv_layout.specs.declared.place.Standing.{Standing}
@@ -48,23 +48,16 @@ abbrev pub late_with : Option ℕ → Spans → ℕ → List Standing → List S
 late_with None spans word ss = ss ++ (record { function = spans.function; block = spans.block; word = word } ∷ [])
 late_with (Some section) spans word ss = ss
 
--- how many are kept of later sections
-abbrev pub count_with : Option ℕ → ℕ → ℕ
-count_with None n = n + 1
-count_with (Some section) n = n
-
 -- Each instruction before n is of a class that stands in one section alone.
 pub record AreSectioned (is : List PlainInst) (n : ℕ) : Type 0 where
   pub each : (k : ℕ) (c : Class) → k < n → slice_get (classes is) k ≡ Some c → section_of c ≢ None
+
+-- Instruction n, if there is one, is of no such class.
+abbrev pub IsUnsectioned : List PlainInst → ℕ → Type 0
+IsUnsectioned is n = (c : Class) → slice_get (classes is) n ≡ Some c → section_of c ≡ None
 
 -- What is kept of instructions of sections 1 to 8 tells one of these, the last as 10, and all of them stand before the
 -- first OpFunction.
 pub record AreEarly (functions : ℕ) (es : List Early) : Type 0 where
   pub sections : (k : ℕ) (e : Early) → slice_get es k ≡ Some e → e.section ≤ 10
   pub before : length es ≤ functions
-
--- There is room for all that is kept of later sections, of which there is none before instruction `first`: so many are
--- kept of n instructions of `count`.
-pub record HasRoom (first count n size capacity : ℕ) : Type 0 where
-  pub kept : (size ≡ 0) ⊎ (size + first ≤ n)
-  pub room : count ≤ first + capacity

@@ -14,6 +14,8 @@ use Rattle.spv_conditions.specs.declared.asked.Asks.{Asks}
 use Rattle.spv_conditions.specs.declared.asked.Asks.TheVariants as asks
 use Rattle.spv_conditions.specs.declared.asked.Asked.TheVariants as asked
 use Rattle.spv_conditions.specs.declared.asked.Rest.TheVariants as beside
+use Rattle.spv_ops.specs.declared.table.Places.{Places}
+use Rattle.spv_ops.specs.declared.table.Places.TheVariants as places
 use Rattle.spv_ops.specs.inner.Chain.{Chains, ChainsByElement}
 use Rattle.spv_ops.specs.inner.Composite.{Constructs}
 use Rattle.spv_ops.specs.inner.Declares.{DeclaresVariable}
@@ -31,6 +33,14 @@ abbrev pub binary_of : Sort → ℕ
 binary_of sort.Int = opcode.I_ADD
 binary_of sort.Float = opcode.F_ADD
 binary_of sort.Bool = opcode.LOGICAL_EQUAL
+
+-- values that stand there may be of any number
+abbrev pub IsWidePlace : Places → Type 0
+IsWidePlace places.Many = Unit {0}
+IsWidePlace places.Pairs = Unit {0}
+IsWidePlace places.Initializers = Unit {0}
+IsWidePlace places.Enqueued = Unit {0}
+IsWidePlace p = ⊥
 
 -- r is a data type, and each value is of it [3.49.17 OpPhi]
 abbrev pub AreSame : List PlainInst → ℕ → List ℕ → Type 0

@@ -284,6 +284,20 @@ unbroken_more fork G is n before here q m lt s b = elim (cases_lt m n) [
   | inr more ↦ (let e : m ≡ n = omega (arith, lt, more) in here q s (subst (λ (k : ℕ). Broken fork G is q k) e b))
 ]
 
+-- nor at the instructions after those whose opcodes are lower than that of OpPhi
+pub unbroken_passed : (fork : Fork) (G : Table) (is : List PlainInst) (from to : ℕ)
+    → ((q : Rule) (m : ℕ) → m < from → stage_of q ≡ of_branches → ¬ (Broken fork G is q m))
+    → ((m : ℕ) (i : PlainInst) → from ≤ m → m < to → slice_get is m ≡ Some i → i.opcode < opcode.PHI)
+    → (q : Rule) (m : ℕ) → m < to → stage_of q ≡ of_branches → ¬ (Broken fork G is q m)
+unbroken_passed fork G is from to before passed q m lt s b = elim (cases_lt m from) [
+  | inl less ↦ before q m less s b
+  | inr more ↦
+      at_other fork G is q m
+      (λ o. let h = holds is m is_phi o in low_phi h.inst.opcode (passed m h.inst more lt h.there) h.holds)
+      (λ o. let h = holds is m is_merge o in low_merge h.inst.opcode (passed m h.inst more lt h.there) h.holds)
+      (λ o. let h = holds is m is_branch o in low_branch h.inst.opcode (passed m h.inst more lt h.there) h.holds) s b
+]
+
 -- The first instruction at which a rule is broken.
 pub first_found : (fork : Fork) (G : Table) (is : List PlainInst) (r : Rule) (n : ℕ)
     → ((q : Rule) (m : ℕ) → m < n → stage_of q ≡ of_branches → ¬ (Broken fork G is q m)) → stage_of r ≡ of_branches

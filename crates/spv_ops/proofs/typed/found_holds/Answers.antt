@@ -5,7 +5,7 @@ use Rattle.spv_module.specs.Operand.{Plain}
 use Rattle.spv_type_forms.specs.Operands.{after_head, result_type_in}
 use Rattle.spv_ops.specs.declared.table.Places.TheVariants as places
 use Rattle.spv_ops.specs.Table.{asks_of, places_of}
-use Rattle.spv_ops.specs.inner.Wide.{IsWide}
+use Rattle.spv_ops.specs.inner.Wide.{IsWidePlace}
 use Rattle.spv_ops.proofs.Judged.{free_holds}
 use Rattle.spv_ops.proofs.Parts.{iff_to, typed_by, wide_place, wide_told, wide_result}
 use Rattle.spv_ops.proofs.Rows.{around_counted, beside_counted, asks_first, places_first, counted}
@@ -106,36 +106,7 @@ returns-in-One c =
     iff_to c.one_holds.ensures (typed_by is n i places.One (asks_of c.args.found.first) r os
     (sym c.requires.places ∙ c.in-One.is) asks result rest)
 
-pub returns-in-Some : goal.returns-in-Some
-returns-in-Some c =
-    let is = c.args.definitions.now in
-    let i = plain_inst c.args.inst.now in
-    let n = c.args.number in
+pub wide_row_holds-requires-clause-wide : goal.wide_row_holds-requires-clause-wide
+wide_row_holds-requires-clause-wide c =
     let p = c.args.found.places in
-    let place : places_of i.opcode ≡ p = sym c.requires.places in
-    let wide = wide_place p c.in-Many.is in
-    let operands = ap plain_operands c.as_slice-operands.ensures.value in
-    let rest : plain_operands c.after_head-rest.result.now ≡ after_head i.operands = c.after_head-rest.ensures
-    ∙ ap after_head operands in
-    let result : result_type_in i.operands ≡ Some c.in-Some.r = sym (ap result_type_in operands)
-    ∙ sym c.result_type-r.ensures ∙ c.in-Some.is in
-    let held = subst (λ (os : List Plain). IsTrue c.wide_holds.result ↔ IsWide c.args.found.first is n c.in-Some.r os)
-    rest c.wide_holds.ensures in
-    iff_to held (iff_to (wide_told is n i c.args.found.first c.in-Some.r p c.requires.first place wide)
-    (typed_by is n i p (asks_of i.opcode) (Some c.in-Some.r) (after_head i.operands) place refl result refl))
-
-pub returns-in-None : goal.returns-in-None
-returns-in-None c =
-    let is = c.args.definitions.now in
-    let i = plain_inst c.args.inst.now in
-    let n = c.args.number in
-    let p = c.args.found.places in
-    let place : places_of i.opcode ≡ p = sym c.requires.places in
-    let wide = wide_place p c.in-Many.is in
-    let operands = ap plain_operands c.as_slice-operands.ensures.value in
-    let result : result_type_in i.operands ≡ None = sym (ap result_type_in operands) ∙ sym c.result_type-r.ensures
-    ∙ c.in-None.is in (
-      λ h. absurd (let no : false ≡ true = h in cc),
-      λ h. absurd (wide_result is n i p place wide
-          ((typed_by is n i p (asks_of i.opcode) None (after_head i.operands) place refl result refl).1 h)),
-    )
+    subst IsWidePlace c.requires.places (wide_place p c.in-Many.is)
