@@ -160,13 +160,14 @@ fn is_more_local(plan: &Plan, here: Option<u32>, one: u32, other: u32) -> bool
         → IsDefinedAt is x one → IsDefinedAt is x other
         → MatchBool result (IsAsLocal is from one other) (IsAsLocal is from other one) }
 {
-    match home(plan, other) {
-        None => true,
-        Some(_) => match home(plan, one) {
-            Some(function) => here == Some(function),
-            None => false,
-        },
+    if other <= floor_of(plan, other) {
+        return true;
     }
+    let function = floor_of(plan, one);
+    if one <= function {
+        return false;
+    }
+    here == Some(function)
 }
 
 /// Keeps a definition of an id, if it is the first or more local than the one before.

@@ -183,7 +183,15 @@ impl Definitions {
             self.near[place] = Some(definition);
             return Ok(());
         }
-        self.put_far(id, definition)
+        // What the call takes is put together here, since most definitions do not come to it.
+        self.put_far(
+            id,
+            Definition {
+                type_id: definition.type_id,
+                is_float: definition.is_float,
+                width: definition.width,
+            },
+        )
     }
 
     /// Keeps what is new of an id past the list. Where memory runs out, nothing is said of what is left.

@@ -281,6 +281,8 @@ pub fn inst_holds(definitions: &Definitions, number: u32, inst: &Inst) -> bool
     ensures { IsTrue result ↔ IsTypedIn definitions.now number (plain_inst inst.now) }
 {
     match first_opcode(inst.opcode) {
+        // No line speaks of it.
+        0 => true,
         opcode::I_ADD => binary_row_holds(definitions, number, inst, Sort::Int),
         opcode::F_ADD => binary_row_holds(definitions, number, inst, Sort::Float),
         opcode::LOGICAL_EQUAL => binary_row_holds(definitions, number, inst, Sort::Bool),

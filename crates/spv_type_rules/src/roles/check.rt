@@ -99,6 +99,70 @@ fn each_played(definitions: &Definitions<'_, '_>, asked: Asked, operands: &[Oper
     true
 }
 
+/// Whether types are types, and arguments values, where nothing is asked of ids.
+#[inline(always)]
+fn are_arguments_played(definitions: &Definitions<'_, '_>, operands: &[Operand<'_>]) -> bool
+    ensures { MatchBool result (ArePlayed definitions.now due.Any due.Any due.Any (plain_operands operands.now))
+        (IsOneMiscast definitions.now due.Any due.Any due.Any (plain_operands operands.now)) }
+{
+    for operand in operands {
+        match *operand {
+            Operand::OfType(id) => if !defines_type(definitions, id) {
+                return false;
+            },
+            Operand::Argument(id) => if !plays(definitions, Role::Value, id) {
+                return false;
+            },
+            _ => {}
+        }
+    }
+    true
+}
+
+/// Whether the result type of an extended instruction is a type, its set plays the role that is asked for, and its
+/// arguments are values.
+fn is_extended_played(
+    definitions: &Definitions<'_, '_>,
+    t: u32,
+    first: Role,
+    set: u32,
+    rest: &[Operand<'_>],
+) -> bool
+    ensures { MatchBool result (Plays definitions.now due.OfType t × Plays definitions.now first set
+        × ArePlayed definitions.now due.Any due.Any due.Any (plain_operands rest.now))
+        (¬ (Plays definitions.now due.OfType t) ⊎ ¬ (Plays definitions.now first set)
+        ⊎ IsOneMiscast definitions.now due.Any due.Any due.Any (plain_operands rest.now)) }
+{
+    if !is_type_id(definitions, t) {
+        return false;
+    }
+    if !plays(definitions, first, set) {
+        return false;
+    }
+    are_arguments_played(definitions, rest)
+}
+
+/// Whether types are types, and ids play the roles that are asked for. Extended instructions are looked at first.
+#[inline(never)]
+fn are_others_played(
+    definitions: &Definitions<'_, '_>,
+    asked: Asked,
+    operands: &[Operand<'_>],
+) -> bool
+    ensures { MatchBool result (ArePlayed definitions.now asked.first asked.others asked.masked
+        (plain_operands operands.now))
+        (IsOneMiscast definitions.now asked.first asked.others asked.masked (plain_operands operands.now)) }
+{
+    match (operands, asked.others, asked.masked) {
+        (
+            [Operand::OfType(t), Operand::Result(_), Operand::Id(set), rest @ ..],
+            Role::Any,
+            Role::Any,
+        ) => is_extended_played(definitions, *t, asked.first, *set, rest),
+        _ => each_played(definitions, asked, operands),
+    }
+}
+
 /// Whether types are types, and ids play the roles that are asked for. Names and decorations, of whose ids nothing is
 /// asked, are looked at first (a merge stands as they do), and types that are declared of one type or two: pointers and
 /// vectors, arrays, functions and structures.
@@ -134,7 +198,7 @@ fn are_declared_played(
             asked.others,
             *b,
         ),
-        _ => each_played(definitions, asked, operands),
+        _ => are_others_played(definitions, asked, operands),
     }
 }
 

@@ -1,0 +1,1 @@
+use Rattle.spv_type_forms.proofs.types.has_sort.Goals as goal

@@ -1,0 +1,1 @@
+use Rattle.spv_type_forms.proofs.types.is_int.Goals as goal
