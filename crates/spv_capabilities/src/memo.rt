@@ -87,6 +87,9 @@ fn is_odd(bits: u32) -> bool
 pub fn is_asked_more(number: u16) -> bool
     ensures { result ≡ known.is_asked_more number }
 {
+    if number > opcode::TYPE_SAMPLER {
+        return number == opcode::EXECUTION_MODE_ID;
+    }
     match number {
         opcode::MEMORY_MODEL
         | opcode::ENTRY_POINT
@@ -95,8 +98,7 @@ pub fn is_asked_more(number: u16) -> bool
         | opcode::TYPE_FLOAT
         | opcode::TYPE_VECTOR
         | opcode::TYPE_IMAGE
-        | opcode::TYPE_SAMPLER
-        | opcode::EXECUTION_MODE_ID => true,
+        | opcode::TYPE_SAMPLER => true,
         _ => false,
     }
 }

@@ -7,6 +7,7 @@ use Rattle.spv_module.specs.Operand.{Plain, OfType, Result, Id, Mask, PlainInst}
 use Rattle.spv_module.specs.declared.opcode.TheConstants as opcode
 use Rattle.spv_type_forms.specs.declared.form.Sort.{Sort}
 use Rattle.spv_type_forms.specs.Operands.{words_in, after_head, result_type_in}
+use Rattle.spv_type_forms.specs.Types.{IsData}
 use Rattle.spv_type_forms.specs.Values.{types_of}
 use Rattle.spv_conditions.specs.Further.{MayStand}
 use Rattle.spv_ops.specs.declared.common.Binary.{Binary as Ids}
@@ -17,7 +18,7 @@ use Rattle.spv_ops.specs.inner.Table.{first_of}
 use Rattle.spv_ops.specs.inner.Typed.{IsTypedIn}
 use Rattle.spv_ops.specs.inner.Wide.{binary_of}
 use Rattle.spv_ops.proofs.Parts.{iff_to, typed_by, binary_line, load_line, store_line, branch_line, binary_asks}
-use Rattle.spv_ops.proofs.Parts.{extended_line, extended_asks, load_asks, store_asks, branch_asks, combines_in, loads_in, stores_in, branches_in}
+use Rattle.spv_ops.proofs.Parts.{undef_line, undef_asks, extended_line, extended_asks, load_asks, store_asks, branch_asks, combines_in, loads_in, stores_in, branches_in}
 
 pub binary_typed : (is : List PlainInst) (n : ℕ) (i : PlainInst) (s : Sort) (ids : Ids) (holds : Bool) (os : List Plain)
     → i.operands ≡ os → first_of i.opcode ≡ binary_of s → binary_in os ≡ Some ids
@@ -122,5 +123,13 @@ pub extended_typed : (is : List PlainInst) (n : ℕ) (i : PlainInst) (holds : Bo
 extended_typed is n i holds o h =
     let line = extended_asks i.opcode o in
     let typed = typed_by is n i places.Nothing extended_line (result_type_in i.operands) (after_head i.operands)
+    line.0 line.1 refl refl in
+    iff_to h (iff_to (λ m. (m, tt), λ k. k.0) typed)
+
+pub undef_typed : (is : List PlainInst) (n : ℕ) (i : PlainInst) (holds : Bool) → first_of i.opcode ≡ opcode.UNDEF
+    → (IsTrue holds ↔ IsSomeAnd (result_type_in i.operands) (IsData is)) → IsTrue holds ↔ IsTypedIn is n i
+undef_typed is n i holds o h =
+    let line = undef_asks i.opcode o in
+    let typed = typed_by is n i places.Nothing undef_line (result_type_in i.operands) (after_head i.operands)
     line.0 line.1 refl refl in
     iff_to h (iff_to (λ m. (m, tt), λ k. k.0) typed)

@@ -152,6 +152,13 @@ branch_line = asks.Once (asked.Operands false 1) ∷ asks.Once (asked.Kind kind.
 abbrev pub extended_line : List Asks
 extended_line = asks.Once (asked.Rest beside.Extended) ∷ []
 
+abbrev pub undef_line : List Asks
+undef_line = asks.Once (asked.Kind kind.Data seat.Result) ∷ []
+
+pub undef_asks : (n : ℕ) → first_of n ≡ opcode.UNDEF → (places_of n ≡ places.Nothing) × (asks_of n ≡ undef_line)
+unfolding lines
+undef_asks n e = (places_first n opcode.UNDEF e, asks_first n opcode.UNDEF e)
+
 pub binary_asks : (n : ℕ) (s : Sort) → first_of n ≡ binary_of s
     → (places_of n ≡ places.Ids) × (asks_of n ≡ binary_line s)
 unfolding lines

@@ -255,6 +255,27 @@ fn branch_row_holds(definitions: &Definitions, number: u32, inst: &Inst) -> bool
     }
 }
 
+/// Whether there is a result type, and it is a data type.
+#[inline(always)]
+fn is_of_data(definitions: &Definitions, r: Option<u32>) -> bool
+    ensures { IsTrue result ↔ IsSomeAnd r (IsData definitions.now) }
+{
+    match r {
+        Some(r) => is_data(definitions, r),
+        None => false,
+    }
+}
+
+/// The same, where the opcode is that of OpUndef.
+#[inline(always)]
+fn undef_row_holds(definitions: &Definitions, number: u32, inst: &Inst) -> bool
+    requires number { number < length definitions.now }
+    requires undef { first_of (plain_inst inst.now).opcode ≡ the_opcode.UNDEF }
+    ensures { IsTrue result ↔ IsTypedIn definitions.now number (plain_inst inst.now) }
+{
+    is_of_data(definitions, result_type(inst.operands.as_slice()))
+}
+
 /// The same, where the opcode is that of OpExtInst.
 #[inline(always)]
 fn extended_row_holds(definitions: &Definitions, number: u32, inst: &Inst) -> bool
@@ -290,6 +311,7 @@ pub fn inst_holds(definitions: &Definitions, number: u32, inst: &Inst) -> bool
         opcode::STORE => store_row_holds(definitions, number, inst),
         opcode::BRANCH_CONDITIONAL => branch_row_holds(definitions, number, inst),
         opcode::EXT_INST => extended_row_holds(definitions, number, inst),
+        opcode::UNDEF => undef_row_holds(definitions, number, inst),
         opcode::VARIABLE => wide_row_holds(definitions, number, inst, opcode::VARIABLE),
         opcode::ACCESS_CHAIN => wide_row_holds(definitions, number, inst, opcode::ACCESS_CHAIN),
         opcode::PTR_ACCESS_CHAIN => {

@@ -4,7 +4,7 @@ use Rattle.std.proofs.Common.{List, [], Option, Some, None, option_and_then, ref
 use Rattle.std.proofs.Common.{get_or-set_same, get_or-set_other, arith}
 use Rattle.std.specs.Prelude.{slice_get, IsSome, IsSomeAnd}
 use Rattle.std.proofs.Math.ListN.{set, length-set, replicate}
-use Rattle.std.proofs.lemmas.Bool.{cases_eq, eq-eqb, ltb-true}
+use Rattle.std.proofs.lemmas.Bool.{cases_eq, eq-eqb, leb-true, ltb-true}
 use Rattle.std.proofs.lemmas.Option.{none-some, slice_get_within, slice_get-get_or, slice_get_read}
 use Rattle.std.proofs.lemmas.Option.{get_or_from_slice_get}
 use Rattle.spv_module.specs.declared.opcode.TheConstants as opcode
@@ -23,7 +23,7 @@ use Rattle.spv_type_forms.specs.inner.Tests.{is_int_form}
 use Rattle.spv_type_forms.specs.declared.meaning.Meaning.{Meaning}
 use Rattle.spv_type_forms.specs.declared.meaning.Meaning.TheVariants as meaning
 use Rattle.spv_type_forms.specs.inner.Meaning.{type_meant, typed_by, IsMeaningOf, IsValueOf, IsSaid, IsMeant, AreMeant}
-use Rattle.spv_type_forms.specs.inner.Meaning.{is_int, is_bool, is_data, is_of_sort, pointee_meant}
+use Rattle.spv_type_forms.specs.inner.Meaning.{is_int, is_bool, is_data, is_wide, is_of_sort, pointee_meant, IsWide}
 use Rattle.spv_type_forms.proofs.Lookups.{finds}
 
 -- an instruction is the definition of its result
@@ -114,6 +114,11 @@ int_meant is x _ h e = cc
 pub bool_meant : (is : List PlainInst) (x : ℕ) (m : Meaning) → IsMeant is x m → is_bool m ≡ true → IsBool is x
 bool_meant is x meaning.Bool h e = h.of_form (form.Scalar scalar.Bool) refl
 bool_meant is x _ h e = cc
+
+pub wide_meant : (is : List PlainInst) (x : ℕ) (m : Meaning) → IsMeant is x m → is_wide m ≡ true → IsWide is x
+wide_meant is x (meaning.Int w) h e = (w, inl (h.of_form (form.Scalar (scalar.Int w)) refl), leb-true 32 w e)
+wide_meant is x (meaning.Float w) h e = (w, inr (h.of_form (form.Scalar (scalar.Float w)) refl), leb-true 32 w e)
+wide_meant is x _ h e = cc
 
 pub sort_meant : (is : List PlainInst) (x : ℕ) (s : Sort) (m : Meaning) → IsMeant is x m → is_of_sort s m ≡ true
     → HasSort s is x

@@ -26,4 +26,6 @@ pub use operands::{after_head, after_result, has_words, id_count, result_type, w
 pub use parts::{Parts, count, length, parts_of};
 pub use reach::{leads_by_ints, reaches};
 pub use several::{all_pairs_of_type, all_pointees, fills, is_typed, stands_for_int};
-pub use types::{has_sort, is_bool, is_data, is_int, is_number, is_object, is_plain, points_to};
+pub use types::{
+    has_sort, is_bool, is_data, is_int, is_noted_wide, is_number, is_object, is_plain, points_to,
+};

@@ -146,7 +146,18 @@ impl Meaning {
         matches!(self, Meaning::Bool)
     }
 
-    /// Whether it is that of an int, a float or a bool.
+    /// Whether it is that of an int or a float of 32 bits or more.
+    #[inline(always)]
+    pub fn is_wide(self) -> bool
+        ensures { result ≡ spec.is_wide self }
+    {
+        match self {
+            Meaning::Int(width) | Meaning::Float(width) => 32 <= width,
+            _ => false,
+        }
+    }
+
+    /// Whether it is that of an int, a float or a bool, by the sort.
     #[inline(always)]
     pub fn is_of(self, sort: Sort) -> bool
         ensures { result ≡ spec.is_of_sort sort self }

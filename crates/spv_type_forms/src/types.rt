@@ -1,7 +1,8 @@
 //! What a type is.
 
-ghost use Rattle.std.specs.Prelude.{◌↔◌, Some, None, IsTrue};
+ghost use Rattle.std.specs.Prelude.{◌≡◌, ◌↔◌, Some, None, IsTrue};
 ghost use Rattle.spv_type_forms.specs.Form.{form_of};
+ghost use Rattle.spv_type_forms.specs.inner.Meaning.{IsWide};
 ghost use Rattle.spv_type_forms.specs.inner.Tests.{is_int_form};
 ghost use Rattle.spv_type_forms.specs.Types.{IsBool, IsSomeInt, IsNumber, PointsTo, IsData, IsObject, IsPlain, HasSort};
 
@@ -48,6 +49,14 @@ pub fn is_int(definitions: &Definitions, t: u32) -> bool
     ensures form { result ≡ is_int_form (form_of definitions.now t) }
 {
     definitions.meaning(t).is_int() || defined_int(definitions, t)
+}
+
+/// Whether it is noted of a type that it is an int or a float of 32 bits or more. Of some types nothing is noted.
+#[inline(always)]
+pub fn is_noted_wide(definitions: &Definitions, t: u32) -> bool
+    ensures { IsTrue result → IsWide definitions.now t }
+{
+    definitions.meaning(t).is_wide()
 }
 
 /// Whether a type is bool, by its definition.

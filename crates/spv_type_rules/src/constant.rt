@@ -5,7 +5,6 @@ ghost use Rattle.spv_module.specs.Width.{definition_of};
 ghost use Rattle.spv_type_forms.specs.Operands.{ids_in};
 ghost use Rattle.spv_type_forms.specs.Parts.{count_of};
 ghost use Rattle.spv_type_forms.specs.inner.Tests.{passes};
-ghost use Rattle.spv_type_forms.specs.Types.{IsBool};
 ghost use Rattle.spv_type_forms.specs.inner.Null.{AreNulls};
 ghost use Rattle.spv_layout.specs.Place.{AreFew};
 ghost use Rattle.spv_type_rules.specs.Constant as rules;
@@ -16,8 +15,8 @@ ghost use Rattle.spv_type_rules.specs.inner.Found as found;
 
 use spv_module::{Inst, Operand, opcode};
 use spv_type_forms::{
-    Definitions, Form, Nulls, Object, Scalar, after_head, count, id_count, is_object, parts_of,
-    type_in,
+    Definitions, Form, Nulls, Object, Scalar, after_head, count, id_count, is_bool, is_noted_wide,
+    is_object, parts_of, type_in,
 };
 use std::alloc::AllocError;
 
@@ -52,8 +51,17 @@ pub fn constant_of(number: u16) -> Option<Constant>
     }
 }
 
-/// Whether the bits of a number's low word from the width of its type up are 0.
+/// Whether the bits of a number's low word from the width of its type up are 0. Most types are as wide as a word.
+#[inline(always)]
 pub fn fits_width(definitions: &Definitions, r: u32, low: u32) -> bool
+    ensures { IsTrue result ↔ FitsWidth definitions.now r low }
+{
+    is_noted_wide(definitions, r) || fits_defined_width(definitions, r, low)
+}
+
+/// The same, by the definition of the type.
+#[inline(never)]
+fn fits_defined_width(definitions: &Definitions, r: u32, low: u32) -> bool
     ensures { IsTrue result ↔ FitsWidth definitions.now r low }
 {
     match definitions.form(r) {
@@ -133,15 +141,6 @@ fn are_constant_parts(definitions: &Definitions, spec: bool, r: u32, operands: &
     ensures { IsTrue result ↔ AreConstantParts definitions.now spec r (ids_in (plain_operands operands.now)) }
 {
     are_all_parts(definitions, spec, r, operands)
-}
-
-pub fn is_bool(definitions: &Definitions, r: u32) -> bool
-    ensures { IsTrue result ↔ IsBool definitions.now r }
-{
-    match definitions.form(r) {
-        Some(Form::Scalar(Scalar::Bool)) => true,
-        _ => false,
-    }
 }
 
 fn number_fits(definitions: &Definitions, r: u32, operands: &[Operand]) -> bool

@@ -17,7 +17,7 @@ mod rules;
 
 pub use alike::are_alike;
 pub use concern::{is_operation, is_silent};
-pub use constant::{Constant, constant_of, fits_width, is_bool, is_typed_part};
+pub use constant::{Constant, constant_of, fits_width, is_typed_part};
 pub use counted::next_count;
 pub use declaration::{
     Declaration, declaration_of, is_float_width, is_int_width, is_length, is_pointee,

@@ -1,6 +1,6 @@
 -- What is noted of ids. (For the code alone.)
-use Rattle.std.specs.Prelude.{◌≡◌, ◌≢◌, ℕ, List, Bool, true, false, Option, Some, None, IfSome, IsSome, IsSomeAnd}
-use Rattle.std.specs.Prelude.{nat_eq, if◌then◌else◌, slice_get}
+use Rattle.std.specs.Prelude.{◌≡◌, ◌≢◌, ◌≤◌, ◌⊎◌, ℕ, List, Bool, true, false, Option, Some, None, IfSome, IsSome, IsSomeAnd}
+use Rattle.std.specs.Prelude.{nat_eq, nat_le, if◌then◌else◌, slice_get}
 use Rattle.spv_module.specs.declared.opcode.TheConstants as opcode
 use Rattle.spv_module.specs.Operand.{PlainInst, type_in}
 use Rattle.spv_module.specs.Width.{definition_of}
@@ -12,7 +12,7 @@ use Rattle.spv_type_forms.specs.declared.meaning.Meaning.TheVariants as meaning
 use Rattle.spv_type_forms.specs.declared.form.Sort.{Sort}
 use Rattle.spv_type_forms.specs.declared.form.Sort.TheVariants as sort
 use Rattle.spv_type_forms.specs.Form.{form_in, form_of}
-use Rattle.spv_type_forms.specs.Types.{IsDataForm}
+use Rattle.spv_type_forms.specs.Types.{IsDataForm, IsInt, IsFloat}
 
 -- the type that a value is declared with
 abbrev pub type_meant : Meaning → Option ℕ
@@ -66,6 +66,15 @@ is_data meaning.Opaque = false
 is_data meaning.Function = false
 is_data (meaning.SampledImage i) = false
 is_data _ = true
+
+-- whether it is that of an int or a float of 32 bits or more; and such a type
+abbrev pub is_wide : Meaning → Bool
+is_wide (meaning.Int w) = nat_le 32 w
+is_wide (meaning.Float w) = nat_le 32 w
+is_wide _ = false
+
+abbrev pub IsWide : List PlainInst → ℕ → Type 0
+IsWide is t = (w : ℕ) × (IsInt is t w ⊎ IsFloat is t w) × (32 ≤ w)
 
 -- whether it is that of a scalar type of a sort
 abbrev pub is_of_sort : Sort → Meaning → Bool

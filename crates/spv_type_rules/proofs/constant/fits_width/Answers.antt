@@ -1,0 +1,1 @@
+use Rattle.spv_type_rules.proofs.constant.fits_width.Goals as goal
