@@ -22,7 +22,10 @@ use crate::types::operands::{low_in, normalized_in};
 use spv_evidence::{Condition, Evidence, Kind, Listed, defined_by, named_at, reads_within};
 use spv_ids::Ids;
 use spv_module::{Inst, Operand};
-use spv_type_forms::{Definitions, Form, Nulls, Object, after_head, count, id_count, is_bool, is_number, is_object, parts_of, type_in};
+use spv_type_forms::{
+    Definitions, Form, Nulls, Object, after_head, count, id_count, is_bool, is_number, is_object,
+    parts_of, type_in,
+};
 use spv_type_rules::{Constant, constant_of, fits_width, is_typed_part};
 use std::alloc::{AllocError, Global};
 

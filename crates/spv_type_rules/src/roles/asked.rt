@@ -1,6 +1,6 @@
 //! Which roles an instruction asks its ids to play, by its opcode.
 
-ghost use Rattle.std.specs.Prelude.{◌≡◌, false};
+ghost use Rattle.std.specs.Prelude.{◌≡◌, Some, IfSome, false};
 ghost use Rattle.spv_type_rules.specs.roles.inner.Asked as spec;
 
 use spv_layout::Role;
@@ -32,7 +32,7 @@ fn ask(first: Role, others: Role, masked: Role) -> Option<Asked>
 
 /// What `asked_of` answers of opcodes up to that of OpVariable.
 fn early(number: u16) -> Option<Asked>
-    ensures { result ≡ spec.early number }
+    ensures { IfSome result (λ a. spec.early number ≡ Some a) }
 {
     match number {
         // Composite constants and OpVariable: values.
@@ -60,9 +60,7 @@ fn early(number: u16) -> Option<Asked>
         opcode::EXECUTION_MODE => ask(Role::Function, Role::Any, Role::Any),
         // OpLine: a file.
         opcode::LINE => ask(Role::Text, Role::Text, Role::Text),
-        // OpExtInst: a set, and ids of which nothing is asked; those that are arguments are asked by themselves.
-        opcode::EXT_INST => ask(Role::Set, Role::Any, Role::Any),
-        opcode::SOURCE => None,
+        opcode::EXT_INST | opcode::SOURCE => None,
         _ => ask(Role::Any, Role::Any, Role::Any),
     }
 }
@@ -70,7 +68,7 @@ fn early(number: u16) -> Option<Asked>
 /// What `asked_of` answers of opcodes past that of OpVariable that are not between others.
 #[inline(always)]
 fn late(number: u16) -> Option<Asked>
-    ensures { result ≡ spec.late number }
+    ensures { IfSome result (λ a. spec.late number ≡ Some a) }
 {
     match number {
         // OpLabel and OpBranch, which are the most: nothing.
@@ -119,12 +117,13 @@ pub fn asks_values(number: u16) -> bool
 }
 
 /// The roles that an opcode's row of the table of shapes asks for, which a proof compares with the table: one `match`
-/// in place of a walk over the row's forms, since each instruction of a module asks. None for OpSource, OpPhi and those
-/// that take a function among values, whose ids are not told so. At opcodes that ask for values `asks_values` tells it.
+/// in place of a walk over the row's forms, since each instruction of a module asks. None for OpExtInst, OpSource, OpPhi
+/// and those that take a function among values, whose ids are not told so. At opcodes that ask for values `asks_values`
+/// tells it.
 #[inline(always)]
 pub fn asked_besides(number: u16) -> Option<Asked>
     requires { spec.asks_values number ≡ false }
-    ensures { result ≡ spec.asked_of number }
+    ensures { IfSome result (λ a. spec.asked_of number ≡ Some a) }
 {
     if number <= opcode::VARIABLE {
         early(number)

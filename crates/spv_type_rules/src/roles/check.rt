@@ -1,4 +1,4 @@
-ghost use Rattle.std.specs.Prelude.{◌≡◌, List, length};
+ghost use Rattle.std.specs.Prelude.{◌≡◌, ◌⊎◌, List, length};
 ghost use Rattle.std.specs.Prelude.{OnOk, IfErr, MatchBool};
 ghost use Rattle.spv_table.specs.Table.{Table};
 ghost use Rattle.spv_module.specs.Module.{plain_inst, plain_insts, plain_operand, plain_operands};
@@ -11,6 +11,7 @@ ghost use Rattle.spv_layout.specs.Shape.{FitsShape};
 ghost use Rattle.spv_layout.specs.declared.form.Role.TheVariants as due;
 ghost use Rattle.spv_type_rules.specs.roles.inner.Asked.{ArePlayed, IsOneMiscast};
 ghost use Rattle.spv_type_rules.specs.roles.Broken.{Broken};
+ghost use Rattle.spv_type_rules.specs.roles.Role.{Plays};
 ghost use Rattle.spv_type_rules.specs.roles.inner.Known as known;
 ghost use Rattle.spv_type_rules.specs.roles.inner.Known.{IsInRole, IsMiscast, AreInRoleBefore, HasMiscast};
 ghost use Rattle.spv_type_rules.specs.roles.Outcome.{AreInRole, IsRefusal};
@@ -18,7 +19,7 @@ ghost use Rattle.spv_type_rules.specs.roles.Outcome.{AreInRole, IsRefusal};
 use crate::roles::asked::{Asked, asked_besides, asks_values};
 use crate::roles::role::{are_type_and, are_values, defines_type, is_type_id, plays};
 use spv_layout::{Role, role};
-use spv_module::{Fault, Inst, Module, Operand, Rule};
+use spv_module::{Fault, Inst, Module, Operand, Rule, opcode};
 use spv_type_forms::Definitions;
 
 /// The id that an operand uses, if it is one other than a result, or than one that is named alone.
@@ -107,10 +108,10 @@ fn are_arguments_played(definitions: &Definitions<'_, '_>, operands: &[Operand<'
 {
     for operand in operands {
         match *operand {
-            Operand::OfType(id) => if !defines_type(definitions, id) {
+            Operand::OfType(t) => if !defines_type(definitions, t) {
                 return false;
             },
-            Operand::Argument(id) => if !plays(definitions, Role::Value, id) {
+            Operand::Argument(x) => if !plays(definitions, Role::Value, x) {
                 return false;
             },
             _ => {}
@@ -119,53 +120,64 @@ fn are_arguments_played(definitions: &Definitions<'_, '_>, operands: &[Operand<'
     true
 }
 
-/// Whether the result type of an extended instruction is a type, its set plays the role that is asked for, and its
-/// arguments are values.
-fn is_extended_played(
-    definitions: &Definitions<'_, '_>,
-    t: u32,
-    first: Role,
-    set: u32,
-    rest: &[Operand<'_>],
-) -> bool
-    ensures { MatchBool result (Plays definitions.now due.OfType t × Plays definitions.now first set
+/// Whether a type is a type, an id that of a set of extended instructions, and arguments are values.
+#[inline(always)]
+fn is_set_played(definitions: &Definitions<'_, '_>, t: u32, set: u32, rest: &[Operand<'_>]) -> bool
+    ensures { MatchBool result (Plays definitions.now due.OfType t × Plays definitions.now due.Set set
         × ArePlayed definitions.now due.Any due.Any due.Any (plain_operands rest.now))
-        (¬ (Plays definitions.now due.OfType t) ⊎ ¬ (Plays definitions.now first set)
+        (¬ (Plays definitions.now due.OfType t) ⊎ ¬ (Plays definitions.now due.Set set)
         ⊎ IsOneMiscast definitions.now due.Any due.Any due.Any (plain_operands rest.now)) }
 {
     if !is_type_id(definitions, t) {
         return false;
     }
-    if !plays(definitions, first, set) {
+    if !plays(definitions, Role::Set, set) {
         return false;
     }
     are_arguments_played(definitions, rest)
 }
 
-/// Whether types are types, and ids play the roles that are asked for. Extended instructions are looked at first.
-#[inline(never)]
-fn are_others_played(
-    definitions: &Definitions<'_, '_>,
-    asked: Asked,
-    operands: &[Operand<'_>],
-) -> bool
-    ensures { MatchBool result (ArePlayed definitions.now asked.first asked.others asked.masked
-        (plain_operands operands.now))
-        (IsOneMiscast definitions.now asked.first asked.others asked.masked (plain_operands operands.now)) }
+/// The roles that an extended instruction asks for: a set of them, and nothing of other ids.
+const SET: Asked = Asked {
+    first: Role::Set,
+    others: Role::Any,
+    masked: Role::Any,
+};
+
+/// Whether types are types, the first id is that of a set of extended instructions, and arguments are values.
+fn are_extended_played(definitions: &Definitions<'_, '_>, operands: &[Operand<'_>]) -> bool
+    ensures { MatchBool result (ArePlayed definitions.now due.Set due.Any due.Any (plain_operands operands.now))
+        (IsOneMiscast definitions.now due.Set due.Any due.Any (plain_operands operands.now)) }
 {
-    match (operands, asked.others, asked.masked) {
-        (
-            [Operand::OfType(t), Operand::Result(_), Operand::Id(set), rest @ ..],
-            Role::Any,
-            Role::Any,
-        ) => is_extended_played(definitions, *t, asked.first, *set, rest),
-        _ => each_played(definitions, asked, operands),
+    match operands {
+        [
+            Operand::OfType(t),
+            Operand::Result(_),
+            Operand::Id(set),
+            rest @ ..,
+        ] => is_set_played(definitions, *t, *set, rest),
+        _ => each_played(definitions, SET, operands),
+    }
+}
+
+/// Whether all uses of an instruction of which `asked_besides` tells nothing are in their roles. Extended instructions
+/// are looked at first.
+#[inline(never)]
+fn are_others_in_role(definitions: &Definitions<'_, '_>, inst: &Inst<'_>) -> bool
+    ensures { (G : Table) → FitsShape G (plain_inst inst.now)
+        → MatchBool result (AreInRoleBefore G definitions.now (plain_inst inst.now) (length inst.now.operands))
+        (HasMiscast G definitions.now (plain_inst inst.now)) }
+{
+    if inst.opcode == opcode::EXT_INST {
+        are_extended_played(definitions, inst.operands.as_slice())
+    } else {
+        each_in_role(definitions, inst)
     }
 }
 
 /// Whether types are types, and ids play the roles that are asked for. Names and decorations, of whose ids nothing is
-/// asked, are looked at first (a merge stands as they do), and types that are declared of one type or two: pointers and
-/// vectors, arrays, functions and structures.
+/// asked, are looked at first (a merge stands as they do), texts and opaque types, and types that are declared of one
+/// type or two: pointers and vectors, arrays, functions and structures.
 #[inline(always)]
 fn are_declared_played(
     definitions: &Definitions<'_, '_>,
@@ -179,6 +191,7 @@ fn are_declared_played(
     use Operand::{Id, Mask, Result, Text, Value, Word};
     match (operands, asked.first) {
         ([Id(_), Text(_) | Value { .. } | Mask { .. }], Role::Any) => true,
+        ([Result(_), Text(_)], _) => true,
         (
             [
                 Id(_),
@@ -198,7 +211,7 @@ fn are_declared_played(
             asked.others,
             *b,
         ),
-        _ => are_others_played(definitions, asked, operands),
+        _ => each_played(definitions, asked, operands),
     }
 }
 
@@ -334,7 +347,7 @@ fn are_in_role(definitions: &Definitions<'_, '_>, inst: &Inst<'_>) -> bool
     }
     match asked_besides(inst.opcode) {
         Some(asked) => are_few_played(definitions, asked, operands),
-        None => each_in_role(definitions, inst),
+        None => are_others_in_role(definitions, inst),
     }
 }
 

@@ -30,7 +30,7 @@ returns-in-Some c = λ G f.
     c.are_few_played.ensures
     in
     judged G is (plain_inst c.args.inst.now) a (length c.args.inst.now.operands) c.are_few_played.result
-    (sym c.asked_besides.ensures ∙ c.in-Some.is) f played
+    c.in-Some.ensures f played
 
 pub returns-then-uses_nothing : goal.returns-then-uses_nothing
 returns-then-uses_nothing c = λ G f.
