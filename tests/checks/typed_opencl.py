@@ -445,6 +445,11 @@ OTHERS = (
     ("321", ("i32: ptr5(st(i32,f32))", "i32: ptr7(bool)", "i32: ptr7(ptr5(event))"), ("i32: ptr7(event)", "i64: ptr5(i32)", "i32: i32", "i32: ptr0(opaque)")),
     ("328", ("barrier: i32",), ("barrier: i64", "i32: i32")),
     ("329", (": barrier =1/i32 =0/i32",), (": i32 =1/i32 =0/i32", ": barrier =1/i64 =0/i32", ": barrier =1/i32 =0/i8")),
+    (
+        "400",
+        ("st2(i32): st(i32)", "st(i32): st2(i32)", "arr3(st2(i32)): arr3(st(i32))", "st(st2(i32),i8): st(st(i32),i8)", "st2(ptr5(i8)): st(ptr5(i8))"),
+        ("st(i32): st(i32)", "st2(i64): st(i32)", "st2(i32,i32): st(i32)", "i32: i32", "arr2(st2(i32)): arr3(st(i32))", "arr3(i64): arr3(i32)", "st(i32): i32", "arr3(i32): st(i32)", "st(st2(i32),i8): st(st(i32),i16)"),
+    ),
     ("401 402", ("bool: ptr5(i8) ptr5(i8)",), ("bool: ptr5(i8) ptr7(i8)", "bool: i32 i32", "i32: ptr5(i8) ptr5(i8)")),
     ("403", ("i64: ptr5(i8) ptr5(i8)", "i32: ptr7(event) ptr7(event)"), ("f32: ptr5(i8) ptr5(i8)", "i64: ptr5(i8) ptr5(i16)", "i64: i64 i64")),
     (

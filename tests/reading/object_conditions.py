@@ -288,6 +288,10 @@ TABLE = {
         "its type is the sampled image type of the wanted one, an image type",
         lambda row, at, s, w: row.types.form(s) == SAMPLED_IMAGE and row.types.rest(s) == [w],
     ),
+    "Matches": (
+        "its type is another than the wanted one, and matches it",
+        lambda row, at, s, w: s != w and objects.matches(row.types, s, w),
+    ),
     "TexelPointer": (
         "its type is a pointer of the storage class Image to the sampled type of the images",
         of_images(lambda it, image, s: it.pointer(s) == [OF_IMAGE, image.sampled_type]),
@@ -403,7 +407,7 @@ WORDS = {words: name for name, (words, _) in TABLE.items()}
 HOLDS = {name: holds for name, (_, holds) in TABLE.items()}
 RELATIONS = (
     *("PairOf", "Across", "SampledImageOf", "TexelPointer", "Place", "IntCoordinate", "Coordinate"),
-    *("Extent", "Texel"),
+    *("Extent", "Texel", "Matches"),
 )
 
 PIPED = "q=Int32 s=Int32"
@@ -498,6 +502,7 @@ RULES = (
     ("350 352 355 358", f"r=Floats 3=Cluster q=ClusterSize {OF_GROUP}"),
     ("362-364", f"r=Bools 3=Cluster q=ClusterSize {OF_GROUP}"),
     ("366", f"r=Scalars q=Int,Constant {OF_GROUP}"),
+    ("400", "o=Matches:r"),
     ("401 402", "o=Pointer p=Same:o r=Bool"),
     ("403", "o=Pointer p=Same:o r=Int"),
     ("4450-4452", "r=Int p=Same:o o=Packed"),

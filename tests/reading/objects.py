@@ -70,6 +70,24 @@ def sampled_image_declared(types, rest):
     return types.form(rest[0]) == IMAGE and Image(types, rest[0]).dim not in (5, 6)
 
 
+def matches(types, one, other):
+    """Whether two types match: each pair of types is looked at once."""
+    seen, left = set(), [(one, other)]
+    while left:
+        pair = left.pop()
+        if pair[0] == pair[1] or pair in seen:
+            continue
+        seen.add(pair)
+        (first, second), forms = map(types.rest, pair), {types.form(it) for it in pair}
+        if forms == {ARRAY} and first[1] == second[1]:
+            left.append((first[0], second[0]))
+        elif forms == {STRUCT} and len(first) == len(second):
+            left += zip(first, second)
+        else:
+            return False
+    return True
+
+
 # Y2 of the types that it asks something of: the types, and what the declaration's operands hold.
 DECLARED = {IMAGE: image_declared, SAMPLED_IMAGE: sampled_image_declared}
 
@@ -483,6 +501,7 @@ OF_OPCODES = (
     ("350 352 355 358", lambda it: alike(it, (FLOAT,)) and it.is_cluster()),
     ("362-364", lambda it: alike(it, (BOOL,)) and it.is_cluster()),
     ("366", lambda it: alike(it, ANY) and it.is_form(it.p, INT) and it.is_constant(it.ids[1])),
+    ("400", lambda it: it.o != it.r and matches(it.types, it.o, it.r)),
     ("401 402", lambda it: it.o == it.p and it.is_form(it.o, POINTER) and it.is_form(it.r, BOOL)),
     ("403", lambda it: it.o == it.p and it.is_form(it.o, POINTER) and it.is_form(it.r, INT)),
     ("4450-4452", Row.is_dot),

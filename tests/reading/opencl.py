@@ -19,7 +19,7 @@ SHAPES = (
     ("332 5632", False, "a Decoration+"),
     ("5633", False, "a W Decoration+"),
     ("60", True, "T R v v v"),
-    ("69 100-102 104 106 107 116 118 119 154-160 204 205", True, "T R v"),
+    ("69 100-102 104 106 107 116 118 119 154-160 204 205 400", True, "T R v"),
     ("86 103 142 148-152 161-163", True, "T R v v"),
     ("88", True, "T R v v ImageOperands v*"),
     ("95 98", True, "T R v v [ImageOperands v*]"),

@@ -41,6 +41,7 @@ use Rattle.spv_type_forms.specs.Parts.{part_of, count_of}
 use Rattle.spv_type_forms.specs.Reach.{AreWithin}
 use Rattle.spv_ops.specs.Table.{conditions_of}
 use Rattle.spv_type_forms.specs.Values.{types_of}
+use Rattle.spv_type_forms.proofs.MatchesDecided.{matches_or_not}
 use Rattle.spv_ops.specs.Values.{values_of}
 use Rattle.spv_ops.specs.Typed.{Typed}
 use Rattle.spv_ops.specs.inner.Typed.{IsTypedIn}
@@ -176,6 +177,7 @@ relation_or_not is relation.Coordinate t u = both (numeric_or_not is t)
 relation_or_not is relation.Extent t u = both (has_sort is sort.Int t)
     (counts_or_not is extent_in (λ n m. n ≡ m) (λ n m. cases_eq n m) t u)
 relation_or_not is relation.Texel t u = texel_or_not is t u
+relation_or_not is relation.Matches t u = both (opposite (cases_eq t u)) (matches_or_not is t u)
 
 -- other conditions
 

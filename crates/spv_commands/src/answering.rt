@@ -23,6 +23,7 @@ fn answer_by(
     table: &Table,
     file: Result<Vec<u8>, Trouble>,
 ) -> Result<Reply, Trouble>
+    requires { ReadsGrammar command.now }
     ensures { (text : Option (List ℕ)) → IsTableOf text table.now
         → Answers command.now text (bytes_in file) (written_out result) (written_made result) (written_err result)
         (status_of result) }

@@ -16,7 +16,7 @@ ghost use Rattle.spv_scope.specs.Scope.{reach_of, taken};
 ghost use Rattle.spv_commands.specs.Assemble.{Assembles, HoldsModule, in_version, minor_asked, text_read};
 ghost use Rattle.spv_commands.specs.Output.{is_done, made_of, out_of};
 ghost use Rattle.spv_commands.specs.Show.{Shows};
-ghost use Rattle.spv_commands.specs.Task.{DoesTask, WritesGrammar, WritesRules};
+ghost use Rattle.spv_commands.specs.Task.{DoesTask, ReadsGrammar, WritesGrammar, WritesRules};
 ghost use Rattle.spv_commands.specs.Trace.{HasNoEntry, HasSeveral, Traces};
 ghost use Rattle.spv_commands.specs.inner.Assembly.{ComesTo};
 ghost use Rattle.spv_commands.specs.inner.Answered.{Gives, IsAnswerBy, IsUnreadAnswer, WhyNot};
@@ -481,6 +481,7 @@ pub fn reply_to(
     table: &Table,
     bytes: Vec<u8>,
 ) -> Result<Reply, Trouble>
+    requires reads { ReadsGrammar command.now }
     ensures does { IfOk result (IsAnswerBy command.now table.now bytes.items) }
     ensures why { IfErr result (WhyNot command.now table.now bytes.items) }
 {
@@ -510,7 +511,7 @@ pub fn reply_to(
             scope,
             ..
         } => viewed_as(alloc, table, View::Graph, *scope, *function, bytes),
-        Command::Rules { code, json } => ruled(alloc, *code, *json),
+        Command::Rules { .. } => unreachable!(),
         Command::Grammar { .. } => written(alloc, table),
     }
 }

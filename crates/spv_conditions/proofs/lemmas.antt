@@ -4,3 +4,4 @@ pub mod Paths
 pub mod Places
 pub mod Shares
 pub mod Listing
+pub mod Direct

@@ -1,6 +1,6 @@
 -- The blocks that instructions of device enqueue name: a function, a pointer to its captured data, and the size and the
 -- alignment of that. [3.49.21 OpEnqueueKernel; own: Y5]
-use Rattle.std.specs.Prelude.{◌≡◌, ◌⊎◌, ◌+◌, ℕ, List, [], ◌∷◌, Option, Some, None, nat_eq, if◌then◌else◌}
+use Rattle.std.specs.Prelude.{◌≡◌, ◌⊎◌, ◌+◌, ℕ, List, ◌∷◌, Option, Some, None, nat_eq, if◌then◌else◌}
 use Rattle.std.specs.Prelude.{option_and_then, slice_get, length, drop, IsSomeAnd}
 use Rattle.std.specs.List.{AllByRecursion}
 use Rattle.spv_module.specs.declared.opcode.TheConstants as opcode
@@ -8,7 +8,7 @@ use Rattle.spv_module.specs.Operand.{Plain, Id, PlainInst}
 use Rattle.spv_module.specs.Width.{definition_of}
 use Rattle.spv_type_forms.specs.declared.form.Form.TheVariants as form
 use Rattle.spv_type_forms.specs.Form.{form_of}
-use Rattle.spv_type_forms.specs.Operands.{after_head, ids_in}
+use Rattle.spv_type_forms.specs.Operands.{after_head}
 use Rattle.spv_type_forms.specs.Parts.{after_result}
 use Rattle.spv_type_forms.specs.Types.{IsPointer, IsSomeInt, pointee_in}
 

@@ -10,6 +10,7 @@ use Rattle.spv_type_forms.specs.declared.form.Scalar.TheVariants as scalar
 use Rattle.spv_type_forms.specs.declared.form.Sort.TheVariants as sort
 use Rattle.spv_type_forms.specs.Form.{form_of}
 use Rattle.spv_type_forms.specs.Parts.{AreParts}
+use Rattle.spv_type_forms.specs.Matches.{Matches}
 use Rattle.spv_type_forms.specs.Types.{components_of, IsInt, IsSomeInt, IsNumber, IsBool, IsMade, HasSort, IsVector}
 use Rattle.spv_type_forms.specs.Types.{IsPointer, PointsTo, IsData, IsPlain, IsObject, pointee_in, sort_of}
 use Rattle.spv_type_forms.specs.Objects.{pipe_access_of, IsSizeInt, IsSizeArray, IsRangeStruct, IsRange}
@@ -109,7 +110,7 @@ abbrev pub IsAcross : List PlainInst → ℕ → ℕ → Type 0
 IsAcross is t u = ((p q : ℕ) × IsPointer is t 4 p × IsPointer is u 5 q)
     ⊎ ((p q : ℕ) × IsPointer is t 5 p × IsPointer is u 4 q)
 
--- the type t stands to the type u in a relation [2.2.2, 3.49.6]
+-- the type t stands to the type u in a relation [2.2.2, 3.49.6, 3.49.8 OpCopyLogical]
 abbrev pub Agrees : List PlainInst → Relation → ℕ → ℕ → Type 0
 Agrees is relation.Same t u = t ≡ u
 Agrees is relation.SameCount t u = HasSameCount is t u
@@ -131,6 +132,7 @@ Agrees is relation.IntCoordinate t u = IsIntCoordinate is t u
 Agrees is relation.Coordinate t u = IsCoordinate is t u
 Agrees is relation.Extent t u = IsExtent is t u
 Agrees is relation.Texel t u = IsTexel is t u
+Agrees is relation.Matches t u = (t ≢ u) × Matches is t u
 
 -- there is a result type, or none [own]
 abbrev pub HasResult : Bool → Option ℕ → Type 0

@@ -2,7 +2,6 @@
 use Rattle.std.specs.Prelude.{◌≡◌, ◌⊎◌, ◌≤◌, ℕ, List, [], ◌∷◌, Option, Some, None, IsSomeAnd, MatchOption}
 use Rattle.std.specs.Prelude.{option_and_then, slice_get}
 use Rattle.spv_module.specs.Operand.{Plain, Id, Value, PlainInst}
-use Rattle.spv_module.specs.Width.{definition_of}
 use Rattle.spv_type_forms.specs.Definitions.{IsConstant}
 use Rattle.spv_type_forms.specs.declared.form.Scalar.TheVariants as scalar
 use Rattle.spv_type_forms.specs.declared.form.Form.{Form}

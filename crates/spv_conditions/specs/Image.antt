@@ -1,10 +1,8 @@
 -- What an image type says of its images, and what rows ask of types of images, of coordinates and of texels. [3.49.6
 -- OpTypeImage; 3.49.10; own: Y5]
-use Rattle.std.specs.Prelude.{◌≡◌, ◌⊎◌, ◌≤◌, ◌+◌, ℕ, List, ◌∷◌, Option, Some, None, nat_eq, if◌then◌else◌, IsSomeAnd}
+use Rattle.std.specs.Prelude.{◌≡◌, ◌⊎◌, ◌≤◌, ◌+◌, ℕ, List, Option, Some, None, nat_eq, if◌then◌else◌, IsSomeAnd}
 use Rattle.std.specs.Prelude.{option_and_then, option_map, Bool, not, nat_le, ◌&&◌, ◌||◌, IsTrue}
-use Rattle.spv_module.specs.declared.opcode.TheConstants as opcode
-use Rattle.spv_module.specs.Operand.{Plain, Result, Id, Word, Value, PlainInst}
-use Rattle.spv_module.specs.Width.{definition_of}
+use Rattle.spv_module.specs.Operand.{PlainInst}
 use Rattle.spv_type_forms.specs.declared.form.Form.{Form}
 use Rattle.spv_type_forms.specs.declared.form.Form.TheVariants as form
 use Rattle.spv_type_forms.specs.declared.form.Sort.TheVariants as sort

@@ -132,4 +132,6 @@ pub enum Relation {
     Extent,
     /// It has the components of the texels of the images of that type.
     Texel,
+    /// It is another type, which matches that one.
+    Matches,
 }

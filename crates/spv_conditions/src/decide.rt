@@ -5,9 +5,9 @@ ghost use Rattle.spv_module.specs.Module.{plain_inst};
 ghost use Rattle.spv_type_forms.specs.Types.{IsPointer, IsVector, PointsTo};
 ghost use Rattle.spv_conditions.specs.declared.condition.Kind.TheVariants as kind;
 ghost use Rattle.spv_conditions.specs.declared.condition.Relation.TheVariants as relation;
-ghost use Rattle.spv_conditions.specs.Asks.{HoldsOf};
 ghost use Rattle.spv_conditions.specs.Condition.{Agrees, HasOtherScalar, HasResult, HasSameBits, HasSameCount};
 ghost use Rattle.spv_conditions.specs.Condition.{IsChoice, IsNamedClass, IsOf, bits_of};
+ghost use Rattle.spv_conditions.specs.inner.Direct.{AgreesDirectly, HoldsDirectly};
 
 use crate::asked::Asked;
 use crate::condition::{Kind, Relation};
@@ -270,10 +270,10 @@ fn has_same_component(definitions: &Definitions, t: u32, u: u32) -> bool
     }
 }
 
-/// Whether a type stands to another in a relation.
+/// Whether a type stands to another in a relation, other than that it matches it.
 #[inline(always)]
 fn agrees(definitions: &Definitions, relation: Relation, t: u32, u: u32) -> bool
-    ensures { IsTrue result ↔ Agrees definitions.now relation t u }
+    ensures { IsTrue result ↔ AgreesDirectly definitions.now relation t u }
 {
     match relation {
         Relation::Same => t == u,
@@ -296,6 +296,8 @@ fn agrees(definitions: &Definitions, relation: Relation, t: u32, u: u32) -> bool
         Relation::Coordinate => is_coordinate(definitions, t, u),
         Relation::Extent => is_extent(definitions, t, u),
         Relation::Texel => is_texel(definitions, t, u),
+        // That a type matches another is told by numbers of all types, and not here.
+        Relation::Matches => false,
     }
 }
 
@@ -319,7 +321,7 @@ fn has_operands(r: Option<u32>, types: &[u32], there: bool, count: u32) -> bool
 }
 
 /// Whether a condition holds at the instruction of a number, of its result type, if it has one, and of the types of its
-/// value operands in order.
+/// value operands in order. That a type matches another is not decided here, and answered in the negative.
 #[inline(always)]
 pub fn holds(
     definitions: &Definitions,
@@ -330,7 +332,7 @@ pub fn holds(
     asked: Asked,
 ) -> bool
     requires { number < length definitions.now }
-    ensures { IsTrue result ↔ HoldsOf definitions.now number (plain_inst inst.now) r types.now asked }
+    ensures { IsTrue result ↔ HoldsDirectly definitions.now number (plain_inst inst.now) r types.now asked }
 {
     match asked {
         Asked::Operands {

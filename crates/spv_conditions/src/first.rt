@@ -3,12 +3,12 @@
 ghost use Rattle.std.specs.Prelude.{◌≡◌, ◌-◌, ◌<◌, length};
 ghost use Rattle.spv_module.specs.Module.{plain_inst};
 ghost use Rattle.spv_conditions.specs.Asks as spec;
-ghost use Rattle.spv_conditions.specs.Asks.{HoldsOf};
 ghost use Rattle.spv_conditions.specs.Chain.{first_index as first_spec};
 ghost use Rattle.spv_conditions.specs.declared.asked.Asked.TheVariants as asked;
 ghost use Rattle.spv_conditions.specs.declared.asked.Rest.TheVariants as rest;
 ghost use Rattle.spv_conditions.specs.declared.condition.Kind.TheVariants as kind;
 ghost use Rattle.spv_conditions.specs.declared.seat.Seat.TheVariants as seat;
+ghost use Rattle.spv_conditions.specs.inner.Direct.{HoldsDirectly};
 ghost use Rattle.spv_conditions.specs.inner.Failing.{IsFirstIn};
 
 use crate::asked::{Asked, Asks, Each, Rest};
@@ -45,7 +45,7 @@ fn first_of_each(
 ) -> Option<Asked>
     requires number { number < length definitions.now }
     requires few { length types.now < 4294967296 }
-    ensures { IsFirstIn (HoldsOf definitions.now number (plain_inst inst.now) r types.now)
+    ensures { IsFirstIn (HoldsDirectly definitions.now number (plain_inst inst.now) r types.now)
         (spec.each_from each 0 (length types.now)) result }
 {
     let count = types.len() as u32;
@@ -88,7 +88,7 @@ fn first_of_indexes(
     requires number { number < length definitions.now }
     requires few { length types.now < 4294967296 }
     ensures { let first = first_spec element in
-        IsFirstIn (HoldsOf definitions.now number (plain_inst inst.now) r types.now)
+        IsFirstIn (HoldsDirectly definitions.now number (plain_inst inst.now) r types.now)
         (spec.indexes_from element first (length types.now - first)) result }
 {
     let stops = stops_of(definitions, inst, types);
@@ -117,7 +117,7 @@ fn first_of(
 ) -> Option<Asked>
     requires number { number < length definitions.now }
     requires few { length types.now < 4294967296 }
-    ensures { IsFirstIn (HoldsOf definitions.now number (plain_inst inst.now) r types.now)
+    ensures { IsFirstIn (HoldsDirectly definitions.now number (plain_inst inst.now) r types.now)
         (spec.asked_by asks (length types.now)) result }
 {
     match asks {
@@ -136,7 +136,8 @@ fn first_of(
 }
 
 /// The first condition of a line of the table that does not hold at the instruction of a number, if one does not: of
-/// its result type, if it has one, and of the types of its value operands in order.
+/// its result type, if it has one, and of the types of its value operands in order. That a type matches another is not
+/// decided here, and counts as not holding.
 ///
 /// Time is linear in the operands and the conditions.
 pub fn first_failing(
@@ -149,7 +150,7 @@ pub fn first_failing(
 ) -> Option<Asked>
     requires number { number < length definitions.now }
     requires few { length types.now < 4294967296 }
-    ensures { IsFirstIn (HoldsOf definitions.now number (plain_inst inst.now) r types.now)
+    ensures { IsFirstIn (HoldsDirectly definitions.now number (plain_inst inst.now) r types.now)
         (spec.conditions_in line.now (length types.now)) result }
 {
     for k in 0..line.len() {

@@ -2,7 +2,7 @@
 
 ghost use Rattle.std.specs.Prelude.{◌≡◌, [], ◌∷◌, Some, None, IsSome, true, false};
 ghost use Rattle.spv_module.specs.Operand.{Id, Text, Value, Word};
-ghost use Rattle.spv_type_forms.specs.Example.{small, lone_variable, objects};
+ghost use Rattle.spv_type_forms.specs.Example.{small, lone_variable, objects, twins};
 ghost use Rattle.spv_conditions.specs.Block.{AreLocals, IsBlock, IsLocalSize};
 ghost use Rattle.spv_conditions.specs.Further.{after_enumerant, AreMembers, AreSome, IsGroup, IsSilent, IsText, IsVoid};
 ghost use Rattle.spv_conditions.specs.Image.{plane_in};
@@ -40,6 +40,9 @@ pub fn condition_examples()
     ensures no_width { ¬ (Agrees small OtherWidth 1 1) }
     ensures class { Agrees small SameClass 4 7 }
     ensures no_class { ¬ (Agrees small SameClass 4 16) }
+    // Two structs of one int, and one of them beside itself.
+    ensures matches { Agrees twins relation.Matches 2 3 }
+    ensures itself { ¬ (Agrees twins relation.Matches 2 2) }
     ensures named { IsNamedClass 5 }
     ensures generic { ¬ (IsNamedClass 8) }
     // Of an int and a float the first that is no int.

@@ -109,6 +109,7 @@ relation_text relation.IntCoordinate = codes "its type has an int for each coord
 relation_text relation.Coordinate = codes "its type has an int or a float for each coordinate of the images, or more"
 relation_text relation.Extent = codes "its type has an int for each number of the size of the images"
 relation_text relation.Texel = codes "its type has the components of the texels of the images"
+relation_text relation.Matches = codes "its type is another than the wanted one, and matches it"
 
 abbrev pub condition_text : Condition → List ℕ
 condition_text (condition.Kind k) = kind_text k

@@ -149,6 +149,7 @@ fn relation_words(relation: Relation) -> &'static str
         }
         Relation::Extent => "its type has an int for each number of the size of the images",
         Relation::Texel => "its type has the components of the texels of the images",
+        Relation::Matches => "its type is another than the wanted one, and matches it",
     }
 }
 

@@ -339,6 +339,7 @@ macro_rules! table {
             GROUP_NON_UNIFORM_I_ADD to GROUP_NON_UNIFORM_LOGICAL_XOR:
                 Body [T, R, v, kind GroupOperation, v] maybe[v] opencl;
             GROUP_NON_UNIFORM_QUAD_BROADCAST to GROUP_NON_UNIFORM_QUAD_SWAP: Body [T, R, v, v, v] closed opencl;
+            COPY_LOGICAL: Body [T, R, v] closed opencl;
             PTR_EQUAL to PTR_DIFF: Body [T, R, v, v] closed opencl;
             S_DOT to SU_DOT: Body [T, R, v, v] maybe[kind PackedVectorFormat] opencl;
             S_DOT_ACC_SAT to SU_DOT_ACC_SAT: Body [T, R, v, v, v] maybe[kind PackedVectorFormat] opencl;
@@ -423,14 +424,14 @@ pub type Line = (
 );
 
 /// The table as definitions read it.
-pub static TABLE: [Line; 175] = table!(lines);
+pub static TABLE: [Line; 176] = table!(lines);
 
 /// The table as the code reads it.
-static ROWS: [Row; 175] = table!(rows);
+static ROWS: [Row; 176] = table!(rows);
 
 /// How many rows are found by number. The opcodes of those behind them are higher than all that have a number. Written
 /// by `tests/rows-of-opcodes`.
-const NUMBERED: usize = 171;
+const NUMBERED: usize = 172;
 
 /// For each opcode of these rows up to the last one the number of its row, or 255 where it has none. Written by
 /// `tests/rows-of-opcodes`.
@@ -454,7 +455,7 @@ static NUMBERS: [u8; 404] = [
     161, 162, 163, 163, 163, 164, 165, 166, 166, 167, 167, 167, 167, 168, 168, 168, 168, 168, 168,
     168, 168, 168, 168, 168, 168, 168, 168, 168, 168, 169, 169, 255, 255, 255, 255, 255, 255, 255,
     255, 255, 255, 255, 255, 255, 255, 255, 255, 255, 255, 255, 255, 255, 255, 255, 255, 255, 255,
-    255, 255, 255, 255, 255, 255, 255, 255, 170, 170, 170,
+    255, 255, 255, 255, 255, 255, 255, 170, 171, 171, 171,
 ];
 
 /// The row that a list of numbers names for an opcode, if it names one.

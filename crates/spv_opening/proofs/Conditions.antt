@@ -15,7 +15,6 @@ use Rattle.spv_type_forms.specs.declared.form.Form.TheVariants as form
 use Rattle.spv_type_forms.specs.declared.form.Scalar.TheVariants as scalar
 use Rattle.spv_type_forms.specs.declared.form.Sort.{Sort}
 use Rattle.spv_type_forms.specs.declared.form.Sort.TheVariants as sort
-use Rattle.spv_type_forms.specs.declared.form.Object.{Object}
 use Rattle.spv_type_forms.specs.declared.form.Components.{Components}
 use Rattle.spv_type_forms.specs.declared.objects.Image.{Image}
 use Rattle.spv_type_forms.specs.Form.{form_of}
@@ -46,11 +45,11 @@ use Rattle.spv_conditions.specs.declared.asked.Texels.{Texels}
 use Rattle.spv_conditions.specs.declared.asked.Texels.TheVariants as texels
 use Rattle.spv_conditions.specs.Image.{has_images, behind_in, image_behind, plane_in, places_in, extent_in, IsImage}
 use Rattle.spv_conditions.specs.Image.{IsSampled, Counts, IsNumeric, component_in, component_of, IsOfSampledType}
-use Rattle.spv_conditions.specs.Image.{IsTexel, IsTexelPointer}
+use Rattle.spv_conditions.specs.Image.{IsTexelPointer}
 use Rattle.spv_conditions.specs.Texels.{has_bit, mask_in, before_of, grad_at, offset_at, sample_at, Where, IsSampleFit}
 use Rattle.spv_conditions.specs.Texels.{IsSignFit, IsLod, IsPlane, IsAt, AreGrad, IsOffset, AreImageOperands}
 use Rattle.spv_conditions.specs.Group.{enumerant_in, all_ids_in, IsConstantAt, IsClusterSize, int_width_in}
-use Rattle.spv_conditions.specs.Group.{int_width_of, part_width_in, part_width_of, IsNoWider, IsPacked}
+use Rattle.spv_conditions.specs.Group.{int_width_of, part_width_in, part_width_of, IsPacked}
 use Rattle.spv_conditions.specs.Further.{after_enumerant, AreSome, IsIntConstant, IsLasting, IsGroup, IsNoGroup, IsMember}
 use Rattle.spv_conditions.specs.Further.{AreMembers, is_silent, set_name_in, set_name_of, IsSilent, IsVoid, MayStand}
 use Rattle.spv_conditions.specs.Rest.{AreSeveral, IsShareAt, AreFilling, AreCounted, IsPartAt, RestHolds}
@@ -60,6 +59,7 @@ use Rattle.spv_conditions.specs.Asks.{HoldsOf}
 use Rattle.spv_ops.specs.Table.{lines, conditions_of}
 use Rattle.spv_ops.specs.Typed.{IsTyped}
 use Rattle.spv_opening.proofs.Alike.{Alike, AlikeOption, alike_opened, back, definitions, told_same}
+use Rattle.spv_opening.proofs.Matching.{matches_alike}
 use Rattle.spv_opening.proofs.Spots.{section, of_function, of_block}
 use Rattle.spv_opening.proofs.Types.{of_definition, opcode_of_definition, and_then, mapped, forms, types, constants}
 use Rattle.spv_opening.proofs.Types.{array_lengths, members, parts, counts, are_parts, components, are_within, images}
@@ -280,6 +280,7 @@ relations is js a relation.Coordinate t u (s, c) =
 relations is js a relation.Extent t u (s, c) =
     (has_sort is js a _ t s, image_counts extent_in (λ n m. n ≡ m) is js a t u c)
 relations is js a relation.Texel t u (s, c) = (numeric is js a t s, of_sampled_type is js a t u c)
+relations is js a relation.Matches t u (n, m) = (n, matches_alike is js a t u m)
 
 -- Ways of indexes.
 

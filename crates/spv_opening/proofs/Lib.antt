@@ -7,5 +7,6 @@ pub mod Flow
 pub mod Calls
 pub mod Capable
 pub mod Types
+pub mod Matching
 pub mod Conditions
 pub mod Rules

@@ -39,13 +39,12 @@ use Rattle.spv_type_rules.specs.roles.Role.{Plays}
 use Rattle.spv_type_rules.specs.Declaration.{IsSampledType, IsSoundImage, IsSampled}
 use Rattle.spv_type_forms.specs.declared.objects.Image.{Image}
 use Rattle.spv_type_forms.specs.Objects.{image_in}
-use Rattle.spv_type_forms.specs.Null.{IsEarlier, LacksNull}
-use Rattle.spv_ids.specs.Definition.{IsDefinedAt}
-use Rattle.spv_ids.specs.Outcome.{IsOnly}
-use Rattle.spv_opening.proofs.Alike.{Alike, AlikeOption, Looks, alike_opened, back, definitions, looks_opened}
+use Rattle.spv_type_forms.specs.Null.{LacksNull}
+use Rattle.spv_opening.proofs.Alike.{Alike, AlikeOption, Looks, alike_opened, back, definitions}
 use Rattle.spv_opening.proofs.Alike.{looks_same, other_at, same_at, told_same}
 use Rattle.spv_opening.proofs.Conditions.{on_some, all_by, match_option, is_data, typed, typed_call}
 use Rattle.spv_opening.proofs.Flow.{there}
+use Rattle.spv_opening.proofs.Matching.{earlier_alike}
 use Rattle.spv_opening.proofs.Spots.{of_function}
 use Rattle.spv_opening.proofs.Types.{of_definition, opcode_of_definition, and_then, forms, types, types_of_all}
 use Rattle.spv_opening.proofs.Types.{array_lengths, are_parts, images, parts, is_global}
@@ -150,26 +149,6 @@ constant_parts is js a spec r xs (p, t) = (
 )
 
 -- Types without a null value.
-
-defined_alike : (is js : List PlainInst) → Alike is js → (x n : ℕ) → IsDefinedAt is x n → IsDefinedAt js x n
-defined_alike is js a x n d =
-    let o = other_at is js a n d.inst d.there in
-    record { inst = o.inst; there = o.there; result = sym o.looks.result ∙ d.result }
-
-one_alike : (is js : List PlainInst) → Alike is js → (x n : ℕ) → IsOnly is x n → IsOnly js x n
-one_alike is js a x n o = record {
-  there = defined_alike is js a x n o.there;
-  only = λ k d. o.only k (defined_alike js is (back is js a) x k d);
-}
-
-earlier_alike : (is js : List PlainInst) → Alike is js → (u t : ℕ) → IsEarlier is u t → IsEarlier js u t
-earlier_alike is js a u t e = record {
-  place = e.place;
-  later = e.later;
-  before = e.before;
-  one = one_alike is js a u e.place e.one;
-  next = one_alike is js a t e.later e.next;
-}
 
 lacks : (is js : List PlainInst) → Alike is js → (t : ℕ) → LacksNull is t → LacksNull js t
 lacks is js a _ (LacksNull.itself t o f y) = LacksNull.itself t o (sym (forms is js a t) ∙ f) y

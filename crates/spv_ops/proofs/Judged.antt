@@ -26,6 +26,7 @@ free_or places.Initializers = inr (λ e. cc)
 free_or places.Around = inr (λ e. cc)
 free_or (places.Beside k) = inr (λ e. cc)
 free_or places.Enqueued = inr (λ e. cc)
+free_or places.Copied = inr (λ e. cc)
 
 pub some_and : (P : List ℕ → Type 0) (o : Option (List ℕ)) → IsSomeAnd o P ↔ ((ts : List ℕ) × (o ≡ Some ts) × P ts)
 some_and P None = (λ n. absurd n, λ a. none-some a.0 a.1)

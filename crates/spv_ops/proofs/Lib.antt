@@ -8,6 +8,7 @@ pub mod Constructed
 pub mod Parts
 pub mod ValuePlaces
 pub mod Enqueued
+pub mod Copying
 pub mod Judged
 mod Worked
 mod CommonRows

@@ -19,7 +19,7 @@ behind (x ∷ xs) ys (suc k) h =
 first_length : length TABLE ≡ 46
 first_length = refl
 
-further_length : length FURTHER ≡ 35
+further_length : length FURTHER ≡ 36
 further_length = refl
 
 pub first_part : (k : ℕ) → k < 46 → slice_get lines k ≡ slice_get TABLE k
@@ -32,15 +32,15 @@ past_first k h =
     let e = first_length in
     behind TABLE (FURTHER ++ OBJECTS) k (omega (arith, e, h)) ∙ ap (λ m. slice_get (FURTHER ++ OBJECTS) (k - m)) e
 
-pub further_part : (k : ℕ) → 46 ≤ k → k < 81 → slice_get lines k ≡ slice_get FURTHER (k - 46)
+pub further_part : (k : ℕ) → 46 ≤ k → k < 82 → slice_get lines k ≡ slice_get FURTHER (k - 46)
 further_part k h l =
     let e = further_length in
     past_first k h ∙ in_front FURTHER OBJECTS (k - 46) (omega (arith, e, h, l))
 
-pub last_part : (k : ℕ) → 81 ≤ k → slice_get lines k ≡ slice_get OBJECTS (k - 81)
+pub last_part : (k : ℕ) → 82 ≤ k → slice_get lines k ≡ slice_get OBJECTS (k - 82)
 last_part k h =
     let e = further_length in
     let low : 46 ≤ k = omega (arith, h) in
-    let less : (k - 46) - 35 ≡ k - 81 = omega (arith, h) in
+    let less : (k - 46) - 36 ≡ k - 82 = omega (arith, h) in
     past_first k low ∙ behind FURTHER OBJECTS (k - 46) (omega (arith, e, h))
     ∙ ap (λ m. slice_get OBJECTS ((k - 46) - m)) e ∙ ap (slice_get OBJECTS) less

@@ -8,12 +8,16 @@ use Rattle.std.proofs.lemmas.Option.{slice_get_past, none-some}
 use Rattle.spv_module.specs.declared.opcode.TheConstants as opcode
 use Rattle.spv_type_forms.proofs.Opcodes.{both, and_yes, all_from, one_from}
 use Rattle.spv_conditions.specs.declared.asked.Asks.{Asks}
+use Rattle.spv_conditions.specs.inner.Direct.{are_direct}
 use Rattle.spv_ops.specs.declared.table.Places.{Places}
 use Rattle.spv_ops.specs.declared.table.Places.TheVariants as places
 use Rattle.spv_ops.specs.declared.table.TheConstants.{NUMBERS}
 use Rattle.spv_ops.specs.Table.{Line, lines, is_among, line_in, line_of, places_of, asks_of}
 use Rattle.spv_ops.specs.inner.Table.{first_from, first_of, numbered_at}
-use Rattle.spv_ops.specs.inner.Wide.{is_counted}
+use Rattle.spv_ops.specs.inner.Typed.{IsUncopied}
+use Rattle.spv_type_forms.specs.declared.form.Sort.{Sort}
+use Rattle.spv_type_forms.specs.declared.form.Sort.TheVariants as sort
+use Rattle.spv_ops.specs.inner.Wide.{binary_of, is_counted}
 
 -- What is found by numbers.
 
@@ -253,6 +257,7 @@ is_right places.Many first line =
     || nat_eq first opcode.COMPOSITE_CONSTRUCT)
 is_right places.Pairs first line = nat_eq first opcode.PHI
 is_right places.Initializers first line = nat_eq first opcode.VARIABLE
+is_right places.Copied first line = nat_eq first opcode.COPY_LOGICAL
 is_right _ first line = true
 
 abbrev is_line : ℕ → Bool
@@ -320,3 +325,47 @@ initializers_first n e = let h : is_right (places_of n) (first_of n) (asks_of n)
 pub enqueued_first : (n : ℕ) → places_of n ≡ places.Enqueued → first_of n ≡ opcode.ENQUEUE_KERNEL
 enqueued_first n e = let h : is_right (places_of n) (first_of n) (asks_of n) ≡ true = right n in
     eqb-true (first_of n) opcode.ENQUEUE_KERNEL (rw e at h)
+
+pub copied_first : (n : ℕ) → places_of n ≡ places.Copied → first_of n ≡ opcode.COPY_LOGICAL
+copied_first n e = let h : is_right (places_of n) (first_of n) (asks_of n) ≡ true = right n in
+    eqb-true (first_of n) opcode.COPY_LOGICAL (rw e at h)
+
+-- No line but that of OpCopyLogical asks that types match.
+
+abbrev is_told : Places → List Asks → Bool
+is_told places.Copied line = true
+is_told _ line = are_direct line
+
+abbrev is_told_at : ℕ → Bool
+is_told_at k = is_told (places_of (opcode_at k)) (asks_of (opcode_at k))
+
+all_told : all_from is_told_at 0 count ≡ true
+unfolding count lines
+all_told = refl
+
+told_at_place : (k : ℕ) → k < 412 → is_told (places_of (opcode_at k)) (asks_of (opcode_at k)) ≡ true
+told_at_place k h =
+    let low : k < count = rw counts h in
+    one_from is_told_at count 0 k all_told (omega arith) (omega (arith, low))
+
+told : (n : ℕ) → is_told (places_of n) (asks_of n) ≡ true
+told n = elim (placed n) [
+  | inl h ↦ subst (λ m. is_told (places_of m) (asks_of m) ≡ true) h.1 (told_at_place (numbered_at n) h.0)
+  | inr h ↦ subst (λ (l : Line). is_told l.1 l.2.now ≡ true) (sym (late_line n h)) refl
+]
+
+by_places : (p : Places) (line : List Asks) → is_told p line ≡ true → IsUncopied p → are_direct line ≡ true
+by_places places.Copied line h u = absurd u
+by_places p line h u = h
+
+pub direct : (n : ℕ) → IsUncopied (places_of n) → are_direct (asks_of n) ≡ true
+direct n u = by_places (places_of n) (asks_of n) (told n) u
+
+pub uncopied_first : (n m : ℕ) → first_of n ≡ m → IsUncopied (places_of m) → IsUncopied (places_of n)
+uncopied_first n m e u = subst IsUncopied (sym (places_first n m e)) u
+
+pub binary_uncopied : (s : Sort) → IsUncopied (places_of (binary_of s))
+unfolding lines
+binary_uncopied sort.Int = tt
+binary_uncopied sort.Float = tt
+binary_uncopied sort.Bool = tt

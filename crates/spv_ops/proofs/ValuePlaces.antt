@@ -644,6 +644,7 @@ agrees places.Many fs e = is_plain fs e
 agrees places.Around fs e = are_around fs && is_around_ending e
 agrees (places.Beside k) fs e = is_beside k fs e
 agrees places.Enqueued fs e = is_beside 6 fs e
+agrees places.Copied fs e = is_plain fs e
 
 agreed : (G : Table) (r : Places) (fs gs : List Form) (e : RowEnding) (os : List Plain) → agrees r fs e ≡ true
     → Ends e gs → AreOf G (fs ++ gs) os
@@ -662,6 +663,7 @@ agreed G places.Around fs gs e os h n a =
     around_used G (fs ++ gs) os (around_append fs gs two.0 (around_ending e gs two.1 n)) a
 agreed G (places.Beside k) fs gs e os h n a = beside_used G k k 0 fs gs e os (omega arith) h n a
 agreed G places.Enqueued fs gs e os h n a = beside_used G 6 6 0 fs gs e os (omega arith) h n a
+agreed G places.Copied fs gs e os h n a = plain_used G fs gs e os h n a
 
 -- The forms without the type and the result: where a row has these first, or has a value first.
 abbrev is_type : Form → Bool
@@ -804,6 +806,7 @@ freed places.Many b h n = h
 freed places.Around b h n = h
 freed (places.Beside k) b h n = h
 freed places.Enqueued b h n = h
+freed places.Copied b h n = h
 
 -- The code's places of value operands are those of the instruction's forms.
 pub values_agree : (G : Table) (i : PlainInst) (fs : List Form) → HasForms G i fs → places_of i.opcode ≢ places.Free

@@ -5,7 +5,7 @@ use Rattle.spv_conditions.specs.Variable.{initializers_in}
 use Rattle.spv_conditions.specs.Group.{all_ids_in}
 use Rattle.spv_ops.specs.declared.table.Places.{Places}
 use Rattle.spv_ops.specs.declared.table.Places.TheVariants.{Free, Nothing, Ids, Many, One, Pairs, Initializers, Around}
-use Rattle.spv_ops.specs.declared.table.Places.TheVariants.{Beside, Enqueued}
+use Rattle.spv_ops.specs.declared.table.Places.TheVariants.{Beside, Enqueued, Copied}
 use Rattle.spv_ops.specs.Table.{places_of}
 use Rattle.spv_type_forms.specs.Operands.{ids_in, after_head}
 use Rattle.spv_type_forms.specs.Values.{paired_ids_in}
@@ -27,6 +27,7 @@ value_ids Initializers os = initializers_in os
 value_ids Around os = all_ids_in os
 value_ids (Beside k) os = others_from k 0 (ids_in os)
 value_ids Enqueued os = others_from 6 0 (ids_in os)
+value_ids Copied os = ids_in os
 
 -- in an instruction, by its opcode [own: Y5]
 abbrev pub values_of : PlainInst → List ℕ

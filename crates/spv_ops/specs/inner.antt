@@ -8,3 +8,4 @@ pub mod Chain
 pub mod Declares
 pub mod Wide
 pub mod Enqueue
+pub mod Copy

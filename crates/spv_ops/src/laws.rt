@@ -6,7 +6,7 @@ ghost use Rattle.spv_module.specs.Operand.{Id, PlainInst, Word};
 ghost use Rattle.spv_module.specs.Example.{small as table};
 ghost use Rattle.spv_module.specs.declared.opcode.TheConstants as opcode;
 ghost use Rattle.spv_layout.specs.Shape.{FitsShape};
-ghost use Rattle.spv_type_forms.specs.Example.{inst, small};
+ghost use Rattle.spv_type_forms.specs.Example.{inst, small, twins};
 ghost use Rattle.spv_type_forms.specs.Form.{form_of};
 ghost use Rattle.spv_type_forms.specs.Operands.{ids_in, after_head};
 ghost use Rattle.spv_type_forms.specs.Values.{AreValues, types_of};
@@ -236,6 +236,9 @@ pub fn group_examples()
     ensures named { ¬ (LineHolds small 8 label opcode.GENERIC_PTR_MEM_SEMANTICS (Some 1) (4 ∷ [])) }
     ensures same { LineHolds small 8 label opcode.PTR_EQUAL (Some 12) (4 ∷ 4 ∷ []) }
     ensures other_class { ¬ (LineHolds small 8 label opcode.PTR_EQUAL (Some 12) (4 ∷ 16 ∷ [])) }
+    // Two structs of one int, and one of them beside itself.
+    ensures copy { LineHolds twins 8 label opcode.COPY_LOGICAL (Some 3) (2 ∷ []) }
+    ensures itself { ¬ (LineHolds twins 8 label opcode.COPY_LOGICAL (Some 2) (2 ∷ [])) }
     ensures difference { LineHolds small 8 label opcode.PTR_DIFF (Some 14) (4 ∷ 4 ∷ []) }
     ensures no_difference { ¬ (LineHolds small 8 label opcode.PTR_DIFF (Some 12) (4 ∷ 4 ∷ [])) }
     ensures flag { LineHolds small 8 label opcode.ATOMIC_FLAG_TEST_AND_SET (Some 12) (17 ∷ 1 ∷ 1 ∷ []) }

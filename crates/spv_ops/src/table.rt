@@ -1,7 +1,8 @@
 //! The table of types.
 
-ghost use Rattle.std.specs.Prelude.{◌≡◌, ◌<◌, ◌↔◌, IsTrue, length, map, slice_get};
+ghost use Rattle.std.specs.Prelude.{◌≡◌, ◌<◌, ◌↔◌, IsTrue, length, map, slice_get, true};
 ghost use Rattle.spv_module.specs.Module.{plain_inst};
+ghost use Rattle.spv_conditions.specs.inner.Direct.{are_direct};
 ghost use Rattle.spv_ops.specs.Table as spec;
 ghost use Rattle.spv_ops.specs.Typed.{LineHolds};
 ghost use Rattle.spv_ops.specs.inner.Table.{asked_by, first_from, first_of, found_by, line, line_number};
@@ -37,6 +38,8 @@ pub enum Places {
     Beside(u8),
     /// They are the ids at the front but for the seventh, a function's, any number.
     Enqueued,
+    /// They are the ids at the front, of a copy: whether types match is told by numbers of all types.
+    Copied,
 }
 
 /// A line of the table as the code reads it: opcodes, each from one to another, where their value operands stand, and
@@ -112,6 +115,7 @@ macro_rules! places {
     (around) => { Places::Around };
     (beside $k:tt) => { Places::Beside(number!($k)) };
     (enqueued) => { Places::Enqueued };
+    (copied) => { Places::Copied };
 }
 
 /// The last opcode of some.
@@ -240,6 +244,7 @@ macro_rules! further {
                 GROUP_NON_UNIFORM_LOGICAL_AND to GROUP_NON_UNIFORM_LOGICAL_XOR by around:
                     [Cluster] [o is Int32] [r is Bools] [p Same r] [ClusterSize];
                 GROUP_NON_UNIFORM_QUAD_SWAP: [gives 3] [o is Int32] [r is Scalars] [p Same r] [q is Int] [constant q];
+                COPY_LOGICAL by copied: [gives 1] [o Matches r];
                 PTR_EQUAL to PTR_NOT_EQUAL: [gives 2] [o is Pointer] [p Same o] [r is Bool];
                 PTR_DIFF: [gives 2] [o is Pointer] [p Same o] [r is Int];
                 S_DOT to SU_DOT: [gives 2] [r is Int] [p Same o] [Packed];
@@ -381,14 +386,14 @@ macro_rules! firsts {
 /// The table as definitions read it, and its two further parts.
 pub static TABLE: [Line; 46] = table!(lines);
 
-pub static FURTHER: [Line; 35] = further!(lines);
+pub static FURTHER: [Line; 36] = further!(lines);
 
 pub static OBJECTS: [Line; 49] = objects!(lines);
 
 /// The same as the code reads them.
 static ENTRIES: [Entry; 46] = table!(entries);
 
-static FURTHER_ENTRIES: [Entry; 35] = further!(entries);
+static FURTHER_ENTRIES: [Entry; 36] = further!(entries);
 
 static OBJECT_ENTRIES: [Entry; 49] = objects!(entries);
 
@@ -398,26 +403,26 @@ static FIRSTS: [u16; 46] = table!(firsts);
 /// For each opcode up to 403, and then for 4450 to 4455, 5632 and 5633, the number of its line, from 0, or 255 where it
 /// has none. Written by `tests/rows-of-opcodes`.
 static NUMBERS: [u8; 412] = [
-    255, 0, 255, 255, 255, 255, 255, 255, 255, 255, 255, 255, 81, 255, 255, 255, 255, 255, 255,
+    255, 0, 255, 255, 255, 255, 255, 255, 255, 255, 255, 255, 82, 255, 255, 255, 255, 255, 255,
     255, 255, 255, 255, 255, 255, 255, 255, 255, 255, 255, 255, 255, 255, 255, 255, 255, 255, 255,
     255, 255, 255, 255, 255, 255, 255, 255, 255, 255, 255, 255, 255, 255, 255, 255, 255, 255, 255,
-    255, 255, 41, 82, 1, 2, 3, 4, 42, 42, 43, 255, 46, 43, 255, 255, 255, 83, 84, 255, 5, 6, 7, 44,
-    8, 9, 10, 255, 255, 85, 255, 86, 255, 255, 255, 255, 255, 255, 87, 255, 255, 88, 89, 90, 91,
-    91, 92, 93, 255, 94, 95, 255, 11, 11, 12, 12, 13, 13, 14, 47, 15, 48, 48, 16, 17, 18, 49, 19,
+    255, 255, 41, 83, 1, 2, 3, 4, 42, 42, 43, 255, 46, 43, 255, 255, 255, 84, 85, 255, 5, 6, 7, 44,
+    8, 9, 10, 255, 255, 86, 255, 87, 255, 255, 255, 255, 255, 255, 88, 255, 255, 89, 90, 91, 92,
+    92, 93, 94, 255, 95, 96, 255, 11, 11, 12, 12, 13, 13, 14, 47, 15, 48, 48, 16, 17, 18, 49, 19,
     255, 20, 21, 23, 24, 23, 24, 23, 24, 23, 23, 24, 23, 23, 23, 24, 24, 50, 255, 255, 255, 255,
     255, 51, 52, 52, 52, 52, 255, 53, 53, 54, 54, 54, 54, 54, 28, 28, 28, 25, 25, 25, 25, 22, 26,
     27, 27, 27, 27, 27, 27, 27, 27, 27, 27, 28, 28, 28, 28, 28, 28, 28, 28, 28, 28, 28, 28, 255,
     255, 29, 29, 29, 23, 23, 23, 20, 55, 56, 56, 20, 48, 255, 255, 255, 255, 255, 255, 255, 255,
     255, 255, 255, 255, 255, 255, 255, 255, 255, 255, 30, 31, 255, 32, 33, 34, 35, 35, 36, 36, 37,
     37, 37, 37, 37, 37, 37, 37, 37, 255, 255, 45, 255, 255, 255, 255, 38, 39, 255, 255, 255, 255,
-    40, 40, 255, 96, 97, 57, 57, 58, 59, 60, 60, 59, 59, 60, 59, 59, 255, 255, 98, 99, 100, 101,
-    102, 103, 104, 105, 106, 107, 107, 108, 109, 110, 111, 255, 255, 112, 113, 114, 114, 115, 115,
-    116, 116, 117, 118, 119, 120, 121, 122, 255, 255, 255, 255, 255, 255, 255, 255, 255, 255, 255,
-    255, 255, 61, 62, 255, 63, 255, 255, 123, 124, 115, 255, 125, 126, 255, 127, 128, 64, 57, 57,
+    40, 40, 255, 97, 98, 57, 57, 58, 59, 60, 60, 59, 59, 60, 59, 59, 255, 255, 99, 100, 101, 102,
+    103, 104, 105, 106, 107, 108, 108, 109, 110, 111, 112, 255, 255, 113, 114, 115, 115, 116, 116,
+    117, 117, 118, 119, 120, 121, 122, 123, 255, 255, 255, 255, 255, 255, 255, 255, 255, 255, 255,
+    255, 255, 61, 62, 255, 63, 255, 255, 124, 125, 116, 255, 126, 127, 255, 128, 129, 64, 57, 57,
     65, 66, 67, 68, 69, 70, 71, 72, 72, 66, 66, 66, 66, 73, 74, 73, 74, 73, 73, 74, 73, 73, 74, 73,
     73, 73, 75, 75, 75, 66, 76, 255, 255, 255, 255, 255, 255, 255, 255, 255, 255, 255, 255, 255,
     255, 255, 255, 255, 255, 255, 255, 255, 255, 255, 255, 255, 255, 255, 255, 255, 255, 255, 255,
-    255, 255, 77, 77, 78, 79, 79, 79, 80, 80, 80, 129, 129,
+    255, 77, 78, 78, 79, 80, 80, 80, 81, 81, 81, 130, 130,
 ];
 
 /// What the table tells of an opcode.
@@ -521,10 +526,10 @@ fn found_at(number: usize) -> Found
 {
     if number < 46 {
         found_first(number)
-    } else if number < 81 {
+    } else if number < 82 {
         found_further(number - 46)
     } else {
-        found_object(number - 81)
+        found_object(number - 82)
     }
 }
 
@@ -587,10 +592,10 @@ fn asked_at(number: usize) -> &'static [Asks]
 {
     if number < 46 {
         asked_first(number)
-    } else if number < 81 {
+    } else if number < 82 {
         asked_further(number - 46)
     } else {
-        asked_object(number - 81)
+        asked_object(number - 82)
     }
 }
 
@@ -612,6 +617,7 @@ fn all_hold(
 ) -> bool
     requires number { number < length definitions.now }
     requires few { length types.now < 4294967296 }
+    requires direct { are_direct (spec.asks_of opcode) ≡ true }
     ensures { IsTrue result ↔ LineHolds definitions.now number (plain_inst inst.now) opcode r types.now }
 {
     match first_failing(definitions, number, inst, r, types, asks_of(opcode)) {
@@ -648,6 +654,7 @@ pub fn line_holds(
 ) -> bool
     requires number { number < length definitions.now }
     requires few { length types.now < 4294967296 }
+    requires direct { are_direct (spec.asks_of opcode) ≡ true }
     ensures { IsTrue result ↔ LineHolds definitions.now number (plain_inst inst.now) opcode r types.now }
 {
     table!(decided opcode definitions number inst r types)

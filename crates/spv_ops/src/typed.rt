@@ -5,7 +5,8 @@ ghost use Rattle.spv_module.specs.declared.opcode.TheConstants as the_opcode;
 ghost use Rattle.spv_type_forms.specs.Types.{IsData};
 ghost use Rattle.spv_type_forms.specs.Values.{types_of, paired_ids_in};
 ghost use Rattle.spv_ops.specs.inner.Table.{first_of};
-ghost use Rattle.spv_ops.specs.inner.Typed.{IsTypedBy, IsTypedIn};
+ghost use Rattle.spv_conditions.specs.inner.Direct.{are_direct};
+ghost use Rattle.spv_ops.specs.inner.Typed.{IsTypedBy, IsTypedIn, IsUncopied};
 ghost use Rattle.spv_ops.specs.inner.Wide.{IsWidePlace, AreSame, IsWide, binary_of, is_counted};
 ghost use Rattle.spv_ops.specs.declared.table.Places.TheVariants.{Around, Beside, Ids, One};
 ghost use Rattle.spv_ops.specs.Table.{asks_of, places_of};
@@ -38,6 +39,7 @@ fn gathered_holds(
 ) -> bool
     requires number { number < length definitions.now }
     requires counted { is_counted (asks_of opcode) ≡ true }
+    requires direct { are_direct (asks_of opcode) ≡ true }
     ensures { IsTrue result ↔ IsTypedBy definitions.now number (plain_inst inst.now) Ids (asks_of opcode) r
         (plain_operands operands.now) }
 {
@@ -59,6 +61,7 @@ fn around_holds(
 ) -> bool
     requires number { number < length definitions.now }
     requires counted { is_counted (asks_of opcode) ≡ true }
+    requires direct { are_direct (asks_of opcode) ≡ true }
     ensures { IsTrue result ↔ IsTypedBy definitions.now number (plain_inst inst.now) Around (asks_of opcode) r
         (plain_operands operands.now) }
 {
@@ -81,6 +84,7 @@ fn beside_holds(
 ) -> bool
     requires number { number < length definitions.now }
     requires counted { is_counted (asks_of opcode) ≡ true }
+    requires direct { are_direct (asks_of opcode) ≡ true }
     ensures { IsTrue result ↔ IsTypedBy definitions.now number (plain_inst inst.now) (Beside skip) (asks_of opcode) r
         (plain_operands operands.now) }
 {
@@ -101,6 +105,7 @@ fn one_holds(
     operands: &[Operand],
 ) -> bool
     requires number { number < length definitions.now }
+    requires direct { are_direct (asks_of opcode) ≡ true }
     ensures { IsTrue result ↔ IsTypedBy definitions.now number (plain_inst inst.now) One (asks_of opcode) r
         (plain_operands operands.now) }
 {
@@ -167,13 +172,15 @@ fn wide_row_holds(definitions: &Definitions, number: u32, inst: &Inst, first: u1
 }
 
 /// Whether what an instruction's opcode asks, if anything, holds of its result type, the types that its value operands
-/// are declared with, and its literals, by what the table tells of the opcode.
+/// are declared with, and its literals, by what the table tells of the opcode. Of a copy it is false.
 #[inline(always)]
 fn found_holds(definitions: &Definitions, number: u32, inst: &Inst, found: Found) -> bool
     requires number { number < length definitions.now }
     requires first { found.first ≡ first_of (plain_inst inst.now).opcode }
     requires places { found.places ≡ places_of (plain_inst inst.now).opcode }
-    ensures { IsTrue result ↔ IsTypedIn definitions.now number (plain_inst inst.now) }
+    ensures sound { IsTrue result → IsTypedIn definitions.now number (plain_inst inst.now) }
+    ensures complete { IsUncopied (places_of (plain_inst inst.now).opcode)
+        → IsTypedIn definitions.now number (plain_inst inst.now) → IsTrue result }
 {
     let operands = inst.operands.as_slice();
     let rest = after_head(operands);
@@ -187,6 +194,7 @@ fn found_holds(definitions: &Definitions, number: u32, inst: &Inst, found: Found
             beside_holds(definitions, number, inst, found.first, r, rest, skip)
         }
         Places::One => one_holds(definitions, number, inst, found.first, r, rest),
+        Places::Copied => false,
         Places::Many | Places::Pairs | Places::Initializers | Places::Enqueued => {
             wide_row_holds(definitions, number, inst, found.first)
         }
@@ -198,7 +206,9 @@ fn found_holds(definitions: &Definitions, number: u32, inst: &Inst, found: Found
 #[inline(never)]
 fn row_holds(definitions: &Definitions, number: u32, inst: &Inst) -> bool
     requires { number < length definitions.now }
-    ensures { IsTrue result ↔ IsTypedIn definitions.now number (plain_inst inst.now) }
+    ensures sound { IsTrue result → IsTypedIn definitions.now number (plain_inst inst.now) }
+    ensures complete { IsUncopied (places_of (plain_inst inst.now).opcode)
+        → IsTypedIn definitions.now number (plain_inst inst.now) → IsTrue result }
 {
     found_holds(definitions, number, inst, look_up(inst.opcode))
 }
@@ -296,10 +306,13 @@ fn extended_row_holds(definitions: &Definitions, number: u32, inst: &Inst) -> bo
 }
 
 /// Whether what an instruction's opcode asks, if anything, holds of its result type, the types that its value operands
-/// are declared with, and its literals. The lines that most instructions have are looked at first.
+/// are declared with, and its literals; of a copy whose type is to match another it is false, and `copy_holds` tells
+/// it. The lines that most instructions have are looked at first.
 pub fn inst_holds(definitions: &Definitions, number: u32, inst: &Inst) -> bool
     requires { number < length definitions.now }
-    ensures { IsTrue result ↔ IsTypedIn definitions.now number (plain_inst inst.now) }
+    ensures sound { IsTrue result → IsTypedIn definitions.now number (plain_inst inst.now) }
+    ensures complete { IsUncopied (places_of (plain_inst inst.now).opcode)
+        → IsTypedIn definitions.now number (plain_inst inst.now) → IsTrue result }
 {
     match first_opcode(inst.opcode) {
         // No line speaks of it.

@@ -54,6 +54,7 @@ fn reply_on<S: Source>(
     table: &Table,
     file: &mut S,
 ) -> Result<Reply, Trouble>
+    requires reads { ReadsGrammar command.now }
     ensures does { IfSome (S.remaining file.old) (λ bytes. IfOk result (GivesBoth (Does command.now table.now) bytes)) }
     ensures nothing { MakesNothing command.now → IfOk result (λ a. made_of a ≡ []) }
     ensures count { HasFailed S.failures file.old file.new ↔ IsErrOf result File }
@@ -76,6 +77,7 @@ fn done_by<S: Source, W: Sink, O: Sink>(
     out: &mut W,
     made: &mut O,
 ) -> Result<bool, Trouble>
+    requires reads { ReadsGrammar command.now }
     ensures ends { EndsByTable command.now table.now (reading S.remaining S.failures file.old file.new)
         (writing W.contents W.failures out.old out.new) (writing O.contents O.failures made.old made.new) result }
     ensures nothing { MakesNothing command.now → made.new ≡ made.old }
@@ -95,6 +97,7 @@ fn done_by_text<S: Source, W: Sink, O: Sink>(
     out: &mut W,
     made: &mut O,
 ) -> Result<bool, Trouble>
+    requires reads { ReadsGrammar command.now }
     ensures ends { EndsByText command.now (option_map (λ g. g.now) grammar.entry)
         (reading S.remaining S.failures file.old file.new) (writing W.contents W.failures out.old out.new)
         (writing O.contents O.failures made.old made.new) result }

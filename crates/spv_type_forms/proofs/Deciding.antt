@@ -1,5 +1,5 @@
 -- Whether a type has no null value, decided.
-use Rattle.std.proofs.Common.{◌≡◌, ◌<◌, ◌≤◌, ◌∙◌, ◌⊎◌, ◌↔◌, ℕ, zero, suc, List, [], ◌∷◌, Option, Some, None}
+use Rattle.std.proofs.Common.{◌≡◌, ◌<◌, ◌∙◌, ◌⊎◌, ◌↔◌, ℕ, zero, suc, List, Option, Some, None}
 use Rattle.std.proofs.Common.{Bool, true, false}
 use Rattle.std.proofs.Common.{refl, sym, ap, subst, inl, inr, length, arith, option_and_then}
 use Rattle.std.specs.Prelude.{IsTrue, slice_get, option_map}
@@ -11,14 +11,13 @@ use Rattle.spv_ids.specs.Definition.{IsDefinedAt}
 use Rattle.spv_ids.specs.Outcome.{IsOnly}
 use Rattle.spv_type_forms.specs.declared.form.Form.{Form}
 use Rattle.spv_type_forms.specs.declared.form.Form.TheVariants as form
-use Rattle.spv_type_forms.specs.declared.form.Object.{Object}
 use Rattle.spv_type_forms.specs.Form.{form_in, form_of}
-use Rattle.spv_type_forms.specs.Parts.{part_of, members_of, id_in, after_result}
-use Rattle.spv_type_forms.specs.Null.{lacks_null, IsEarlier, LacksNull}
+use Rattle.spv_type_forms.specs.Parts.{members_of, id_in, after_result}
+use Rattle.spv_type_forms.specs.Null.{lacks_null, LacksNull}
 use Rattle.spv_type_forms.specs.inner.Null.{LacksBefore, MemberLacks, OneLacks}
 use Rattle.spv_type_forms.proofs.Lacking.{of_object, of_array, of_struct, of_others, may_lack}
 
-abbrev Is : Type 0 → Type 0
+abbrev pub Is : Type 0 → Type 0
 Is P = P ⊎ (P → ⊥)
 
 -- some number below another for which it is so, or none
@@ -63,7 +62,7 @@ another_or_not is x m k = elim (defined_or_not is x k) [
 ]
 
 -- the one place where an id is defined, if there is one
-one_place : (is : List PlainInst) (x : ℕ) → ((m : ℕ) × IsOnly is x m) ⊎ ((m : ℕ) → IsOnly is x m → ⊥)
+pub one_place : (is : List PlainInst) (x : ℕ) → ((m : ℕ) × IsOnly is x m) ⊎ ((m : ℕ) → IsOnly is x m → ⊥)
 one_place is x = elim (search_below (IsDefinedAt is x) (defined_or_not is x) (length is)) [
   | inr none ↦ inr (λ m o. none m (within is x m o.there) o.there)
   | inl s ↦ elim (search_below (λ k. IsDefinedAt is x k × (k ≡ s.0 → ⊥)) (another_or_not is x s.0) (length is)) [
@@ -124,7 +123,7 @@ one_or_not is m ms d =
     ]
 
 -- a struct type has members
-members_there : (is : List PlainInst) (t : ℕ) → form_of is t ≡ Some form.Struct
+pub members_there : (is : List PlainInst) (t : ℕ) → form_of is t ≡ Some form.Struct
     → (ms : List Plain) × (members_of is t ≡ Some ms)
 members_there is t f = by (definition_of is t) refl f where
   by : (o : Option PlainInst) → definition_of is t ≡ o → option_and_then form_in o ≡ Some form.Struct

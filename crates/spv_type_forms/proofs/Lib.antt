@@ -7,4 +7,8 @@ pub mod Worked
 pub mod Meanings
 pub mod Ranges
 pub mod Lacking
+pub mod Numbering
+pub mod Matched
 pub mod Deciding
+pub mod MatchesDecided
+pub mod Twins

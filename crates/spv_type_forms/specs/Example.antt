@@ -57,3 +57,15 @@ objects =
 -- %1 = OpTypePipe WriteOnly, and %2 = OpTypeArray %1 %3; what the length is does not matter
 abbrev pub pipes : List PlainInst
 pipes = inst opcode.TYPE_PIPE (Result 1 ∷ Value 7 1 ∷ []) ∷ inst opcode.TYPE_ARRAY (Result 2 ∷ Id 1 ∷ Id 3 ∷ []) ∷ []
+
+-- structs of one int that are declared twice, arrays of them, and a struct of two ints; what the length of the arrays
+-- is does not matter
+abbrev pub twins : List PlainInst
+twins =
+    inst opcode.TYPE_INT (Result 1 ∷ Word 32 ∷ Word 0 ∷ []) ∷  -- %1 = OpTypeInt 32 0
+    inst opcode.TYPE_STRUCT (Result 2 ∷ Id 1 ∷ []) ∷  -- %2 = OpTypeStruct %1
+    inst opcode.TYPE_STRUCT (Result 3 ∷ Id 1 ∷ []) ∷  -- %3 = OpTypeStruct %1
+    inst opcode.TYPE_ARRAY (Result 4 ∷ Id 2 ∷ Id 9 ∷ []) ∷  -- %4 = OpTypeArray %2 %9
+    inst opcode.TYPE_ARRAY (Result 5 ∷ Id 3 ∷ Id 9 ∷ []) ∷  -- %5 = OpTypeArray %3 %9
+    inst opcode.TYPE_STRUCT (Result 6 ∷ Id 1 ∷ Id 1 ∷ []) ∷  -- %6 = OpTypeStruct %1 %1
+    []

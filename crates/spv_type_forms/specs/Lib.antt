@@ -7,5 +7,6 @@ pub mod Values
 pub mod Definitions
 pub mod Objects
 pub mod Null
+pub mod Matches
 pub mod Example
 pub mod inner

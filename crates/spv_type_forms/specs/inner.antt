@@ -8,3 +8,4 @@ pub mod Reach
 pub mod Types
 pub mod Meaning
 pub mod Null
+pub mod Matching

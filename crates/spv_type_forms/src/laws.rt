@@ -13,10 +13,11 @@ ghost use Rattle.spv_type_forms.specs.declared.form.Object.TheVariants as object
 ghost use Rattle.spv_type_forms.specs.Objects.{image_of, pipe_access_of, IsSizeInt, IsSizeArray};
 ghost use Rattle.spv_type_forms.specs.Objects.{IsRangeStruct, IsRange};
 ghost use Rattle.spv_type_forms.specs.Null.{IsNullable};
+ghost use Rattle.spv_type_forms.specs.Matches.{Matches};
 ghost use Rattle.spv_type_forms.specs.Parts.{AreParts};
 ghost use Rattle.spv_type_forms.specs.Definitions.{IsConstant, IsGlobal};
 ghost use Rattle.spv_type_forms.specs.Values.{types_of};
-ghost use Rattle.spv_type_forms.specs.Example.{small, lone_variable, objects, pipes};
+ghost use Rattle.spv_type_forms.specs.Example.{small, lone_variable, objects, pipes, twins};
 ghost use Rattle.spv_type_forms.specs.inner.Walk.{walk, choices};
 
 /// By a list of indexes a type reaches at most one type.
@@ -165,4 +166,15 @@ pub fn null_examples()
     ensures pipe { ¬ (IsNullable pipes 1) }
     ensures pipes { ¬ (IsNullable pipes 2) }
     ensures no_data { ¬ (IsNullable objects 5) }
+{}
+
+/// Types of another small module: `%1` is an int; `%2` and `%3` are structs of one `%1`, `%6` one of two; `%4` and `%5`
+/// are arrays of `%2` and of `%3`, of one length.
+pub fn match_examples()
+    ensures structs { Matches twins 2 3 }
+    ensures arrays { Matches twins 4 5 }
+    ensures one { Matches twins 1 1 }
+    ensures more_members { ¬ (Matches twins 2 6) }
+    ensures no_struct { ¬ (Matches twins 4 6) }
+    ensures member { ¬ (Matches twins 1 2) }
 {}

@@ -5,6 +5,7 @@ mod definitions;
 mod form;
 mod gathering;
 mod laws;
+mod matching;
 mod meaning;
 mod nulls;
 mod objects;
@@ -17,6 +18,7 @@ mod types;
 pub use definitions::{DECLARATIONS, Definitions, is_constant, is_constant_opcode, type_in};
 pub use form::{Components, Form, Object, Scalar, Sort, form_in};
 pub use gathering::{MOST, gather};
+pub use matching::Matching;
 pub use meaning::Meaning;
 pub use nulls::Nulls;
 pub use objects::{

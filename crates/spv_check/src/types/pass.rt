@@ -10,9 +10,9 @@ ghost use Rattle.spv_check.specs.inner.Pass.{AreKept, IsFirstFault};
 
 use spv_capabilities::Entries;
 use spv_module::{Inst, Rule};
-use spv_ops::inst_holds;
+use spv_ops::operation_holds;
 use spv_table::Memory;
-use spv_type_forms::Nulls;
+use spv_type_forms::{Matching, Nulls};
 use spv_type_rules::{Known, Rules, Seen, is_operation, is_silent, next_count};
 use std::alloc::Global;
 
@@ -43,6 +43,7 @@ pub fn first_fault<'a>(
 {
     let mut seen = Seen::new(alloc, insts)?;
     let mut nulls = Nulls::new(alloc);
+    let mut matching = Matching::new(alloc);
     let mut parameters = 0;
     for n in 0..insts.len() as u32 {
         let inst = &insts[n as usize];
@@ -51,7 +52,7 @@ pub fn first_fault<'a>(
         }
         // Of the rules Y2 to Y8 only Y5 speaks of an operation.
         if is_operation(inst.opcode) {
-            if !inst_holds(rules.definitions(), n, inst) {
+            if !operation_holds(alloc, rules.definitions(), &mut matching, n, inst)? {
                 return Ok(Some(Found {
                     rule: Rule::Y5,
                     inst: n,

@@ -76,9 +76,9 @@ pub fn label(inst: &Inst<'_>, n: usize) -> Option<u32>
 fn is_id_at(operands: &[Operand<'_>], n: usize, id: u32) -> bool
     ensures { IsTrue result → option_and_then shape.id_of (slice_get (map plain_operand operands.now) n) ≡ Some id }
 {
-    match id_in(operands, n) {
-        Some(found) => found == id,
-        None => false,
+    match operands.get(n) {
+        Some(Operand::Id(found)) => *found == id,
+        _ => false,
     }
 }
 

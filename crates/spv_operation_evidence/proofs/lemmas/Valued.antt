@@ -22,7 +22,7 @@ use Rattle.spv_type_forms.specs.Operands.{result_type_in}
 use Rattle.spv_ops.specs.Typed.{IsTyped}
 use Rattle.spv_type_forms.specs.Values.{types_of, value_in, used_in}
 use Rattle.spv_evidence.specs.declared.evidence.Evidence.TheVariants as evidence
-use Rattle.spv_ops.specs.Table.{asks_of, conditions_of}
+use Rattle.spv_ops.specs.Table.{asks_of, conditions_of, places_of}
 use Rattle.spv_conditions.specs.declared.asked.Asked.{Asked}
 use Rattle.spv_conditions.specs.declared.asked.Asks.{Asks}
 use Rattle.spv_evidence.specs.declared.values.Value.{Value}
@@ -31,6 +31,10 @@ use Rattle.spv_evidence.specs.Values.{types_in}
 use Rattle.spv_operation_evidence.specs.Beside.{condition_in, operand_in, wanted_in, found_in, read_in}
 use Rattle.spv_conditions.specs.Condition.{FailsFirst}
 use Rattle.spv_conditions.specs.Asks.{HoldsOf, conditions_in}
+use Rattle.spv_conditions.specs.inner.Direct.{HoldsDirectly, are_direct}
+use Rattle.spv_conditions.proofs.lemmas.Direct.{all_directly, fails_at_last, fails_of_line}
+use Rattle.spv_ops.proofs.Copying.{copied_asks, copied_or, copy_line}
+use Rattle.spv_ops.proofs.Rows.{direct}
 use Rattle.spv_operation_evidence.specs.Evidence.{AreTyped, HoldsAt, Shows}
 use Rattle.spv_operation_evidence.specs.inner.Values.{is_value, IsValueAt, IsTypeable, AreSoFar}
 
@@ -252,18 +256,38 @@ value_typed G is i k x t l told none =
 
 pub all_break : (G : Table) (is : List PlainInst) (n : ℕ) (i : PlainInst) (r : Option ℕ) (vs : List Value) (ts : List ℕ)
     (line : List Asks) → r ≡ result_type_in i.operands → ts ≡ types_in vs → line ≡ asks_of i.opcode → AreTyped G is i vs
-    → AllByRecursion (HoldsOf is n i r ts) (conditions_in line (length ts)) → IsTyped G is n i
+    → AllByRecursion (HoldsDirectly is n i r ts) (conditions_in line (length ts)) → IsTyped G is n i
 all_break G is n i r vs ts line e f g a h =
-    inr (map (λ (w : Value). w.id) vs, types_in vs, a.values, a.types, rw (e, f, g) at h)
+    let held = all_directly is n i r ts (conditions_in line (length ts)) h in
+    inr (map (λ (w : Value). w.id) vs, types_in vs, a.values, a.types, rw (e, f, g) at held)
+
+-- the first condition that fails where it is looked at directly fails
+first_fails : (is : List PlainInst) (n : ℕ) (i : PlainInst) (r : Option ℕ) (ts : List ℕ) (line : List Asks) (a : Asked)
+    → line ≡ asks_of i.opcode → (AllByRecursion (HoldsOf is n i r ts) (conditions_in line (length ts)) → ⊥)
+    → FailsFirst (HoldsDirectly is n i r ts) (conditions_in line (length ts)) a
+    → FailsFirst (HoldsOf is n i r ts) (conditions_in line (length ts)) a
+first_fails is n i r ts line a e never f = elim (copied_or (places_of i.opcode)) [
+  | inl copied ↦
+      let same : copy_line ≡ line = sym (copied_asks i.opcode copied) ∙ sym e in
+      let P = λ (l : List Asks). FailsFirst (HoldsDirectly is n i r ts) (conditions_in l (length ts)) a in
+      let none = subst (λ l. AllByRecursion (HoldsOf is n i r ts) (conditions_in l (length ts)) → ⊥) (sym same) never in
+      subst (λ l. FailsFirst (HoldsOf is n i r ts) (conditions_in l (length ts)) a) same
+      (fails_at_last is n i r ts _ _ a refl none (subst P (sym same) f))
+  | inr u ↦ fails_of_line is n i r ts line (length ts) a (ap are_direct e ∙ direct i.opcode u) f
+]
 
 pub operation_shows : (G : Table) (is : List PlainInst) (n : ℕ) (i : PlainInst) (r : Option ℕ) (vs : List Value)
     (ts : List ℕ) (line : List Asks) (a : Asked) (m : Option ℕ)
     → r ≡ result_type_in i.operands → ts ≡ types_in vs → line ≡ asks_of i.opcode → AreTyped G is i vs
-    → FailsFirst (HoldsOf is n i r ts) (conditions_in line (length ts)) a
+    → FailsFirst (HoldsDirectly is n i r ts) (conditions_in line (length ts)) a
     → IsDefinedBy is i (operand_in is i vs a) m → ¬ (IsTyped G is n i)
     → Shows G is n i Y5 (evidence.Condition (condition_in a) (operand_in is i vs a) m (wanted_in is i r ts a)
     (found_in is i r ts a) (read_in is i r ts a))
-operation_shows G is n i r vs ts line a m e f g t first by never =
+operation_shows G is n i r vs ts line a m e f g t direct_first by never =
+    let all = λ (h : AllByRecursion (HoldsOf is n i r ts) (conditions_in line (length ts))).
+    let typed : IsTyped G is n i =
+    inr (map (λ (w : Value). w.id) vs, types_in vs, t.values, t.types, rw (e, f, g) at h) in never typed in
+    let first = first_fails is n i r ts line a g all direct_first in
     let there : FailsFirst (HoldsAt is n i vs) (conditions_of i.opcode (length (types_in vs))) a = rw
     (e, f, g) at first in
     let at = subst (λ k. FailsFirst (HoldsAt is n i vs) (conditions_of i.opcode k) a)

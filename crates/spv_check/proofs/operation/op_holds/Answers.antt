@@ -20,4 +20,5 @@ returns c = λ G plan.
     let at : slice_get is c.args.inst ≡ Some i = rw (← same) c.inst.ensures in
     let d = told G is c.args.inst i at (plan.fits c.args.inst i at) in
     let by = λ (js : _). IsTypedIn js c.args.inst i in
-    (λ y. d.0 (subst by same (c.inst_holds.ensures.0 y)), λ r. c.inst_holds.ensures.1 (subst by (sym same) (d.1 r)))
+    let e = c.in_ok-holds.ensures.answer in
+    (λ y. d.0 (subst by same (e.0 y)), λ r. e.1 (subst by (sym same) (d.1 r)))

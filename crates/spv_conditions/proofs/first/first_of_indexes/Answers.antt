@@ -6,14 +6,15 @@ use Rattle.spv_conditions.specs.declared.asked.Rest.TheVariants as rest
 use Rattle.spv_conditions.specs.declared.condition.Kind.TheVariants as kind
 use Rattle.spv_conditions.specs.declared.seat.Seat.TheVariants as seat
 use Rattle.spv_conditions.specs.Condition.{FailsFirst}
-use Rattle.spv_conditions.specs.Asks.{HoldsOf, indexes_from}
+use Rattle.spv_conditions.specs.Asks.{indexes_from}
+use Rattle.spv_conditions.specs.inner.Direct.{HoldsDirectly}
 use Rattle.spv_conditions.specs.Chain.{first_index}
 use Rattle.spv_conditions.proofs.lemmas.Listing.{Held, index_front, index_end, one_more, one_fails}
 use Rattle.spv_conditions.proofs.first.first_of_indexes.Goals as goal
 
 pub returns-then-not-holds : goal.returns-then-not-holds
 returns-then-not-holds c =
-    let P = HoldsOf c.args.definitions.now c.args.number (plain_inst c.args.inst.now) c.args.r c.args.types.now in
+    let P = HoldsDirectly c.args.definitions.now c.args.number (plain_inst c.args.inst.now) c.args.r c.args.types.now in
     let e = c.args.element in
     let k = c.loop-k.k in
     let n = length c.args.types.now in
@@ -32,7 +33,7 @@ returns-then-not-holds c =
 
 pub returns-then-not-leads_past : goal.returns-then-not-leads_past
 returns-then-not-leads_past c =
-    let P = HoldsOf c.args.definitions.now c.args.number (plain_inst c.args.inst.now) c.args.r c.args.types.now in
+    let P = HoldsDirectly c.args.definitions.now c.args.number (plain_inst c.args.inst.now) c.args.r c.args.types.now in
     let e = c.args.element in
     let k = c.loop-k.k in
     let n = length c.args.types.now in
@@ -55,7 +56,7 @@ returns-then-not-leads_past c =
 
 pub loop-k-preserved : goal.loop-k-preserved
 loop-k-preserved c =
-    let P = HoldsOf c.args.definitions.now c.args.number (plain_inst c.args.inst.now) c.args.r c.args.types.now in
+    let P = HoldsDirectly c.args.definitions.now c.args.number (plain_inst c.args.inst.now) c.args.r c.args.types.now in
     let e = c.args.element in
     let k = c.loop-k.k in
     let n = length c.args.types.now in
@@ -75,7 +76,7 @@ loop-k-preserved c =
 
 pub returns : goal.returns
 returns c =
-    let P = HoldsOf c.args.definitions.now c.args.number (plain_inst c.args.inst.now) c.args.r c.args.types.now in
+    let P = HoldsDirectly c.args.definitions.now c.args.number (plain_inst c.args.inst.now) c.args.r c.args.types.now in
     let e = c.args.element in
     let k = c.loop-k.k in
     let n = length c.args.types.now in

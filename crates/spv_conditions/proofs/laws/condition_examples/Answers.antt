@@ -6,6 +6,7 @@ use Rattle.spv_conditions.specs.declared.asked.Asked.TheVariants as asked
 use Rattle.spv_conditions.specs.declared.condition.Kind.TheVariants.{Int}
 use Rattle.spv_conditions.specs.declared.seat.Seat.TheVariants as seat
 use Rattle.spv_type_forms.specs.declared.form.Scalar.TheVariants as scalar
+use Rattle.spv_type_forms.proofs.Twins.{structs_match}
 use Rattle.spv_conditions.proofs.laws.condition_examples.Goals as goal
 
 int_width : (v w : ℕ) → scalar.Int v ≡ scalar.Int w → v ≡ w
@@ -33,6 +34,8 @@ returns c = record {
       let a = same_class 5 h.0 2 h.1 h.3 in
       let b = same_class 8 h.0 2 h.2 h.4 in
       absurd (omega (arith, a, b)));
+  matches = (λ e. (let never_so : ◌≡◌ {A = ℕ} 2 3 = e in cc), structs_match);
+  itself = λ h. h.0 refl;
   named = inr (inl refl);
   generic = λ h. elim h [
     | inl a ↦ (let same : ◌≡◌ {A = ℕ} 8 4 = a in absurd (omega (arith, same)))

@@ -8,13 +8,13 @@ returns-then-number-lt46 c =
     let low = c.if-number-lt46.true in
     c.found_first.ensures ∙ ap found_by (sym (first_part c.args.number (omega (arith, low))))
 
-pub returns-then-number-lt81 : goal.returns-then-number-lt81
-returns-then-number-lt81 c =
+pub returns-then-number-lt82 : goal.returns-then-number-lt82
+returns-then-number-lt82 c =
     let past = c.if-number-lt46.false in
-    let low = c.if-number-lt81.true in
+    let low = c.if-number-lt82.true in
     c.found_further.ensures ∙ ap found_by (sym (further_part c.args.number (omega (arith, past)) (omega (arith, low))))
 
-pub returns-else-number-lt81 : goal.returns-else-number-lt81
-returns-else-number-lt81 c =
-    let past = c.if-number-lt81.false in
+pub returns-else-number-lt82 : goal.returns-else-number-lt82
+returns-else-number-lt82 c =
+    let past = c.if-number-lt82.false in
     c.found_object.ensures ∙ ap found_by (sym (last_part c.args.number (omega (arith, past))))

@@ -26,9 +26,12 @@ wide_row_holds-requires-in-67-clause-wide c =
     subst IsWidePlace (sym (places_first (plain_inst c.args.inst.now).opcode opcode.PTR_ACCESS_CHAIN
     (sym c.first_opcode.ensures ∙ c.in-67.is))) tt
 
-pub returns-in-0 : goal.returns-in-0
+pub returns-in-0-clause-sound : goal.returns-in-0-clause-sound
 unfolding lines
-returns-in-0 c =
+returns-in-0-clause-sound c = λ _.
     let i = plain_inst c.args.inst.now in
     let free : places_of i.opcode ≡ places.Free = places_first i.opcode 0 (sym c.first_opcode.ensures ∙ c.in-0.is) in
-    (λ _. free_holds c.args.definitions.now c.args.number i free, λ _. refl)
+    free_holds c.args.definitions.now c.args.number i free
+
+pub returns-in-0-clause-complete : goal.returns-in-0-clause-complete
+returns-in-0-clause-complete c = λ _ _. refl

@@ -1,6 +1,9 @@
 use Rattle.std.proofs.Common.{sym, ap, ◌∙◌}
 use Rattle.spv_module.specs.Module.{plain_inst, plain_operands}
 use Rattle.spv_ops.proofs.CommonRows.{load_typed}
+use Rattle.spv_module.specs.declared.opcode.TheConstants as opcode
+use Rattle.spv_ops.specs.Table.{lines}
+use Rattle.spv_ops.proofs.Rows.{uncopied_first}
 use Rattle.spv_ops.proofs.typed.load_row_holds.Goals as goal
 
 pub returns-in-Some : goal.returns-in-Some
@@ -9,3 +12,10 @@ returns-in-Some c =
     (plain_operands c.as_slice.result.now) (ap plain_operands (sym c.as_slice.ensures.value))
     c.requires.load
     (sym c.load_in.ensures ∙ c.in-Some.is) c.load_holds.ensures
+
+pub returns-in-None : goal.returns-in-None
+unfolding lines
+returns-in-None c =
+    let n = (plain_inst c.args.inst.now).opcode in
+    let u = uncopied_first n opcode.LOAD c.requires.load tt in
+    (c.row_holds.ensures.sound, c.row_holds.ensures.complete u)

@@ -6,6 +6,8 @@ use Rattle.spv_module.specs.Module.{plain_inst}
 use Rattle.spv_module.specs.declared.fault.Rule.TheVariants.{Y5}
 use Rattle.spv_capabilities.specs.Keeps.{IsFirstAt}
 use Rattle.spv_type_forms.specs.declared.nulls.Nulls.{Nulls}
+use Rattle.spv_type_forms.specs.declared.matching.Matching.{Matching}
+use Rattle.spv_type_forms.specs.inner.Matching.{IsMatching}
 use Rattle.spv_type_forms.specs.inner.Null.{AreNulls}
 use Rattle.spv_check.specs.inner.Pass.{IsFirstTypeHere}
 use Rattle.spv_type_rules.specs.declared.repeat.Seen.{Seen}
@@ -18,7 +20,7 @@ use Rattle.spv_check.proofs.Typing.Firsts.{capable_fault, typed_fault, more_kept
 use Rattle.spv_check.proofs.Typing.Operations.{op_told, others_told, operation_told, operation_seen, operation_counted}
 use Rattle.spv_check.proofs.Typing.Operations.{silent_told, silent_seen, silent_counted}
 use Rattle.spv_check.proofs.types.pass.first_fault.Goals as goal
-use Rattle.spv_check.proofs.types.pass.first_fault.Goals.{then-is_operation+else-not-inst_holds}
+use Rattle.spv_check.proofs.types.pass.first_fault.Goals.{then-is_operation+in_ok-operation_holds+else-not-branch}
 use Rattle.spv_check.proofs.types.pass.first_fault.Goals.{else-is_operation+else-not-is_silent}
 use Rattle.spv_check.proofs.types.pass.first_fault.Goals.{else-is_operation+then-not-is_silent+in_ok-repeats+in_ok-broken+in_default-2}
 
@@ -29,8 +31,13 @@ first_in-requires c =
     subst (λ js. slice_get js c.loop-n.n ≡ Some (plain_inst c.index-insts-n.result))
     (sym (ap (λ t. t.insts) c.loop-n.invariant.same ∙ c.requires.surveyed)) at
 
-pub inst_holds-requires : goal.inst_holds-requires
-inst_holds-requires c =
+pub operation_holds-requires-clause-matching : goal.operation_holds-requires-clause-matching
+operation_holds-requires-clause-matching c =
+    subst (λ js. IsMatching js c.loop-n.matching) (sym (c.definitions.ensures ∙ c.requires.judged))
+    c.loop-n.invariant.matching
+
+pub operation_holds-requires-clause-number : goal.operation_holds-requires-clause-number
+operation_holds-requires-clause-number c =
     let is = map plain_inst c.args.insts.now in
     let x = c.index-insts-n.result in
     let at : slice_get is c.loop-n.n ≡ Some
@@ -61,8 +68,8 @@ returns-in-Some c =
     let k = rw c.in-Some.is at h in
     capable_fault G is n i c.in-Some.rule at k.0 k.1 c.loop-n.invariant.kept
 
-pub returns-then-not-inst_holds : goal.returns-then-not-inst_holds
-returns-then-not-inst_holds c =
+pub returns-then-not-branch : goal.returns-then-not-branch
+returns-then-not-branch c =
     let G = c.args.entries.now.table in
     let xs = c.args.insts.now in
     let is = map plain_inst xs in
@@ -75,11 +82,17 @@ returns-then-not-inst_holds c =
     let g = subst (λ t. IsFirstAt t.table t.insts n i c.in_ok-rule.field-0) e f in
     let h = subst (λ js. IsFirstAt G js n i c.in_ok-rule.field-0) c.requires.surveyed g in
     let k = rw c.in_default.is at h in
-    let d = op_told G is c.definitions.result.now n i c.inst_holds.result (c.definitions.ensures ∙ c.requires.judged) at
-    (c.requires.plan.fits n i at) c.inst_holds.ensures in
-    let t = operation_told G is n i c.inst_holds.result (sym c.is_operation.ensures ∙ c.if-is_operation.true) d in
-    let u = subst (λ b. IsFirstTypeHere G is n i (if b then None else Some Y5)) c.if-not-inst_holds.true t in
+    let holds = c.in_ok-operation_holds.field-0 in
+    let d = op_told G is c.definitions.result.now n i holds (c.definitions.ensures ∙ c.requires.judged) at
+    (c.requires.plan.fits n i at) c.in_ok-operation_holds.ensures.answer in
+    let t = operation_told G is n i holds (sym c.is_operation.ensures ∙ c.if-is_operation.true) d in
+    let u = subst (λ b. IsFirstTypeHere G is n i (if b then None else Some Y5)) c.if-not-branch.true t in
     typed_fault G is n i Y5 at u k c.loop-n.invariant.kept
+
+pub first_at-requires-clause-inst : goal.first_at-requires-clause-inst
+first_at-requires-clause-inst c =
+    let at = inst_there c.args.insts.now c.loop-n.n c.index-insts-n.result c.loop-n-test.true c.index-insts-n.is in
+    rw c.requires.judged at
 
 pub first_at-requires-clause-few : goal.first_at-requires-clause-few
 first_at-requires-clause-few c =
@@ -125,17 +138,21 @@ loop-n-preserved c =
     let h = subst (λ js. IsFirstAt G js n i c.in_ok-rule.field-0) c.requires.surveyed g in
     let k = rw c.in_default.is at h in
     elim c.if-is_operation.branch [
-      | then-is_operation+else-not-inst_holds w ↦
+      | then-is_operation+in_ok-operation_holds+else-not-branch w ↦
           let o : is_operation i.opcode ≡ true = sym c.is_operation.ensures ∙ w.if-is_operation.true in
-          let d = op_told G is w.definitions.result.now n i w.inst_holds.result
-          (w.definitions.ensures ∙ c.requires.judged) at (c.requires.plan.fits n i at) w.inst_holds.ensures in
-          let t = operation_told G is n i w.inst_holds.result o d in
-          let u = subst (λ b. IsFirstTypeHere G is n i (if b then None else Some Y5)) w.if-not-inst_holds.false t in
+          let holds = w.in_ok-operation_holds.field-0 in
+          let d = op_told G is w.definitions.result.now n i holds (w.definitions.ensures ∙ c.requires.judged) at
+          (c.requires.plan.fits n i at) w.in_ok-operation_holds.ensures.answer in
+          let t = operation_told G is n i holds o d in
+          let u = subst (λ b. IsFirstTypeHere G is n i (if b then None else Some Y5)) w.if-not-branch.false t in
           record {
             same = c.first_in.ensures.same ∙ e;
             seen = subst (λ (s : Seen). AreSeen is (n + 1) s) (sym w.seen-is)
                 (operation_seen is n i c.loop-n.seen at o c.loop-n.invariant.seen);
             nulls = subst (λ (m : Nulls). AreNulls is m) (sym w.nulls-is) c.loop-n.invariant.nulls;
+            matching = subst (λ (m : Matching). IsMatching is m) (sym w.matching-is)
+                (subst (λ js. IsMatching js w.operation_holds.new.matching) (w.definitions.ensures ∙ c.requires.judged)
+                w.in_ok-operation_holds.ensures.matching);
             counted = subst (λ (p : ℕ). AreCounted is (n + 1) p) (sym w.parameters-is)
                 (operation_counted is n c.loop-n.parameters i at o c.loop-n.invariant.counted);
             kept = more_kept G is n i at k u c.loop-n.invariant.kept;
@@ -148,6 +165,7 @@ loop-n-preserved c =
             seen = subst (λ (s : Seen). AreSeen is (n + 1) s) (sym w.seen-is)
                 (silent_seen is n i c.loop-n.seen at q c.loop-n.invariant.seen);
             nulls = subst (λ (m : Nulls). AreNulls is m) (sym w.nulls-is) c.loop-n.invariant.nulls;
+            matching = subst (λ (m : Matching). IsMatching is m) (sym w.matching-is) c.loop-n.invariant.matching;
             counted = subst (λ (p : ℕ). AreCounted is (n + 1) p) (sym w.parameters-is)
                 (silent_counted is n c.loop-n.parameters i at q c.loop-n.invariant.counted);
             kept = more_kept G is n i at k (silent_told G is n i o q) c.loop-n.invariant.kept;
@@ -163,6 +181,7 @@ loop-n-preserved c =
                 (w.in_ok-repeats.ensures.seen is n at c.loop-n.invariant.seen);
             nulls = subst (λ (m : Nulls). AreNulls is m) (sym w.nulls-is)
                 (rw c.requires.judged at w.in_ok-broken.ensures.nulls);
+            matching = subst (λ (m : Matching). IsMatching is m) (sym w.matching-is) c.loop-n.invariant.matching;
             counted = subst (λ (p : ℕ). AreCounted is (n + 1) p) (sym w.parameters-is)
                 (w.next_count-parameters.ensures is n at c.loop-n.invariant.counted);
             kept = more_kept G is n i at k u c.loop-n.invariant.kept;
