@@ -1,6 +1,6 @@
 -- The numbers of the code's list say what the rules of types ask of an opcode.
-use Rattle.std.proofs.Common.{◌≡◌, ◌≤◌, ◌<◌, ◌+◌, ◌&&◌, ◌||◌, ℕ, zero, suc, List, [], ◌∷◌, Bool, true, false, Some, nat_eq}
-use Rattle.std.proofs.Common.{nat_le, length, refl, sym, ap, arith}
+use Rattle.std.proofs.Common.{◌≡◌, ◌≤◌, ◌<◌, ◌+◌, ◌&&◌, ◌||◌, ℕ, zero, suc, List, [], ◌∷◌, Bool, true, false, Some}
+use Rattle.std.proofs.Common.{nat_eq, nat_le, length, refl, sym, ap, arith}
 use Rattle.std.specs.Prelude.{slice_get}
 use Rattle.std.proofs.lemmas.Bool.{le-leb, lt-leb, ne_eqb}
 use Rattle.spv_module.specs.declared.opcode.TheConstants as opcode

@@ -117,9 +117,9 @@ pub fn asks_values(number: u16) -> bool
 }
 
 /// The roles that an opcode's row of the table of shapes asks for, which a proof compares with the table: one `match`
-/// in place of a walk over the row's forms, since each instruction of a module asks. None for OpExtInst, OpSource, OpPhi
-/// and those that take a function among values, whose ids are not told so. At opcodes that ask for values `asks_values`
-/// tells it.
+/// in place of a walk over the row's forms, since each instruction of a module asks. None for OpExtInst, OpSource,
+/// OpPhi and those that take a function among values, whose ids are not told so. At opcodes that ask for values
+/// `asks_values` tells it.
 #[inline(always)]
 pub fn asked_besides(number: u16) -> Option<Asked>
     requires { spec.asks_values number ≡ false }

@@ -107,14 +107,14 @@ fn are_arguments_played(definitions: &Definitions<'_, '_>, operands: &[Operand<'
         (IsOneMiscast definitions.now due.Any due.Any due.Any (plain_operands operands.now)) }
 {
     for operand in operands {
-        match *operand {
-            Operand::OfType(t) => if !defines_type(definitions, t) {
+        if let Operand::Argument(x) = *operand {
+            if !plays(definitions, Role::Value, x) {
                 return false;
-            },
-            Operand::Argument(x) => if !plays(definitions, Role::Value, x) {
+            }
+        } else if let Operand::OfType(t) = *operand {
+            if !defines_type(definitions, t) {
                 return false;
-            },
-            _ => {}
+            }
         }
     }
     true
