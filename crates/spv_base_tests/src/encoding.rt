@@ -91,13 +91,22 @@ fn is_number_refused(alloc: Global, table: &Table, low: u32, high: u32, words: u
     is_unspelled(alloc, table, 43, &[OfType(1), Made(2), number])
 }
 
+/// Whether no words spell 5 of the type %1 with a high word, and in two words.
+fn are_numbers_refused(alloc: Global, table: &Table) -> bool {
+    is_number_refused(alloc, table, 5, 1, 1) && is_number_refused(alloc, table, 5, 0, 2)
+}
+
 #[test]
 fn refuses_operands_that_do_not_fit(rt: HostRuntime) -> Result<(), Fail> {
     let table = Table::from_slice(rt.alloc(), PROFILE.as_bytes())?;
-    assert!(rt; are_operands_refused(rt.alloc(), &table));
-    assert!(rt; are_values_refused(rt.alloc(), &table));
-    assert!(rt; is_number_refused(rt.alloc(), &table, 5, 1, 1));
-    assert!(rt; is_number_refused(rt.alloc(), &table, 5, 0, 2));
+    let operands = are_operands_refused(rt.alloc(), &table);
+    let values = are_values_refused(rt.alloc(), &table);
+    let numbers = are_numbers_refused(rt.alloc(), &table);
+    drop(table);
+    assert!(rt;
+        operands && values && numbers,
+        "{operands}, {values}, {numbers}"
+    );
     Ok(())
 }
 
@@ -137,23 +146,34 @@ fn refused(code: EncodeCode) -> Result<u32, EncodeError> {
     Err(EncodeError { code, inst: 0 })
 }
 
-/// An OpReturn with a word too many, the longest OpName, of 65,535 words behind the five of the header, and a longer
-/// one.
+/// The lengths of an OpReturn with a word too many, of the longest OpName, of 65,535 words behind the five of the header,
+/// and of a longer one.
+fn lengths(alloc: Global, table: &Table) -> [Result<Result<u32, EncodeError>, Memory>; 3] {
+    [
+        length_of(alloc, table, 253, &[Word(1)]),
+        length_with_name(alloc, table, 262_131),
+        length_with_name(alloc, table, 262_132),
+    ]
+}
+
 #[test]
 fn one_instruction(rt: HostRuntime) -> Result<(), Fail> {
     let table = Table::from_slice(rt.alloc(), PROFILE.as_bytes())?;
-    let with_word = length_of(rt.alloc(), &table, 253, &[Word(1)])?;
-    assert!(rt; with_word == refused(EncodeCode::N2));
-    assert!(rt; length_with_name(rt.alloc(), &table, 262_131)? == Ok(65_540));
-    assert!(rt; length_with_name(rt.alloc(), &table, 262_132)? == refused(EncodeCode::N3));
+    let [with_word, with_name, with_longer] = lengths(rt.alloc(), &table);
+    drop(table);
+    assert!(rt; with_word == Ok(refused(EncodeCode::N2)));
+    assert!(rt; with_name == Ok(Ok(65_540)));
+    assert!(rt; with_longer == Ok(refused(EncodeCode::N3)));
     Ok(())
 }
 
 #[test]
 fn refuses_headers(rt: HostRuntime) -> Result<(), Fail> {
     let table = Table::from_slice(rt.alloc(), PROFILE.as_bytes())?;
-    assert!(rt; is_header_refused(rt.alloc(), &table, header(0x0001_0600, 0, 0)));
-    assert!(rt; is_header_refused(rt.alloc(), &table, header(0x0001_0500, 100, 0)));
-    assert!(rt; is_header_refused(rt.alloc(), &table, header(0x0001_0600, 100, 1)));
+    let bound = is_header_refused(rt.alloc(), &table, header(0x0001_0600, 0, 0));
+    let version = is_header_refused(rt.alloc(), &table, header(0x0001_0500, 100, 0));
+    let schema = is_header_refused(rt.alloc(), &table, header(0x0001_0600, 100, 1));
+    drop(table);
+    assert!(rt; bound && version && schema, "{bound}, {version}, {schema}");
     Ok(())
 }

@@ -38,10 +38,19 @@ fn cycle_of(alloc: Global, table: &Table, image: &Image) -> Result<Option<u32>, 
     Ok(first_cycle(alloc, &module, &plan, &ids)?)
 }
 
+/// The same of words that stand in a text.
+fn cycle_in(alloc: Global, table: &Table, words: &str) -> Result<Option<u32>, Stop> {
+    match image_of(alloc, words) {
+        Ok(image) => cycle_of(alloc, table, &image),
+        Err(_) => Err(Stop::Memory),
+    }
+}
+
 #[test]
 fn parts_of_flow(rt: HostRuntime) -> Result<(), Fail> {
     let table = Table::from_slice(rt.alloc(), PROFILE.as_bytes())?;
-    let image = image_of(rt.alloc(), CALL_OF_LATER_FUNCTION.words)?;
-    assert!(rt; cycle_of(rt.alloc(), &table, &image) == Ok(None));
+    let cycle = cycle_in(rt.alloc(), &table, CALL_OF_LATER_FUNCTION.words);
+    drop(table);
+    assert!(rt; cycle == Ok(None));
     Ok(())
 }

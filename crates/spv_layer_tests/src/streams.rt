@@ -46,12 +46,30 @@ fn outcome_of(alloc: Global, table: &Table, pieces: Pieces<'_>, shelf: Shelf) ->
     }
 }
 
-/// The samples that are checked, each with its line, and how many reads and writes that takes: reads of 7 bytes and one
-/// that finds the end, and writes of 2.
-const SAMPLES: [(Sample<'static>, &str, u64, u64); 2] = [
-    (SMALLEST_KERNEL, "valid\n", 19, 3),
-    (LOAD_WITH_MASK, "fault L1 inst 0 word 5\n", 8, 12),
-];
+/// A sample that is checked.
+#[derive(Clone, Copy)]
+struct Checked {
+    sample: Sample<'static>,
+    line: &'static str,
+    /// How many reads of 7 bytes the check takes, the one that finds the end among them.
+    reads: u64,
+    /// How many writes of 2 bytes the line takes.
+    writes: u64,
+}
+
+const KERNEL: Checked = Checked {
+    sample: SMALLEST_KERNEL,
+    line: "valid\n",
+    reads: 19,
+    writes: 3,
+};
+
+const LOAD: Checked = Checked {
+    sample: LOAD_WITH_MASK,
+    line: "fault L1 inst 0 word 5\n",
+    reads: 8,
+    writes: 12,
+};
 
 /// Whether an image is told by this line, in pieces of each of these sizes.
 fn is_told(alloc: Global, table: &Table, image: &Image, line: &str) -> bool {
@@ -65,13 +83,19 @@ fn is_told(alloc: Global, table: &Table, image: &Image, line: &str) -> bool {
     true
 }
 
+/// The same of a sample.
+fn is_sample_told(alloc: Global, table: &Table, of: Checked) -> Result<bool, WordError> {
+    let image = image_of(alloc, of.sample.words)?;
+    Ok(is_told(alloc, table, &image, of.line))
+}
+
 #[test]
 fn reads_in_pieces(rt: HostRuntime) -> Result<(), Fail> {
     let table = Table::from_slice(rt.alloc(), PROFILE.as_bytes())?;
-    for (sample, line, _, _) in SAMPLES {
-        let image = image_of(rt.alloc(), sample.words)?;
-        assert!(rt; is_told(rt.alloc(), &table, &image, line));
-    }
+    let kernel = is_sample_told(rt.alloc(), &table, KERNEL);
+    let load = is_sample_told(rt.alloc(), &table, LOAD);
+    drop(table);
+    assert!(rt; kernel == Ok(true) && load == Ok(true));
     Ok(())
 }
 
@@ -89,23 +113,46 @@ fn after_reads(
     outcome_of(alloc, table, pieces, shelf)
 }
 
+/// Whether a check ends as it is to end where only so many reads go well.
+fn reads_as_told(
+    alloc: Global,
+    table: &Table,
+    image: &Image,
+    of: Checked,
+    n: u64,
+    kind: ErrorKind,
+) -> bool {
+    let outcome = after_reads(alloc, table, image, n, kind);
+    if n < of.reads {
+        outcome.stops(of.line, 0)
+    } else {
+        outcome.tells(of.line)
+    }
+}
+
+/// The first read at whose failure the check of a sample does not end as it is to end.
+fn wrong_read(alloc: Global, table: &Table, of: Checked) -> Result<Option<u64>, WordError> {
+    let image = image_of(alloc, of.sample.words)?;
+    for n in 0..20 {
+        if !reads_as_told(alloc, table, &image, of, n, ErrorKind::Interrupted)
+            || !reads_as_told(alloc, table, &image, of, n, ErrorKind::Other)
+        {
+            return Ok(Some(n));
+        }
+    }
+    Ok(None)
+}
+
 #[test]
 fn reads_that_fail(rt: HostRuntime) -> Result<(), Fail> {
     let table = Table::from_slice(rt.alloc(), PROFILE.as_bytes())?;
-    for (sample, line, reads, _) in SAMPLES {
-        let image = image_of(rt.alloc(), sample.words)?;
-        for n in 0..20 {
-            for kind in [ErrorKind::Interrupted, ErrorKind::Other] {
-                let outcome = after_reads(rt.alloc(), &table, &image, n, kind);
-                let is_right = if n < reads {
-                    outcome.stops(line, 0)
-                } else {
-                    outcome.tells(line)
-                };
-                assert!(rt; is_right, "read {n} of {line}");
-            }
-        }
-    }
+    let kernel = wrong_read(rt.alloc(), &table, KERNEL);
+    let load = wrong_read(rt.alloc(), &table, LOAD);
+    drop(table);
+    assert!(rt;
+        kernel == Ok(None) && load == Ok(None),
+        "{kernel:?}, {load:?}"
+    );
     Ok(())
 }
 
@@ -123,34 +170,64 @@ fn after_writes(
     outcome_of(alloc, table, pieces, shelf)
 }
 
+/// Whether a check ends as it is to end where only so many writes go well.
+fn writes_as_told(
+    alloc: Global,
+    table: &Table,
+    image: &Image,
+    of: Checked,
+    n: u64,
+    trouble: Trouble,
+) -> bool {
+    let outcome = after_writes(alloc, table, image, n, trouble);
+    if n < of.writes {
+        outcome.stops(of.line, n.wrapping_mul(2))
+    } else {
+        outcome.tells(of.line)
+    }
+}
+
+/// The first write at whose failure the check of a sample does not end as it is to end.
+fn wrong_write(alloc: Global, table: &Table, of: Checked) -> Result<Option<u64>, WordError> {
+    let image = image_of(alloc, of.sample.words)?;
+    for n in 0..13 {
+        if !writes_as_told(alloc, table, &image, of, n, Trouble::Fails)
+            || !writes_as_told(alloc, table, &image, of, n, Trouble::TakesNothing)
+        {
+            return Ok(Some(n));
+        }
+    }
+    Ok(None)
+}
+
 #[test]
 fn writes_that_fail(rt: HostRuntime) -> Result<(), Fail> {
     let table = Table::from_slice(rt.alloc(), PROFILE.as_bytes())?;
-    for (sample, line, _, writes) in SAMPLES {
-        let image = image_of(rt.alloc(), sample.words)?;
-        for n in 0..13 {
-            for trouble in [Trouble::Fails, Trouble::TakesNothing] {
-                let outcome = after_writes(rt.alloc(), &table, &image, n, trouble);
-                let is_right = if n < writes {
-                    outcome.stops(line, 2 * n)
-                } else {
-                    outcome.tells(line)
-                };
-                assert!(rt; is_right, "write {n} of {line}");
-            }
-        }
-    }
+    let kernel = wrong_write(rt.alloc(), &table, KERNEL);
+    let load = wrong_write(rt.alloc(), &table, LOAD);
+    drop(table);
+    assert!(rt;
+        kernel == Ok(None) && load == Ok(None),
+        "{kernel:?}, {load:?}"
+    );
     Ok(())
+}
+
+/// Whether a module that never ends is told to be too long after one byte more than a module has.
+fn is_endless_told(alloc: Global, table: &Table) -> Result<bool, WordError> {
+    let image = image_of(alloc, SMALLEST_KERNEL.words)?;
+    let mut pieces = Pieces::new(image.octets(), 120, Failures::none());
+    pieces.is_endless = true;
+    let shelf = Shelf::new(Vec::new(alloc), 100, Failures::none());
+    let outcome = outcome_of(alloc, table, pieces, shelf);
+    Ok(outcome.tells("fault W8\n") && outcome.given == 16_777_217)
 }
 
 #[test]
 fn an_endless_reader(rt: HostRuntime) -> Result<(), Fail> {
     let table = Table::from_slice(rt.alloc(), PROFILE.as_bytes())?;
-    let image = image_of(rt.alloc(), SMALLEST_KERNEL.words)?;
-    let mut pieces = Pieces::new(image.octets(), 120, Failures::none());
-    pieces.is_endless = true;
-    let shelf = Shelf::new(Vec::new(rt.alloc()), 100, Failures::none());
-    let outcome = outcome_of(rt.alloc(), &table, pieces, shelf);
-    assert!(rt; outcome.tells("fault W8\n") && outcome.given == 16_777_217);
+    let is_told = is_endless_told(rt.alloc(), &table);
+    drop(table);
+    assert!(rt; is_told == Ok(true));
     Ok(())
 }

@@ -5,7 +5,7 @@ use spv_inst::{Module, Stop, decode};
 use spv_parser::{AsmCode, AsmError, assemble};
 use spv_printer::{EncodeCode, EncodeError, encode, show, show_image, show_inst, show_insts};
 use spv_samples::{
-    CALL_OF_LATER_FUNCTION, LOAD_WITH_MASK, LOOP_WITH_PHI, PROFILE, SMALLEST_KERNEL, Told,
+    CALL_OF_LATER_FUNCTION, LOAD_WITH_MASK, LOOP_WITH_PHI, PROFILE, SMALLEST_KERNEL, Sample, Told,
     WrongAnswer, each_refused, image_of,
 };
 use spv_words::{FromRead, Image, Order, WordError, read_image};
@@ -121,25 +121,28 @@ fn each_call(
 }
 
 /// Makes each of the calls of a sample.
-fn of_sample(alloc: Global, table: &Table, words: &str, text: &str) -> Result<(), Fail> {
-    let image = image_of(alloc, words)?;
-    let Ok(module) = decode(alloc, table, &image) else {
-        return Err(Fail::from("no module"));
+fn of_sample(
+    alloc: Global,
+    table: &Table,
+    sample: Sample<'_>,
+) -> Result<Result<(), WrongAnswer>, Stop> {
+    let Ok(image) = image_of(alloc, sample.words) else {
+        return Err(Stop::Memory);
     };
-    each_call(alloc, table, &image, &module, text)?;
-    Ok(())
+    let module = decode(alloc, table, &image)?;
+    Ok(each_call(alloc, table, &image, &module, sample.text))
 }
 
 #[test]
 fn modules(rt: HostRuntime) -> Result<(), Fail> {
     let table = Table::from_slice(rt.alloc(), PROFILE.as_bytes())?;
-    for sample in [
-        SMALLEST_KERNEL,
-        LOOP_WITH_PHI,
-        LOAD_WITH_MASK,
-        CALL_OF_LATER_FUNCTION,
-    ] {
-        of_sample(rt.alloc(), &table, sample.words, sample.text)?;
+    let kernel = of_sample(rt.alloc(), &table, SMALLEST_KERNEL);
+    let with_phi = of_sample(rt.alloc(), &table, LOOP_WITH_PHI);
+    let with_mask = of_sample(rt.alloc(), &table, LOAD_WITH_MASK);
+    let with_call = of_sample(rt.alloc(), &table, CALL_OF_LATER_FUNCTION);
+    drop(table);
+    for answer in [kernel, with_phi, with_mask, with_call] {
+        answer??;
     }
     Ok(())
 }
