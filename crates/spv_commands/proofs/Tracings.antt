@@ -26,7 +26,7 @@ use Rattle.spv_names.specs.Chosen.{IsChosen}
 use Rattle.spv_names.specs.declared.chosen.Chosen.{Chosen}
 use Rattle.spv_commands.specs.Trace.{BeginsTracing, HasNoEntry, HasSeveral, IsProgram, IsTracing, Traces, judged, traced}
 use Rattle.spv_commands.specs.Trace.{trace_text}
-use Rattle.spv_commands.specs.inner.Traced.{WhyNotChosen, traced_stop}
+use Rattle.spv_commands.specs.inner.Traced.{WhyNoRun, WhyNotChosen, traced_stop}
 use Rattle.spv_commands.specs.declared.trouble.Trouble.{Trouble}
 use Rattle.spv_commands.specs.declared.trouble.Trouble.TheVariants as trouble
 
@@ -62,31 +62,40 @@ pub run_traced : (G : Table) (reach : Reach) (function : Chosen) (choices : List
 run_traced G reach function choices limit bytes words order p id t h c k r =
     traced p id t (program_of G reach bytes words order p h c) k r
 
-pub lacks_entry : (G : Table) (reach : Reach) (function : Chosen) (bytes words : List ℕ) (order : Order) (p : Program)
-    (id : ℕ) (e : TraceError) → IsModule order bytes words → IsChecked G reach words p
-    → IsChosen p.insts function (Ok id)
-    → RefusesEntry p.insts id e → traced_stop e ≡ trouble.NoEntry → HasNoEntry G reach bytes function
-lacks_entry G reach function bytes words order p id NoEntry h c k r q =
-    record { program = p; valid = program_of G reach bytes words order p h c; none = inr (id, k, r) }
-lacks_entry G reach function bytes words order p id Memory h c k r q = cc
+-- why it has none
+pub unchosen : (is : List PlainInst) (function : Chosen) (t : Trouble) → WhyNotChosen is function t
+    → WhyNoRun is function t
+unchosen is function trouble.NoEntry k = inl k
+unchosen is function trouble.SeveralFunctions k = k
+unchosen is function trouble.NoFunction k = k
+unchosen is function trouble.Use k = k
+unchosen is function trouble.File k = k
+unchosen is function trouble.NotText k = k
+unchosen is function trouble.Memory k = tt
+unchosen is function (trouble.Grammar e) k = k
 
--- a function that has no id
+pub run_stopped : (is : List PlainInst) (function : Chosen) (id : ℕ) (e : TraceError) (t : Trouble)
+    → IsChosen is function (Ok id) → RefusesEntry is id e → t ≡ traced_stop e → WhyNoRun is function t
+run_stopped is function id NoEntry t k r q = rw q (inr (id, k, r))
+run_stopped is function id Memory t k r q = rw q tt
+
+-- a function that has no run
 pub lacks_id : (G : Table) (reach : Reach) (function : Chosen) (bytes words : List ℕ) (order : Order) (p : Program)
     (t : Trouble) → IsModule order bytes words → IsChecked G reach words p
-    → WhyNotChosen p.insts function t → t ≡ trouble.NoEntry → HasNoEntry G reach bytes function
+    → WhyNoRun p.insts function t → t ≡ trouble.NoEntry → HasNoEntry G reach bytes function
 lacks_id G reach function bytes words order p trouble.NoEntry h c k q =
-    record { program = p; valid = program_of G reach bytes words order p h c; none = inl k }
+    record { program = p; valid = program_of G reach bytes words order p h c; none = k }
 lacks_id G reach function bytes words order p trouble.SeveralFunctions h c k q = cc
 lacks_id G reach function bytes words order p trouble.NoFunction h c k q = absurd k
 lacks_id G reach function bytes words order p trouble.Use h c k q = absurd k
 lacks_id G reach function bytes words order p trouble.File h c k q = absurd k
 lacks_id G reach function bytes words order p trouble.NotText h c k q = absurd k
-lacks_id G reach function bytes words order p trouble.Memory h c k q = absurd k
+lacks_id G reach function bytes words order p trouble.Memory h c k q = cc
 lacks_id G reach function bytes words order p (trouble.Grammar e) h c k q = absurd k
 
 pub has_several : (G : Table) (reach : Reach) (function : Chosen) (bytes words : List ℕ) (order : Order) (p : Program)
     (t : Trouble) → IsModule order bytes words → IsChecked G reach words p
-    → WhyNotChosen p.insts function t → t ≡ trouble.SeveralFunctions → HasSeveral G reach bytes function
+    → WhyNoRun p.insts function t → t ≡ trouble.SeveralFunctions → HasSeveral G reach bytes function
 has_several G reach function bytes words order p trouble.SeveralFunctions h c k q =
     record { program = p; valid = program_of G reach bytes words order p h c; several = k }
 has_several G reach function bytes words order p trouble.NoEntry h c k q = cc
@@ -94,10 +103,10 @@ has_several G reach function bytes words order p trouble.NoFunction h c k q = ab
 has_several G reach function bytes words order p trouble.Use h c k q = absurd k
 has_several G reach function bytes words order p trouble.File h c k q = absurd k
 has_several G reach function bytes words order p trouble.NotText h c k q = absurd k
-has_several G reach function bytes words order p trouble.Memory h c k q = absurd k
+has_several G reach function bytes words order p trouble.Memory h c k q = cc
 has_several G reach function bytes words order p (trouble.Grammar e) h c k q = absurd k
 
-pub only_two : (is : List PlainInst) (function : Chosen) (t : Trouble) → WhyNotChosen is function t
+pub only_two : (is : List PlainInst) (function : Chosen) (t : Trouble) → WhyNoRun is function t
     → (t ≡ trouble.NoEntry) ⊎ (t ≡ trouble.SeveralFunctions) ⊎ (t ≡ trouble.Memory)
 only_two is function trouble.NoEntry k = inl refl
 only_two is function trouble.SeveralFunctions k = inr (inl refl)
@@ -105,7 +114,7 @@ only_two is function trouble.NoFunction k = absurd k
 only_two is function trouble.Use k = absurd k
 only_two is function trouble.File k = absurd k
 only_two is function trouble.NotText k = absurd k
-only_two is function trouble.Memory k = absurd k
+only_two is function trouble.Memory k = inr (inr refl)
 only_two is function (trouble.Grammar e) k = absurd k
 
 -- three bytes are no module, and have no run

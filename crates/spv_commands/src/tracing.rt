@@ -2,9 +2,13 @@
 ghost use Rattle.std.specs.Prelude.{◌≡◌, ◌⊎◌, ℕ, List, IfErr, IfOk, IsErrOf, Ok};
 ghost use Rattle.spv_words.specs.Header.{IsModule};
 ghost use Rattle.spv_words.specs.declared.words.Order.{Order};
+ghost use Rattle.spv_table.specs.Table.{Table};
+ghost use Rattle.spv_extended.specs.declared.reach.Reach.{Reach};
+ghost use Rattle.spv_check.specs.Broken.{IsSound};
+ghost use Rattle.spv_run.specs.Tracing.{IsRunOf};
 ghost use Rattle.spv_names.specs.Chosen.{IsChosen};
 ghost use Rattle.spv_commands.specs.Trace.{HasNoEntry, HasSeveral, IsTracing};
-ghost use Rattle.spv_commands.specs.inner.Traced.{WhyNotChosen, is_run, output_of, traced_stop};
+ghost use Rattle.spv_commands.specs.inner.Traced.{WhyNoRun, WhyNotChosen, is_run, output_of, traced_stop};
 ghost use Rattle.spv_commands.specs.declared.trouble.Trouble.TheVariants as trouble;
 
 use crate::trouble::Trouble;
@@ -47,6 +51,26 @@ fn id_in(checked: &Checked<'_>, function: Chosen<'_>) -> Result<u32, Trouble>
     }
 }
 
+/// The run of a function of a valid module.
+fn run_of(
+    alloc: Global,
+    checked: &Checked<'_>,
+    function: Chosen<'_>,
+    choices: &[u32],
+    limit: u32,
+) -> Result<Trace, Trouble>
+    ensures run { IfOk result (λ t. (id : ℕ) × IsChosen checked.now.insts function.entry (Ok id)
+        × ((G : Table) (reach : Reach) → IsSound G reach checked.now.bound checked.now.insts
+        → IsRunOf G checked.now id choices.now limit t)) }
+    ensures why { IfErr result (WhyNoRun checked.now.insts function.entry) }
+{
+    let id = id_in(checked, function)?;
+    match trace(alloc, checked, id, choices, limit) {
+        Ok(run) => Ok(run),
+        Err(error) => Err(stopped(error)),
+    }
+}
+
 /// What is written of the words of a module.
 pub fn traced_of(
     alloc: Global,
@@ -65,17 +89,12 @@ pub fn traced_of(
         → IsErrOf result trouble.SeveralFunctions → HasSeveral table.now reach bytes function.entry }
     ensures only { IfErr result (λ t. (t ≡ trouble.NoEntry) ⊎ (t ≡ trouble.SeveralFunctions) ⊎ (t ≡ trouble.Memory)) }
 {
-    let checked = match check(alloc, table, reach, image) {
-        Ok(Verdict::Valid(checked)) => checked,
-        Ok(Verdict::Fault(fault)) => return Ok(Traced::Line(Judgment::Broken(fault))),
-        Err(_) => return Err(Trouble::Memory),
-    };
-    let id = match id_in(&checked, function) {
-        Ok(id) => id,
-        Err(trouble) => return Err(trouble),
-    };
-    match trace(alloc, &checked, id, choices, limit) {
-        Ok(run) => Ok(Traced::Run(run)),
-        Err(error) => Err(stopped(error)),
+    match check(alloc, table, reach, image) {
+        Ok(Verdict::Valid(checked)) => match run_of(alloc, &checked, function, choices, limit) {
+            Ok(run) => Ok(Traced::Run(run)),
+            Err(trouble) => Err(trouble),
+        },
+        Ok(Verdict::Fault(fault)) => Ok(Traced::Line(Judgment::Broken(fault))),
+        Err(_) => Err(Trouble::Memory),
     }
 }

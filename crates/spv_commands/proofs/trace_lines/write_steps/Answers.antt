@@ -1,3 +1,4 @@
+use Rattle.std.proofs.lemmas.Grind.{common_steps}
 use Rattle.std.proofs.Common.{◌+◌, ◌-◌, ◌∙◌, ap, arith}
 use Rattle.std.specs.Prelude.{flat_map}
 use Rattle.spv_commands.specs.Trace.{step_line}
@@ -33,3 +34,6 @@ pub returns-clause-begun : goal.returns-clause-begun
 returns-clause-begun g c =
     begun_all _ _ (flat_map step_line c.args.steps.now)
     (steps_all _ _ _ _ c.args.steps.now c.loop-at.at c.loop-at.invariant c.loop-at-test.false)
+
+pub returns-clause-all : goal.returns-clause-all
+returns-clause-all g c = grind (arith, common_steps)
