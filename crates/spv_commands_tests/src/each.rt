@@ -15,6 +15,13 @@ struct Outcome {
     err: Vec<u8>,
 }
 
+impl Outcome {
+    /// Whether it is this.
+    fn is(&self, status: u8, out: &[u8], err: &[u8]) -> bool {
+        self.status == status && self.out.as_slice() == out && self.err.as_slice() == err
+    }
+}
+
 /// How modules of 1.6 are judged by a task, and told.
 fn judging(task: Task, telling: Telling) -> Judging {
     Judging {
@@ -47,9 +54,9 @@ fn files_in_order(rt: HostRuntime) -> Result<(), Fail> {
     let files = [good, None, short, good];
     let how = judging(Task::Check, Telling::Named);
     let run = outcome_of(rt.alloc(), how, &names, &files);
-    assert!(rt; run.status == 2);
-    assert!(rt; run.out.as_slice() == b"a: valid\nc: fault W2\nd: valid\n".as_slice());
-    assert!(rt; run.err.as_slice() == b"b: error file\n".as_slice());
+    let is_right = run.is(2, b"a: valid\nc: fault W2\nd: valid\n", b"b: error file\n");
+    drop(run);
+    assert!(rt; is_right);
     Ok(())
 }
 
@@ -58,17 +65,20 @@ const OBJECTS: &str = r#"{"file":"a","verdict":"valid","profile":"own"}
 {"file":"b","verdict":"error","error":"file"}
 "#;
 
+/// Whether a task tells these objects of two files.
+fn are_objects(alloc: Global, task: Task, files: &[Option<&[u8]>]) -> bool {
+    let how = judging(task, Telling::Json);
+    let run = outcome_of(alloc, how, &["a", "b"], files);
+    run.is(2, OBJECTS.as_bytes(), b"b: error file\n")
+}
+
 #[test]
 fn objects_in_order(rt: HostRuntime) -> Result<(), Fail> {
     let kernel = image_of(rt.alloc(), SMALLEST_KERNEL.words)?;
     let files = [Some(kernel.octets()), None];
-    for task in [Task::Check, Task::Explain { full: false }] {
-        let how = judging(task, Telling::Json);
-        let run = outcome_of(rt.alloc(), how, &["a", "b"], &files);
-        assert!(rt; run.status == 2);
-        assert!(rt; run.out.as_slice() == OBJECTS.as_bytes());
-        assert!(rt; run.err.as_slice() == b"b: error file\n".as_slice());
-    }
+    let checked = are_objects(rt.alloc(), Task::Check, &files);
+    let explained = are_objects(rt.alloc(), Task::Explain { full: false }, &files);
+    assert!(rt; checked && explained, "{checked}, {explained}");
     Ok(())
 }
 
@@ -82,11 +92,11 @@ fn extended_instructions(rt: HostRuntime) -> Result<(), Fail> {
     let image = image_of(rt.alloc(), ID_OVER_THE_BOUND_IN_AN_EXTENDED_INSTRUCTION)?;
     let files = [Some(image.octets())];
     let mut how = judging(Task::Check, Telling::Bare);
-    let run = outcome_of(rt.alloc(), how, &["a"], &files);
-    assert!(rt; run.out.as_slice() == b"valid\n".as_slice());
+    let is_passed_over = outcome_of(rt.alloc(), how, &["a"], &files).is(0, b"valid\n", b"");
     how.scope = Scope::Extended { as_1_6: false };
     let run = outcome_of(rt.alloc(), how, &["a"], &files);
-    assert!(rt; run.status == 1);
-    assert!(rt; run.out.as_slice() == b"fault D1 inst 9 word 31\n".as_slice());
+    let is_told = run.is(1, b"fault D1 inst 9 word 31\n", b"");
+    drop(run);
+    assert!(rt; is_passed_over && is_told, "{is_passed_over}, {is_told}");
     Ok(())
 }

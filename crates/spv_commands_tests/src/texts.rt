@@ -32,19 +32,28 @@ fn told(alloc: Global, table: &Table) -> Told {
     }
 }
 
+/// Whether the line of the fault alone is written.
+fn is_told_alone(alloc: Global, table: &Table) -> bool {
+    match written(alloc, table, false) {
+        Ok(line) => line.as_slice() == b"fault S1 line 2\n".as_slice(),
+        Err(_) => false,
+    }
+}
+
 #[test]
 fn a_fault_alone(rt: HostRuntime) -> Result<(), Fail> {
     let table = Table::from_slice(rt.alloc(), PROFILE.as_bytes())?;
-    match written(rt.alloc(), &table, false) {
-        Ok(line) => assert!(rt; line.as_slice() == b"fault S1 line 2\n".as_slice()),
-        Err(_) => return Err(Fail::from("an error")),
-    }
+    let is_told = is_told_alone(rt.alloc(), &table);
+    drop(table);
+    assert!(rt; is_told);
     Ok(())
 }
 
 #[test]
 fn a_fault_with_its_reason(rt: HostRuntime) -> Result<(), Fail> {
     let table = Table::from_slice(rt.alloc(), PROFILE.as_bytes())?;
-    each_refused(rt.alloc(), || told(rt.alloc(), &table))?;
+    let answer = each_refused(rt.alloc(), || told(rt.alloc(), &table));
+    drop(table);
+    answer?;
     Ok(())
 }

@@ -89,24 +89,27 @@ fn views_of_a_module(rt: HostRuntime) -> Result<(), Fail> {
     Ok(())
 }
 
-#[test]
-fn no_such_function(rt: HostRuntime) -> Result<(), Fail> {
-    let table = Table::from_slice(rt.alloc(), PROFILE.as_bytes())?;
-    let image = image_of(rt.alloc(), LOOP_WITH_PHI.words)?;
+/// Whether it is told that there is no such function.
+fn is_absent(alloc: Global, table: &Table, function: Chosen<'static>, bytes: &[u8]) -> bool {
     let call = Call {
         how: View::Graph,
-        function: None,
+        function: Some(function),
         begin: "",
     };
-    for function in [Chosen::Id(11), Chosen::Name("11"), Chosen::Name("kk")] {
-        let function = Some(function);
-        let answer = written(
-            rt.alloc(),
-            &table,
-            Call { function, ..call },
-            image.octets(),
-        );
-        assert!(rt; matches!(answer, Err(ViewError::NoFunction)));
-    }
+    matches!(
+        written(alloc, table, call, bytes),
+        Err(ViewError::NoFunction)
+    )
+}
+
+#[test]
+fn no_such_function(rt: HostRuntime) -> Result<(), Fail> {
+    let image = image_of(rt.alloc(), LOOP_WITH_PHI.words)?;
+    let table = Table::from_slice(rt.alloc(), PROFILE.as_bytes())?;
+    let id = is_absent(rt.alloc(), &table, Chosen::Id(11), image.octets());
+    let digits = is_absent(rt.alloc(), &table, Chosen::Name("11"), image.octets());
+    let name = is_absent(rt.alloc(), &table, Chosen::Name("kk"), image.octets());
+    drop(table);
+    assert!(rt; id && digits && name, "{id}, {digits}, {name}");
     Ok(())
 }
