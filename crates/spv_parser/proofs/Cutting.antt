@@ -1,12 +1,11 @@
 -- Where the first ` = ` stands in a line.
-use Rattle.std.proofs.Common.{◌≡◌, ◌≢◌, ◌++◌, ◌∙◌, ◌<◌, ◌≤◌, ◌^◌, ℕ, zero, suc, List, [], ◌∷◌, Option, Some, None, Bool}
+use Rattle.std.proofs.Common.{◌≡◌, ◌≢◌, ◌++◌, ◌∙◌, ◌<◌, ◌≤◌, ℕ, zero, suc, List, [], ◌∷◌, Option, Some, None, Bool}
 use Rattle.std.proofs.Common.{true, false, ◌&&◌, nat_eq, length, take, drop, option_map, refl, sym, ap, arith}
-use Rattle.std.specs.Prelude.{codes, decimal}
+use Rattle.std.specs.Prelude.{codes}
 use Rattle.std.proofs.lemmas.Bool.Decides.{nat_tests}
 use Rattle.std.specs.Str.Pattern.{FindsText, SplitsAroundMatch}
-use Rattle.spv_lines.specs.Operand.{id_text}
-use Rattle.spv_lines.specs.Line.{Halves, before_space, begins_equals, begins_percent, behind_equals, cut_at_equals}
-use Rattle.spv_lines.specs.Line.{from_space, parts_behind, parts_of}
+use Rattle.spv_lines.specs.Line.{Halves, begins_equals, begins_percent, behind_equals, cut_at_equals, parts_behind}
+use Rattle.spv_lines.specs.Line.{parts_of}
 
 abbrev pub equals_text : List ℕ
 equals_text = codes " = "
@@ -78,50 +77,11 @@ front_none (b ∷ t) n = by (nat_eq b 37) refl
     by true e = absurd (n t (ap (λ z. z ∷ t) (same b 37 e)))
     by false e = rw e refl
 
--- a text that does not begin with a space
-begins_not : (b : ℕ) (t : List ℕ) → nat_eq b 32 ≡ false → begins_equals (b ∷ t) ≡ false
-begins_not b [] e = refl
-begins_not b (c ∷ []) e = refl
-begins_not b (c ∷ d ∷ t) e = rw e refl
-
--- ` = ` stands at the first space
-pub cut_space : (t back : List ℕ) → from_space t ≡ equals_text ++ back → cut_at_equals t ≡ cut (before_space t) back
-cut_space [] back e = cc
-cut_space (b ∷ t) back e = by (cut_space t back) (nat_eq b 32) refl
-  where
-    here : (u : List ℕ) → u ≡ equals_text ++ back → cut_at_equals u ≡ cut [] back
-    here u f = rw f refl
-
-    by : (from_space t ≡ equals_text ++ back → cut_at_equals t ≡ cut (before_space t) back) → (x : Bool)
-        → nat_eq b 32 ≡ x → cut_at_equals (b ∷ t) ≡ cut (before_space (b ∷ t)) back
-    by later true f =
-        let g : b ∷ t ≡ equals_text ++ back = rw f at e in
-        rw f (here (b ∷ t) g)
-    by later false f =
-        let g : from_space t ≡ equals_text ++ back = rw f at e in
-        let k = ap (option_map (λ h. record { front = b ∷ h.front; back = h.back })) (later g) in
-        rw f (one_cut b t (begins_not b t f) ∙ k)
-
--- a number stands in front of it
-pub cut_numbered : (t : List ℕ) (n : ℕ) (rest back : List ℕ) → (n < 2 ^ 32) × (before_space t ≡ decimal n)
-    × (from_space t ≡ rest) → rest ≡ equals_text ++ back → cut_at_equals t ≡ cut (decimal n) back
-cut_numbered t n rest back h e =
-    let k = cut_space t back (h.2 ∙ e) in
-    rw h.1 at k
-
 abbrev parts_cut : Option Halves → Option Rattle.spv_lines.specs.Line.Parts
 parts_cut o = option_map (λ h. parts_behind (Some h.front) h.back) o
 
 percent_parts : (line u : List ℕ) → line ≡ 37 ∷ u → parts_cut (cut_at_equals line) ≡ parts_of line
 percent_parts line u e = rw e refl
-
-pub front_id : (line u : List ℕ) (n : ℕ) (back : List ℕ) → line ≡ 37 ∷ u → cut_at_equals u ≡ cut (decimal n) back
-    → Some (parts_behind (Some (id_text n)) back) ≡ parts_of line
-front_id line u n back e f =
-    let k = ap (option_map (λ h. record { front = 37 ∷ h.front; back = h.back })) f in
-    let g : cut_at_equals (37 ∷ u) ≡ cut (37 ∷ decimal n) back = one_cut 37 u (begins_not 37 u refl) ∙ k in
-    let g' : cut_at_equals line ≡ cut (37 ∷ decimal n) back = rw e g in
-    sym (ap parts_cut g') ∙ percent_parts line u e
 
 pub front_uncut : (line u : List ℕ) → line ≡ 37 ∷ u → FindsText equals_text line None → None ≡ parts_of line
 front_uncut line u e n = sym (ap parts_cut (uncut line n)) ∙ percent_parts line u e

@@ -17,17 +17,17 @@ ghost use Rattle.spv_module.specs.Operand.{PlainInst};
 ghost use Rattle.spv_lines.specs.Operand.{id_text};
 ghost use Rattle.spv_lines.specs.Refusal.{IsBreak};
 ghost use Rattle.spv_parser.specs.inner.Fast.{BeginsWith, IsStart, TakesFast, TakesNarrow, TakesTyped};
-ghost use Rattle.spv_parser.specs.inner.Heading.{front_text};
 ghost use Rattle.spv_parser.specs.inner.Reading.{AreRead, HasQuoted, HasToken};
 ghost use Rattle.spv_parser.specs.inner.Seen.{IsSeen};
 
-use crate::line::{Front, id_in};
 use crate::operands::{Line, Setting, is_break, is_text};
 use crate::seen::{Seen, find_named};
 use spv_inst::due::{
     DueItems, Form, Leaf, Next, form_in, joined, next_kind, push_operand, read_text,
 };
-use spv_lines::{Cell, Quotation, behind, is_narrow, read_front, read_unescaped, split_token};
+use spv_lines::{
+    Cell, Quotation, behind, is_narrow, read_behind, read_front, read_unescaped, split_token,
+};
 use spv_module::{Operand, opcode};
 use spv_table::{Pattern, Table};
 use std::alloc::AllocError;
@@ -312,7 +312,7 @@ fn begin<'t, 'a>(
     setting: &Setting<'t, '_>,
     words: &mut Vec<u32>,
     opcode: u16,
-    front: Option<Front<'_>>,
+    front: Option<&str>,
     pattern: &'t Pattern,
     operands: &'a str,
 ) -> Result<Option<Start<'t, 'a>>, AllocError>
@@ -322,9 +322,9 @@ fn begin<'t, 'a>(
     ensures read { IfOk result (λ o. IfSome o
         (λ s. IsStart setting.now.table.now opcode pattern.now operands.now s words.new.items)) }
     ensures front { IfOk result (λ o. IfSome o
-        (λ s. option_map front_text front.entry ≡ option_map id_text s.line.result)) }
+        (λ s. option_map (λ t. t.now) front.entry ≡ option_map id_text s.line.result)) }
 {
-    let Some(front) = front else {
+    let Some(text) = front else {
         let line = Line {
             opcode,
             result: None,
@@ -338,7 +338,7 @@ fn begin<'t, 'a>(
             rest: operands,
         }));
     };
-    let Ok(id) = id_in(front) else {
+    let Ok(id) = read_behind(b'%', text.as_bytes()) else {
         return Ok(None);
     };
     let Some((leaf, next)) = first_leaf(setting.forms, &[], DueItems::of(pattern)) else {
@@ -408,7 +408,7 @@ pub fn fast_operands<'t, 'a>(
     seen: &mut Option<Seen<'t, 'a>>,
     words: &mut Vec<u32>,
     opcode: u16,
-    front: Option<Front<'_>>,
+    front: Option<&str>,
     pattern: &'t Pattern,
     operands: &'a str,
 ) -> Result<Option<Line>, AllocError>
@@ -420,7 +420,7 @@ pub fn fast_operands<'t, 'a>(
         (λ o. IfSome o (λ l. AreRead setting.now.table.now l.result before opcode
         (map due (items_of pattern.now)) operands.now words.new.items l)) }
     ensures front { IfOk result (λ o. IfSome o
-        (λ l. option_map front_text front.entry ≡ option_map id_text l.result)) }
+        (λ l. option_map (λ t. t.now) front.entry ≡ option_map id_text l.result)) }
     ensures seen { IsSeen setting.now.table.now seen.new }
 {
     if opcode == opcode::TYPE_INT || opcode == opcode::TYPE_FLOAT {

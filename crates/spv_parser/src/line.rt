@@ -1,7 +1,7 @@
 //! The line of an instruction.
 
 ghost use Rattle.std.specs.Prelude.{◌≡◌, ◌<◌, ◌≤◌, ◌++◌, ◌∷◌, ℕ, List, Some, None, true};
-ghost use Rattle.std.specs.Prelude.{decimal, false, IfOk, IfErr, IfSome};
+ghost use Rattle.std.specs.Prelude.{false, IfOk, IfErr, IfSome};
 ghost use Rattle.std.specs.Prelude.{MatchOption, map, option_map};
 ghost use Rattle.spv_table.specs.declared.table.Entry as code;
 ghost use Rattle.spv_table.specs.Table as grammar;
@@ -11,16 +11,16 @@ ghost use Rattle.spv_table.specs.inner.Form.{form_of};
 ghost use Rattle.spv_inst.specs.inner.Known.{Knows};
 ghost use Rattle.spv_module.specs.Operand.{Context, PlainInst};
 ghost use Rattle.spv_lines.specs.Line as spec;
-ghost use Rattle.spv_lines.specs.Line.{IsInstName, before_space, cut_at_equals, from_space, parts_of};
-ghost use Rattle.spv_lines.specs.inner.Answer.{IsBehind, IsNamed};
-ghost use Rattle.spv_parser.specs.inner.Heading.{IsFront, IsKnown, IsOpcodeText, front_text};
+ghost use Rattle.spv_lines.specs.Line.{IsInstName, before_space, from_space, parts_of};
+ghost use Rattle.spv_lines.specs.inner.Answer.{IsNamed};
+ghost use Rattle.spv_parser.specs.inner.Heading.{IsFront, IsKnown, IsOpcodeText};
 ghost use Rattle.spv_parser.specs.inner.Reading.{IsLine, LineFailsOr};
 ghost use Rattle.spv_parser.specs.inner.Seen.{IsSeen};
 
 use crate::fast::fast_operands;
 use crate::operands::{Buffers, Line, Setting, is_break, read_operands};
 use crate::seen::Seen;
-use spv_lines::{AsmCode, Misread, behind, is_plain, read_behind, read_front, split_token};
+use spv_lines::{AsmCode, Misread, behind, is_plain, read_behind, split_token};
 use spv_table::{Entry, Table};
 
 /// An instruction of the table.
@@ -30,57 +30,18 @@ pub struct Named<'t> {
     pub entry: &'t Entry,
 }
 
-/// What stands in front of ` = `.
-#[derive(Clone, Copy)]
-pub enum Front<'a> {
-    /// `%` and this number in decimal.
-    Id(u32),
-    /// A text that begins with `%`.
-    Text(&'a str),
-}
-
-/// The id that stands in front of ` = `.
-#[inline(always)]
-pub fn id_in(front: Front<'_>) -> Result<u32, Misread>
-    ensures { IsBehind 37 (front_text front.entry) result }
-{
-    match front {
-        Front::Id(id) => Ok(id),
-        Front::Text(text) => read_behind(b'%', text.as_bytes()),
-    }
-}
-
-/// The number behind `%` in front of ` = `, and what stands behind that. None where no number stands there that ends
-/// at ` = `, or one of 4,000,000,000 or more.
-#[inline(always)]
-fn cut_id(marked: &str) -> Option<(u32, &str)>
-    ensures { IfSome result
-        (λ p. cut_at_equals marked.now ≡ Some (record { front = decimal p.0; back = (p.1).now })) }
-{
-    let Some(cell) = read_front(marked) else {
-        return None;
-    };
-    let Some(back) = cell.rest.strip_prefix(" = ") else {
-        return None;
-    };
-    Some((cell.number, back))
-}
-
 /// Cuts off what stands in front of ` = `, where a line begins with `%`. None where it does and has no ` = `.
-pub fn cut_front(line: &str) -> Option<(Option<Front<'_>>, &str)>
-    ensures { option_map (λ p. spec.parts_behind (option_map front_text p.0) (p.1).now) result
+pub fn cut_front(line: &str) -> Option<(Option<&str>, &str)>
+    ensures { option_map (λ p. spec.parts_behind (option_map (λ t. t.now) p.0) (p.1).now) result
         ≡ parts_of line.now }
 {
-    let Some(marked) = behind(line, b'%') else {
+    let Some(_) = behind(line, b'%') else {
         return Some((None, line));
     };
-    if let Some((id, back)) = cut_id(marked) {
-        return Some((Some(Front::Id(id)), back));
-    }
     let Some((front, back)) = line.split_once(" = ") else {
         return None;
     };
-    Some((Some(Front::Text(front)), back))
+    Some((Some(front), back))
 }
 
 /// The opcode that a plain name looks up. None where the name is not plain, or looks up none.
@@ -180,11 +141,11 @@ fn name_in<'t, 'a>(
 ///
 /// `S3`: it is missing where the pattern always has a result, or there where the pattern has none, or no id. `S4`: it
 /// is an id of over 32 bits.
-fn read_result(table: &Table, opcode: u16, front: Option<Front<'_>>) -> Result<Option<u32>, AsmCode>
+fn read_result(table: &Table, opcode: u16, front: Option<&str>) -> Result<Option<u32>, AsmCode>
     ensures { (c : Context) (entry : code.Entry) → entry_of table.now opcode ≡ Some entry
-        → IsFront table.now c (pattern_of entry) (option_map front_text front.entry) result }
+        → IsFront table.now c (pattern_of entry) (option_map (λ t. t.now) front.entry) result }
 {
-    let Some(front) = front else {
+    let Some(text) = front else {
         if table.has_result(opcode, false) {
             return Err(AsmCode::S3);
         }
@@ -193,7 +154,7 @@ fn read_result(table: &Table, opcode: u16, front: Option<Front<'_>>) -> Result<O
     if !table.has_result(opcode, true) {
         return Err(AsmCode::S3);
     }
-    match id_in(front) {
+    match read_behind(b'%', text.as_bytes()) {
         Ok(id) => Ok(Some(id)),
         Err(Misread::IllFormed) => Err(AsmCode::S3),
         Err(Misread::TooLarge) => Err(AsmCode::S4),

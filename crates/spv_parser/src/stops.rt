@@ -14,16 +14,15 @@ ghost use Rattle.spv_module.specs.Width as widths;
 ghost use Rattle.spv_lines.specs.Operand.{is_float_type};
 ghost use Rattle.spv_lines.specs.Refusal.{IsBreak};
 ghost use Rattle.spv_parser.specs.Reason.{behind_space, wanted_at, wanted_number, word_behind};
-ghost use Rattle.spv_parser.specs.inner.Heading.{front_text};
 ghost use Rattle.spv_parser.specs.inner.Reading.{IsAt, RefusesOr};
 ghost use Rattle.spv_parser.specs.inner.Stopping.{HasFront, HasOutcome, HaveOutcome, IsLeft, StopsAt, plain_stop};
 
-use crate::line::{Front, cut_front, id_in, look_up};
+use crate::line::{cut_front, look_up};
 use crate::operands::{Buffers, Known, Line, Setting, differ, take_operand};
 use crate::text_reason::Wanted;
 use crate::token::{type_of_first, width_of};
 use spv_inst::due::{Asked, Definitions, Leaf};
-use spv_lines::{AsmCode, Misread, behind, split_token};
+use spv_lines::{AsmCode, Misread, behind, read_behind, split_token};
 use spv_module::opcode;
 use spv_table::{Pattern, Table};
 use std::alloc::AllocError;
@@ -218,11 +217,11 @@ fn operands_or_stop<'t, 'a>(
 }
 
 /// Reads what stands in front of ` = `, if a line has it, or tells what is wanted there.
-fn result_or_lack(table: &Table, opcode: u16, front: Option<Front<'_>>) -> Result<Option<u32>, Lack>
+fn result_or_lack(table: &Table, opcode: u16, front: Option<&str>) -> Result<Option<u32>, Lack>
     ensures { (c : Context) (entry : code.Entry) → entry_of table.now opcode ≡ Some entry
-        → HasFront table.now c (pattern_of entry) (option_map front_text front.entry) result }
+        → HasFront table.now c (pattern_of entry) (option_map (λ t. t.now) front.entry) result }
 {
-    let Some(front) = front else {
+    let Some(text) = front else {
         if table.has_result(opcode, false) {
             return Err(Lack {
                 code: AsmCode::S3,
@@ -237,7 +236,7 @@ fn result_or_lack(table: &Table, opcode: u16, front: Option<Front<'_>>) -> Resul
             wanted: Wanted::NoResult,
         });
     }
-    match id_in(front) {
+    match read_behind(b'%', text.as_bytes()) {
         Ok(id) => Ok(Some(id)),
         Err(Misread::IllFormed) => Err(Lack {
             code: AsmCode::S3,

@@ -1,5 +1,5 @@
 -- What the fast way through a line's operands keeps and answers. (For the code alone.)
-use Rattle.std.specs.Prelude.{◌≡◌, ◌++◌, ◌∷◌, ℕ, List, Option, None, true}
+use Rattle.std.specs.Prelude.{◌≡◌, ◌++◌, ◌∷◌, ℕ, List, Option, Some, None, true}
 use Rattle.std.specs.Prelude.{map, Result, IfOk, IfSome}
 use Rattle.std.specs.declared.alloc.AllocError.{AllocError}
 use Rattle.spv_table.specs.declared.table.Item.{Item}

@@ -6,9 +6,6 @@ use Rattle.spv_lines.specs.declared.asm_error.AsmCode.{AsmCode}
 use Rattle.spv_lines.specs.Line.{IsInstName}
 use Rattle.spv_lines.specs.Name.{Names}
 use Rattle.spv_lines.specs.Fault.{IsResult, ResultFails}
-use Rattle.spv_lines.specs.Operand.{id_text}
-use Rattle.spv_parser.specs.declared.line.Front.{Front}
-use Rattle.spv_parser.specs.declared.line.Front.TheVariants.{Id, Text}
 use Rattle.spv_parser.specs.declared.line.Named.{Named}
 
 -- the opcode that a plain name of it or `#N` stands for, or that a text stands for none
@@ -19,11 +16,6 @@ IsOpcodeText lookup t None = (x : ℕ) → x < 65536 → Names lookup x t → �
 -- The name of the entry that is kept, if one is, stands for it.
 abbrev pub IsKnown : Table → Option Named → Type 0
 IsKnown G last = IfSome last (λ n. IsInstName G n.entry.now.name n.opcode n.entry.now)
-
--- the octets that stand in front of ` = `
-abbrev pub front_text : Front → List ℕ
-front_text (Id x) = id_text x
-front_text (Text t) = t.now
 
 -- the result that stands in front of ` = `, or that nothing does; or the code of a fault there
 abbrev pub IsFront : Table → Context → List Item → Option (List ℕ) → Result (Option ℕ) AsmCode → Type 0

@@ -1,11 +1,8 @@
-use Rattle.spv_parser.proofs.Cutting.{front_none, front_id, front_uncut, front_cut}
+use Rattle.spv_parser.proofs.Cutting.{front_none, front_uncut, front_cut}
 use Rattle.spv_parser.proofs.line.cut_front.Goals as goal
 
 pub returns-in_default : goal.returns-in_default
 returns-in_default c = front_none c.args.line.now c.in_default.ensures
-
-pub returns-in-Some-cut_id : goal.returns-in-Some-cut_id
-returns-in-Some-cut_id c = front_id c.args.line.now _ _ _ c.in-Some.ensures c.in-Some-cut_id.ensures
 
 pub returns-in_default-split_once : goal.returns-in_default-split_once
 returns-in_default-split_once c = front_uncut c.args.line.now _ c.in-Some.ensures c.in_default-split_once.ensures.cases
