@@ -11,7 +11,7 @@ import subprocess
 from dataclasses import dataclass
 from typing import Optional, Tuple
 
-from reading.profiles import Profile
+from reading.profiles import OF_PROGRAM, Profile
 from reading.verdict import grammar_in, verdict
 
 from .common import SECONDS, TESTS, Answer, Check, Unusable, difference, run
@@ -23,7 +23,7 @@ MODULES = TESTS / "compared"
 KERNEL = TESTS / "modules/smallest-kernel.spvasm"
 # How many lines of a text are its header.
 HEADER = 5
-OWN, EXTENDED, OPENCL = (profile.flags for profile in Profile)
+OWN, EXTENDED, OPENCL = (profile.flags for profile in OF_PROGRAM)
 VERSION = re.compile(r"; Version: (1\.[0-6])\n")
 
 

@@ -6,8 +6,10 @@ from functools import cached_property
 from .decode import Broken, instructions, words_of
 from .extended import check_miscalls, opened
 from .flow import bodies, check_flow
+from .opencl_std import check_types_of_calls
 from .order import SHAPE_OF, Places, check_ids, check_layout, check_shapes, uses_by
 from .profiles import Profile
+from .standard import check_standard
 from .text import Text, visible
 from .types import Types, check_types
 
@@ -64,6 +66,9 @@ class Facts:
         check_flow(self.insts, local, self.words[1])
         if self.profile >= Profile.EXTENDED:
             check_miscalls(self.insts)
+        if self.profile.asks_standard:
+            check_types_of_calls(self.types)
+            check_standard(self.types, local, self.words[1])
 
     def decoded(self):
         """The instructions. Where one is refused those before it are kept."""

@@ -118,7 +118,7 @@ IN_BODY = {code for codes, is_body, _ in ALL_SHAPES if is_body for code in opcod
 
 def opcodes_of(profile):
     """The opcodes that have a row, by how far a module is looked at."""
-    return SHAPE_OF.keys() if profile == Profile.OPENCL else PROFILE
+    return SHAPE_OF.keys() if profile >= Profile.OPENCL else PROFILE
 
 
 # What a letter of a shape is called.
@@ -257,7 +257,7 @@ def in_block(state, opcode):
 def after(state, opcode, profile=Profile.OWN):
     """What comes after an instruction of the layout, or None where it can't stand there."""
     name, what = state
-    if opcode == opencl.EXTENDED and profile == Profile.OPENCL:
+    if opcode == opencl.EXTENDED and profile >= Profile.OPENCL:
         return state if name in opencl.PASSED else after_section(what, LINES[0]) if name == "section" else None
     if name == "section":
         return after_section(what, opcode)
