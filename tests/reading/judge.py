@@ -9,7 +9,7 @@ from collections import deque
 
 from . import conditions, extended, objects, owners
 from .facts import FUNCTION, FUNCTION_END, LABEL, Facts, open_at
-from .flow import CALL, TOLD, ToldOfTargets, targets
+from .flow import CALL, TOLD, ToldOfTargets
 from .forms import UNLIKE, VECTOR, VOID
 from .order import BEGIN, MOST_NAMES, after, kinds_of, may_come, may_end, row_text
 from .profiles import Profile
@@ -615,7 +615,7 @@ class Judge(ToldOfTargets, extended.ToldOfCalls):
             return any(insts[it].result == of for it in body.blocks[block])
 
         def following(block):
-            return [] if makes(block) else targets(insts[body.blocks[block][-1]])
+            return [] if makes(block) else body.leads[block]
 
         if of in body.parameters or not steps or steps[0] != body.entry or steps[-1] != goal:
             return False
