@@ -1,8 +1,8 @@
-"""What `--opencl` is to ask of a module besides, by the second reading, which asks it already: Y10 and the rules O1 to O23.
+"""What `--opencl` is to ask of a module besides, Y10 and the rules O1 to O23, by the second reading, which asks it.
 
-Its cases (tests/cases-to-come), alone and beside spirv-val; modules at each limit and one past it; its tables of versions
-and extensions beside Khronos' grammar; the order of random blocks beside what the standard says of it; and that each
-instruction of OpenCL.std has a class that fits it.
+Its cases (tests/cases-to-come), alone and beside spirv-val; modules at each limit and one past it; its tables of
+versions and extensions beside Khronos' grammar; the order of random blocks beside what the standard says of it; and
+that each instruction of OpenCL.std has a class that fits it.
 """
 
 import json
@@ -38,8 +38,9 @@ ACCEPTED = """
     linked-type aligned-number aligned-struct aligned-pointer-type offset-at-most-of-a-number
     offset-at-most-of-a-number-by-an-id group-on-what-it-may-not-stand-on group-of-a-later-decoration
     group-on-a-member-that-cannot-have-it restricted-and-aliased-by-a-group load-of-scope-6 group-sum-of-scope-0
-    group-sum-of-scope-1 group-sum-of-scope-4 copy-of-a-device wait-of-a-device exchange-that-is-stronger-where-different
-    exchange-that-acquires-where-different-alone exchange-that-acquires-where-different-of-memory-alone
+    group-sum-of-scope-1 group-sum-of-scope-4 copy-of-a-device wait-of-a-device
+    exchange-that-is-stronger-where-different exchange-that-acquires-where-different-alone
+    exchange-that-acquires-where-different-of-memory-alone
     atomic-load-of-i8 atomic-store-of-i8 atomic-load-of-i16 atomic-store-of-i16 atomic-load-of-f16 atomic-store-of-f16
     atomic-sum-of-i16 copy-to-class-0 copy-to-class-1 sized-copy-to-class-0 sized-copy-to-class-1
     size-of-a-type-of-version-1-0 pointers-difference-of-version-1-3

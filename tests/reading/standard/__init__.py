@@ -1,4 +1,4 @@
-"""What the standard asks besides: stage O, the rules O1 to O23. Sections are those of Khronos' SPIR-V Specification 1.6.
+"""What the standard asks besides: stage O, the rules O1 to O23. The standard is Khronos' SPIR-V Specification 1.6.
 
 A rule is a function of its name, which tells the numbers of instructions at which it is broken, in any order. It may
 take for granted what the stages before ask. None takes much more time for a module of twice the size than twice that.

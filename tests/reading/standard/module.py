@@ -15,8 +15,8 @@ LINKAGE_ATTRIBUTES, IMPORT = 41, 1
 
 
 class Module:
-    """The instructions with their types, definitions and blocks. `number` and `at` are the place of an instruction among
-    all."""
+    """The instructions with their types, definitions and blocks. `number` and `at` are the place of an instruction
+    among all."""
 
     def __init__(self, types, local, version):
         self.types, self.insts, self.local = types, types.insts, local

@@ -13,7 +13,8 @@ IMPORT, COPIES, SELECT = 11, (63, 64), 169
 NON_SEMANTIC, OF_NON_SEMANTIC = "NonSemantic.", "SPV_KHR_non_semantic_info"
 HLSL = "SPV_GOOGLE_hlsl_functionality1"
 
-# Table V: a kind, numbers, the minor version from which on they are there, and extensions by which they are there before.
+# Table V: a kind, numbers, the minor version from which on they are there, and extensions by which they are there
+# before.
 FIRST = (
     (OPCODE, "321 330", 1, ""),
     (OPCODE, "331", 2, ""),
