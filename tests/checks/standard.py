@@ -16,6 +16,7 @@ from reading.assemble import Writer, assembled
 from reading.decode import Grammar, Inst
 from reading.extended import OPENCL as LIBRARY
 from reading.extended import counts, sets
+from reading.facts import Facts
 from reading.flow import bodies
 from reading.order import SHAPE_OF, parts_of, words_in
 from reading.profiles import Profile
@@ -46,6 +47,20 @@ ACCEPTED = """
     size-of-a-type-of-version-1-0 pointers-difference-of-version-1-3
 """.split()
 REFUSED = "nonwritable-variable nonwritable-pointer-parameter interface-without-an-initializer".split()
+# Of cases that break Y10 the operand that fails first: 0 is the result type, 4 the first one behind the number.
+OPERANDS = """
+    0 sine-of-an-int length-as-a-vector nothing-as-a-char load-of-a-scalar store-that-gives-a-value print-that-gives-two
+    0 cross-product-of-two gamma-of-an-int shuffled-to-three selected-bools prefetch-that-gives-a-value
+    4 sine-of-a-float-as-a-double length-of-ints-as-a-float length-of-eight logarithm-of-too-many two-chars-as-an-int
+    4 fraction-of-another-type shuffled-from-three load-by-a-small-offset store-of-a-half-from-a-half
+    4 prefetch-of-local-memory print-of-wide-letters not-a-number-of-a-float store-of-bools
+    5 power-of-a-float-and-a-vector distance-of-a-point-and-a-number fraction-into-constant-memory exponent-as-a-long
+    5 quotient-of-two-types power-of-one-int-for-all upper-and-lower-half-differ selected-from-two-types
+    5 shuffled-by-floats shuffled-from-two-types load-from-a-vector store-by-a-small-offset prefetch-of-a-few
+    6 multiplied-and-added-to-another quotient-without-a-pointer selected-by-a-bool shuffled-from-two-by-a-wider-mask
+    6 load-of-another-number load-of-halves-of-another-number store-to-a-vector store-of-a-half-as-a-float
+    7 store-of-a-half-rounded-by-no-mode store-of-halves-rounded-by-no-mode
+"""
 
 
 def to_come():
@@ -70,6 +85,18 @@ def cases_read(_program, _folder):
         wrong += [f"  {name}: there is a case of that name"] if name in names else []
         names.add(name)
     return "\n".join(wrong) or (None if len(found) > FEWEST else f"  {len(found)} cases")
+
+
+def operands_told(_program, _folder):
+    """None where the operand that the second reading tells of each of these cases is the one that fails first."""
+    contents, wrong = {case.one("case"): content_of(case) for case in to_come()}, []
+    for line in OPERANDS.split("\n"):
+        operand, *names = line.split() or ["0"]
+        for name in names:
+            broken = Facts(grammar_read(OPENCL), contents[name], Profile.STANDARD).broken
+            if broken is None or broken.operand != int(operand):
+                wrong.append(f"  {name}: {broken and broken.operand}, and not {operand}")
+    return "\n".join(wrong) or None
 
 
 def cases_beside(_program, folder):
@@ -307,6 +334,7 @@ def checks():
     khronos, peer = frozenset({"khronos"}), frozenset({"spirv-val"})
     return [
         Check("standard: the second reading of the cases to come", frozenset(), cases_read),
+        Check("standard: the operands that Y10 tells", frozenset(), operands_told),
         Check("standard: the cases to come beside spirv-val", frozenset(), cases_beside, peer),
         Check("standard: versions and extensions beside Khronos' grammar", frozenset(), tables_agree, khronos),
         Check("standard: the order of random blocks", frozenset(), blocks_ordered),
