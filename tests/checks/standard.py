@@ -46,7 +46,10 @@ ACCEPTED = """
     atomic-sum-of-i16 copy-to-class-0 copy-to-class-1 sized-copy-to-class-0 sized-copy-to-class-1
     size-of-a-type-of-version-1-0 pointers-difference-of-version-1-3
 """.split()
-REFUSED = "nonwritable-variable nonwritable-pointer-parameter interface-without-an-initializer".split()
+REFUSED = """
+    nonwritable-variable nonwritable-pointer-parameter interface-without-an-initializer uniform-label uniform-void
+    uniform-value-in-a-far-scope uniform-member interface-of-members-that-are-built-in
+""".split()
 # Of cases that break Y10 the operand that fails first: 0 is the result type, 4 the first one behind the number.
 OPERANDS = """
     0 sine-of-an-int length-as-a-vector nothing-as-a-char load-of-a-scalar store-that-gives-a-value print-that-gives-two
