@@ -1,3 +1,4 @@
 pub mod Listing
 pub mod Importing
 pub mod Telling
+pub mod Worked

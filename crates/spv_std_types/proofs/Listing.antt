@@ -1,5 +1,5 @@
 -- Conditions, one after another.
-use Rattle.std.proofs.Common.{◌≡◌, ◌≤◌, ◌+◌, ◌++◌, ℕ, zero, suc, List, [], ◌∷◌, Some, refl, ap, subst, length, take, arith}
+use Rattle.std.proofs.Common.{◌≡◌, ◌∙◌, ◌≤◌, ◌+◌, ◌++◌, ℕ, zero, suc, List, [], ◌∷◌, Some, refl, ap, sym, subst, length, take, arith}
 use Rattle.std.specs.Prelude.{slice_get}
 use Rattle.std.specs.List.{AllByRecursion}
 use Rattle.std.proofs.lemmas.Option.{none-some}
@@ -55,3 +55,17 @@ not_all P xs a f h = f.fails (last_of f.before (subst (AllByRecursion P) f.all h
   last_of : (before : List Condition) → AllByRecursion P (before ++ a ∷ f.after) → P a
   last_of [] k = k.0
   last_of (b ∷ before) k = last_of before k.1
+
+-- a first one is one alone
+one_first : (P : Condition → Type 0) (a b : Condition) (p q ps qs : List Condition) → p ++ a ∷ ps ≡ q ++ b ∷ qs
+    → AllByRecursion P p → AllByRecursion P q → ¬ (P a) → ¬ (P b) → a ≡ b
+one_first P a b [] [] ps qs e h k m n = cc
+one_first P a b [] (y ∷ q) ps qs e h k m n = absurd (m (subst P (let s : y ≡ a = cc in s) k.0))
+one_first P a b (x ∷ p) [] ps qs e h k m n = absurd (n (subst P (let s : x ≡ b = cc in s) h.0))
+one_first P a b (x ∷ p) (y ∷ q) ps qs e h k m n =
+    one_first P a b p q ps qs (let s : p ++ a ∷ ps ≡ q ++ b ∷ qs = cc in s) h.1 k.1 m n
+
+pub same_first : (P : Condition → Type 0) (xs : List Condition) (a b : Condition) → FailsFirst P xs a
+    → FailsFirst P xs b → a ≡ b
+same_first P xs a b f g =
+    one_first P a b f.before g.before f.after g.after (sym f.all ∙ g.all) f.hold g.hold f.fails g.fails

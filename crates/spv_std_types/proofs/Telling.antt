@@ -4,7 +4,7 @@ use Rattle.std.specs.Prelude.{slice_get, MatchOption}
 use Rattle.std.proofs.lemmas.Bool.{cases_lt}
 use Rattle.std.proofs.lemmas.Option.{slice_get_past}
 use Rattle.spv_module.specs.declared.opcode.TheConstants.{EXT_INST}
-use Rattle.spv_module.specs.Operand.{Plain, PlainInst}
+use Rattle.spv_module.specs.Operand.{Plain, OfType, Result, Id, Word, PlainInst}
 use Rattle.spv_extended.specs.declared.set.Set.TheVariants.{OpenClStd}
 use Rattle.spv_extended.specs.Sets.{set_in}
 use Rattle.spv_std_types.specs.declared.condition.Condition.{Condition}
@@ -12,7 +12,7 @@ use Rattle.spv_std_types.specs.Condition.{Holds}
 use Rattle.spv_std_types.specs.Table.{conditions_of}
 use Rattle.spv_std_types.specs.Mistyped.{BreaksCall, Mistypes, IsMistyped, IsMistypedBy}
 use Rattle.spv_std_types.specs.inner.Failing.{BreaksBy, IsFirstIn, IsFound}
-use Rattle.spv_std_types.proofs.Listing.{not_all}
+use Rattle.spv_std_types.proofs.Listing.{not_all, same_first}
 
 -- a call of OpenCL.std
 pub of_call : (is : List PlainInst) (r set number : ℕ) (os : List Plain) (o : Option Condition)
@@ -47,3 +47,16 @@ none_mistyped is n h l k m = elim (cases_lt k n) [
       let one : Some m.1.inst ≡ None = sym m.1.there ∙ slice_get_past is k past in
       cc
 ]
+
+-- one condition is broken
+one_mistyping : (is : List PlainInst) (os : List Plain) (a b : Condition) → Mistypes is os a → Mistypes is os b → a ≡ b
+one_mistyping is (OfType r ∷ Result x ∷ Id set ∷ Word number ∷ os) a b m n =
+    same_first (Holds is r os) (conditions_of number) a b m.1 n.1
+one_mistyping is _ a b m n = absurd m
+
+pub one_told : (is : List PlainInst) (n : ℕ) (a b : Condition) → IsMistypedBy is n a → IsMistypedBy is n b → a ≡ b
+one_told is n a b p q =
+    let one : Some q.inst ≡ Some p.inst = sym q.there ∙ p.there in
+    let same : q.inst ≡ p.inst = cc in
+    one_mistyping is p.inst.operands a b p.mistyped
+    (subst (λ (j : PlainInst). Mistypes is j.operands b) same q.mistyped)

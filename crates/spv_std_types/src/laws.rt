@@ -175,5 +175,6 @@ pub fn module_examples()
     ensures mistyped { IsMistypedBy (types ++ value 8 ∷ inst opcode.EXT_INST (call 9 0 (of 8 ∷ [])) ∷ []) 22
         (condition.Relation (subject.Value 0) relation.Same subject.Result) }
     ensures no_call { (a : Condition) → ¬ (IsMistypedBy (value 8 ∷ inst opcode.F_NEGATE (call 9 0 (of 8 ∷ [])) ∷ []) 1 a) }
-    ensures first { IsFirstMistyped (value 8 ∷ []) None }
+    ensures none { IsFirstMistyped (value 8 ∷ []) None }
+    ensures not_first { ¬ (IsFirstMistyped (value 8 ∷ []) (Some 0)) }
 {}
