@@ -48,7 +48,7 @@ pub fn word_examples()
     ensures count { spec.IsNumber small 9 number.Count 4 }
     ensures no_count { ¬ (spec.IsNumber small 9 number.Count 2) }
     // The operands behind the number of the instruction are numbered from 4 on.
-    ensures result { spec.operand_of (condition.Type subject.Result wanted.Void) ≡ 0 }
+    ensures result_type { spec.operand_of (condition.Type subject.Result wanted.Void) ≡ 0 }
     ensures first { spec.operand_of (condition.Relation (subject.Value 0) relation.Same subject.Result) ≡ 4 }
     ensures rounding { spec.operand_of (condition.Number 3 number.Rounding) ≢ 4 }
 {}
@@ -58,8 +58,8 @@ pub fn operand_examples()
     ensures value { spec.type_at small 2 (of 9 ∷ of 6 ∷ of 17 ∷ []) (subject.Value 0) ≡ Some 9 }
     ensures pointee { spec.type_at small 2 (of 9 ∷ of 6 ∷ of 17 ∷ []) (subject.Pointee 2) ≡ Some 8 }
     ensures no_pointee { spec.type_at small 2 (of 9 ∷ of 6 ∷ of 17 ∷ []) (subject.Pointee 0) ≡ None }
-    ensures number { spec.number_at (of 6 ∷ of 15 ∷ Id 4 ∷ []) 2 ≡ Some 4 }
-    ensures no_number { spec.number_at (of 6 ∷ of 15 ∷ Id 4 ∷ []) 1 ≡ None }
+    ensures literal { spec.number_at (of 6 ∷ of 15 ∷ Id 4 ∷ []) 2 ≡ Some 4 }
+    ensures no_literal { spec.number_at (of 6 ∷ of 15 ∷ Id 4 ∷ []) 1 ≡ None }
 {}
 
 /// What instructions ask: s_mul24 (169), and a number that no instruction has.
