@@ -1,5 +1,6 @@
 -- The parts of the operands of an OpExtInst.
-use Rattle.std.proofs.Common.{◌≡◌, ◌≤◌, ℕ, List, [], ◌∷◌, Option, Some, None, Bool, true, false, length, drop, get_or, refl, sym, ap, subst, arith}
+use Rattle.std.proofs.Common.{◌≡◌, ◌≤◌, ◌-◌, ℕ, List, [], ◌∷◌, Option, Some, None, Bool, true, false, length, take, drop, get_or, refl, sym, ap, subst, arith}
+use Rattle.std.proofs.lemmas.List.{take_rest}
 use Rattle.spv_module.specs.declared.operand.Operand.{Operand}
 use Rattle.spv_module.specs.Module.{plain_operand, plain_operands}
 use Rattle.spv_module.specs.Operand.{Plain, OfType, Result, Id, Word, PlainInst}
@@ -34,8 +35,10 @@ of_call is p _ u v ps r set number o e f g h k = absurd (let no : false ≡ true
 pub of_parts : (is : List PlainInst) (os : List Operand) (d : Operand) (r set number : ℕ) (o : Option Condition)
     → 4 ≤ length os → plain_operand (get_or os 0 d) ≡ OfType r → is_result (plain_operand (get_or os 1 d)) ≡ true
     → plain_operand (get_or os 2 d) ≡ Id set → plain_operand (get_or os 3 d) ≡ Word number
-    → IsFound (BreaksCall is r set number (plain_operands (drop 4 os))) o → IsFound (Mistypes is (plain_operands os)) o
+    → IsFound (BreaksCall is r set number (plain_operands (take (length os - 4) (drop 4 os)))) o
+    → IsFound (Mistypes is (plain_operands os)) o
 of_parts is os d r set number o l e f g h k =
     subst (λ (ps : List Operand). IsFound (Mistypes is (plain_operands ps)) o) (four_of os d l)
     (of_call is (plain_operand (get_or os 0 d)) (plain_operand (get_or os 1 d)) (plain_operand (get_or os 2 d))
-    (plain_operand (get_or os 3 d)) (plain_operands (drop 4 os)) r set number o e f g h k)
+    (plain_operand (get_or os 3 d)) (plain_operands (drop 4 os)) r set number o e f g h
+    (subst (λ (ps : List Operand). IsFound (BreaksCall is r set number (plain_operands ps)) o) (take_rest os 4) k))

@@ -36,7 +36,7 @@ broken is r x set number os k a s e h n = (s, fails_at (Holds is r os) (conditio
 pub apart : (a b : ℕ) → nat_eq a b ≡ false → a ≢ b
 apart a b f e = let t : nat_eq a b ≡ true = eq-eqb a b e in cc
 
-pub four : 4 ≢ 1
+pub four : ◌≢◌ {A = ℕ} 4 1
 four = apart 4 1 refl
 
 pub few : 4 ≤ 4

@@ -6,7 +6,7 @@ use Rattle.spv_std_types.proofs.laws.same_examples.Goals as goal
 
 pub returns-clause-floats : goal.returns-clause-floats
 unfolding lines
-returns-clause-floats c = kept small 9 99 1 0 (of 9 ∷ []) (refl, refl, tt)
+returns-clause-floats c = kept small 9 99 1 0 (of 9 ∷ []) (refl, (refl, tt))
 
 pub returns-clause-other_type : goal.returns-clause-other_type
 unfolding lines
@@ -18,15 +18,15 @@ returns-clause-no_floats c = broken small 5 99 1 0 (of 5 ∷ []) 0 _ refl refl t
 
 pub returns-clause-three : goal.returns-clause-three
 unfolding lines
-returns-clause-three c = kept small 8 99 1 26 (of 8 ∷ of 8 ∷ of 8 ∷ []) (refl, refl, refl, refl, tt)
+returns-clause-three c = kept small 8 99 1 26 (of 8 ∷ of 8 ∷ of 8 ∷ []) (refl, (refl, (refl, (refl, tt))))
 
 pub returns-clause-third : goal.returns-clause-third
 unfolding lines
-returns-clause-third c = broken small 8 99 1 26 (of 8 ∷ of 8 ∷ of 9 ∷ []) 3 _ refl refl (refl, refl, refl, tt) (apart 9 8 refl)
+returns-clause-third c = broken small 8 99 1 26 (of 8 ∷ of 8 ∷ of 9 ∷ []) 3 _ refl refl (refl, (refl, (refl, tt))) (apart 9 8 refl)
 
 pub returns-clause-ints : goal.returns-clause-ints
 unfolding lines
-returns-clause-ints c = kept small 11 99 1 149 (of 11 ∷ of 11 ∷ of 11 ∷ []) (refl, refl, refl, refl, tt)
+returns-clause-ints c = kept small 11 99 1 149 (of 11 ∷ of 11 ∷ of 11 ∷ []) (refl, (refl, (refl, (refl, tt))))
 
 pub returns-clause-no_ints : goal.returns-clause-no_ints
 unfolding lines
@@ -34,7 +34,7 @@ returns-clause-no_ints c = broken small 8 99 1 149 (of 8 ∷ of 8 ∷ of 8 ∷ [
 
 pub returns-clause-width : goal.returns-clause-width
 unfolding lines
-returns-clause-width c = kept small 5 99 1 169 (of 5 ∷ of 5 ∷ []) (refl, refl, refl, refl, tt)
+returns-clause-width c = kept small 5 99 1 169 (of 5 ∷ of 5 ∷ []) (refl, (refl, (refl, (refl, tt))))
 
 pub returns-clause-other_width : goal.returns-clause-other_width
 unfolding lines
@@ -42,7 +42,7 @@ returns-clause-other_width c = broken small 6 99 1 169 (of 6 ∷ of 6 ∷ []) 1 
 
 pub returns-clause-few : goal.returns-clause-few
 unfolding lines
-returns-clause-few c = kept small 9 99 1 107 (of 9 ∷ []) (refl, few, refl, tt)
+returns-clause-few c = kept small 9 99 1 107 (of 9 ∷ []) (refl, (few, (refl, tt)))
 
 pub returns-clause-eight : goal.returns-clause-eight
 unfolding lines
@@ -50,7 +50,7 @@ returns-clause-eight c = broken small 10 99 1 107 (of 10 ∷ []) 1 _ refl refl (
 
 pub returns-clause-cross : goal.returns-clause-cross
 unfolding lines
-returns-clause-cross c = kept small 9 99 1 104 (of 9 ∷ of 9 ∷ []) (refl, inr refl, refl, refl, tt)
+returns-clause-cross c = kept small 9 99 1 104 (of 9 ∷ of 9 ∷ []) (refl, (inr refl, (refl, (refl, tt))))
 
 pub returns-clause-two : goal.returns-clause-two
 unfolding lines
@@ -61,7 +61,7 @@ returns-clause-two c = broken small 12 99 1 104 (of 12 ∷ of 12 ∷ []) 1 _ ref
 
 pub returns-clause-numbers : goal.returns-clause-numbers
 unfolding lines
-returns-clause-numbers c = kept small 5 99 1 186 (of 5 ∷ of 5 ∷ of 5 ∷ []) (inl refl, refl, refl, refl, tt)
+returns-clause-numbers c = kept small 5 99 1 186 (of 5 ∷ of 5 ∷ of 5 ∷ []) (inl refl, (refl, (refl, (refl, tt))))
 
 pub returns-clause-no_numbers : goal.returns-clause-no_numbers
 unfolding lines
