@@ -1,4 +1,4 @@
-use Rattle.std.proofs.Common.{◌≡◌, true, false, subst}
+use Rattle.std.proofs.Common.{subst}
 use Rattle.spv_module.specs.Module.{plain_operands}
 use Rattle.spv_std_types.specs.Condition.{Holds}
 use Rattle.spv_std_types.specs.inner.Failing.{IsFirstIn}
