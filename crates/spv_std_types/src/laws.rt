@@ -114,7 +114,8 @@ pub fn other_examples()
     ensures one_exponent { Breaks 5 33 (of 9 ∷ [])
         (condition.Relation (subject.Value 0) relation.SameCount subject.Result) }
     ensures nan { Keeps 8 46 (of 5 ∷ []) }
-    ensures wide_nan { Breaks 8 46 (of 6 ∷ []) (condition.Relation (subject.Value 0) relation.SameWidth subject.Result) }
+    ensures wide_nan { Breaks 8 46 (of 6 ∷ [])
+        (condition.Relation (subject.Value 0) relation.SameWidth subject.Result) }
     ensures upsample { Keeps 5 164 (of 4 ∷ of 4 ∷ []) }
     ensures quarter { Breaks 6 164 (of 4 ∷ of 4 ∷ [])
         (condition.Relation (subject.Value 0) relation.HalfWidth subject.Result) }
@@ -137,7 +138,8 @@ pub fn choice_examples()
 pub fn load_examples()
     ensures load { Keeps 9 171 (of 6 ∷ of 15 ∷ Id 4 ∷ []) }
     ensures two { Breaks 9 171 (of 6 ∷ of 15 ∷ Id 2 ∷ []) (condition.Number 2 number.Count) }
-    ensures narrow { Breaks 9 171 (of 5 ∷ of 15 ∷ Id 4 ∷ []) (condition.Type (subject.Value 0) (wanted.Kind kind.Size)) }
+    ensures narrow { Breaks 9 171 (of 5 ∷ of 15 ∷ Id 4 ∷ [])
+        (condition.Type (subject.Value 0) (wanted.Kind kind.Size)) }
     ensures half { Keeps 8 173 (of 6 ∷ of 18 ∷ []) }
     ensures no_half { Breaks 8 173 (of 6 ∷ of 17 ∷ []) (condition.Type (subject.Pointee 1) wanted.Half) }
     ensures halves { Keeps 9 174 (of 6 ∷ of 18 ∷ Id 4 ∷ []) }
@@ -174,7 +176,8 @@ pub fn module_examples()
     ensures no_number { Keeps 5 111 (of 5 ∷ []) }
     ensures mistyped { IsMistypedBy (types ++ value 8 ∷ inst opcode.EXT_INST (call 9 0 (of 8 ∷ [])) ∷ []) 22
         (condition.Relation (subject.Value 0) relation.Same subject.Result) }
-    ensures no_call { (a : Condition) → ¬ (IsMistypedBy (value 8 ∷ inst opcode.F_NEGATE (call 9 0 (of 8 ∷ [])) ∷ []) 1 a) }
+    ensures no_call { (a : Condition)
+        → ¬ (IsMistypedBy (value 8 ∷ inst opcode.F_NEGATE (call 9 0 (of 8 ∷ [])) ∷ []) 1 a) }
     ensures none { IsFirstMistyped (value 8 ∷ []) None }
     ensures not_first { ¬ (IsFirstMistyped (value 8 ∷ []) (Some 0)) }
 {}

@@ -99,8 +99,8 @@ macro_rules! table {
             0 to 6, 8 to 9, 11 to 12, 14 to 23, 25, 35, 37 to 41, 53, 55 to 57, 59 to 67, 69 to 74, 76 to 81, 83 to 88,
             90 to 94, 96, 100, 103:
                 [r is Floats] [o Same r];
-            // Two of them: atan2, atan2pi, copysign, fdim, fmax, fmin, fmod, hypot, maxmag, minmag, nextafter, pow, powr,
-            // remainder, half_divide, half_powr, native_divide, native_powr, fmax_common, fmin_common, step.
+            // Two of them: atan2, atan2pi, copysign, fdim, fmax, fmin, fmod, hypot, maxmag, minmag, nextafter, pow,
+            // powr, remainder, half_divide, half_powr, native_divide, native_powr, fmax_common, fmin_common, step.
             7, 10, 13, 24, 27 to 29, 32, 43 to 44, 47 to 48, 50 to 51, 68, 75, 82, 89, 97 to 98, 101:
                 [r is Floats] [o Same r] [p Same r];
             // Three of them: fma, mad, fclamp, mix, smoothstep.
@@ -139,8 +139,8 @@ macro_rules! table {
                 [r is Numbers] [r count 2 4 8 16] [o SameComponent r] [o count 2 4 8 16] [p is Ints] [p SameWidth r]
                 [p SameCount r];
             183:
-                [r is Numbers] [r count 2 4 8 16] [o SameComponent r] [o count 2 4 8 16] [p Same o] [q is Ints] [q SameWidth r]
-                [q SameCount r];
+                [r is Numbers] [r count 2 4 8 16] [o SameComponent r] [o count 2 4 8 16] [p Same o] [q is Ints]
+                [q SameWidth r] [q SameCount r];
             // vloadn; vload_half; vload_halfn, vloada_halfn.
             171: [r is Numbers] [r count not 1] [o is Size] [p in Loaded] [to p ComponentOf r] [number q Count];
             173: [r is Floats] [r count 1] [o is Size] [p in Loaded] [to p is Half];
@@ -152,7 +152,8 @@ macro_rules! table {
                 [r is Void] [o is Floats] [o count 1] [o width 32 64] [p is Size] [q in Stored] [to q is Half]
                 [number s Rounding];
             // vstore_halfn, vstorea_halfn; vstore_halfn_r, vstorea_halfn_r.
-            177, 180: [r is Void] [o is Floats] [o count not 1] [o width 32 64] [p is Size] [q in Stored] [to q is Half];
+            177, 180:
+                [r is Void] [o is Floats] [o count not 1] [o width 32 64] [p is Size] [q in Stored] [to q is Half];
             178, 181:
                 [r is Void] [o is Floats] [o count not 1] [o width 32 64] [p is Size] [q in Stored] [to q is Half]
                 [number s Rounding];
@@ -224,8 +225,8 @@ fn conditions_in(entries: &[Entry], number: u32) -> &'static [Condition]
     &[]
 }
 
-/// What the instruction of OpenCL.std of a number asks, in the order in which it is looked at. Nothing where there is no
-/// such instruction.
+/// What the instruction of OpenCL.std of a number asks, in the order in which it is looked at. Nothing where there is
+/// no such instruction.
 pub fn conditions_of(number: u32) -> &'static [Condition]
     ensures { result.now ≡ spec.conditions_of number }
 {
