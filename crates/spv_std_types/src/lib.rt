@@ -2,6 +2,7 @@
 //! asks of its result type and of its operands (Y10).
 #![tactic(auto)]
 
+mod asked;
 mod condition;
 mod decide;
 mod first;
@@ -9,6 +10,7 @@ pub mod laws;
 mod mistyped;
 mod table;
 
+pub use asked::asks_types;
 pub use condition::{Among, Classes, Condition, Number, Relation, Subject, Wanted, operand_of};
 pub use mistyped::{first_mistyped, mistyping_at};
 pub use table::conditions_of;
