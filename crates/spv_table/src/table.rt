@@ -2,11 +2,14 @@ ghost use Rattle.std.specs.Prelude.{◌≡◌, ◌<◌, ◌^◌, ℕ, List, leng
 ghost use Rattle.std.specs.Prelude.{min, take, map, option_map, option_and_then, IfOk};
 ghost use Rattle.spv_table.specs.Table.{entry_of, kind_of, enumerant_of, first_with, IsWhole};
 ghost use Rattle.spv_table.specs.Lookups.{opcode_named, value_named, number_named};
+ghost use Rattle.spv_table.specs.inner.Places.{ArePlacesOf};
 ghost use Rattle.spv_table.specs.inner.Form.{form_of};
 ghost use Rattle.spv_table.specs.inner.Front.{front_at, AreFronts};
 ghost use Rattle.spv_table.specs.inner.Named.{Finds};
 ghost use Rattle.spv_table.specs.inner.Results.{entry_has_result, results_of};
 
+use crate::entries::{Entries, EntryRef};
+use crate::enumerants::EnumerantRef;
 use crate::form::{Form, forms_of};
 use crate::front::{Front, front_in, fronts_of};
 use crate::listed::{Listed, NameList};
@@ -82,45 +85,42 @@ pub struct Enumerant {
 #[derive(Drop)]
 pub struct Table {
     sorts: Vec<Sort>,
-    entries: Vec<(u16, Entry)>,
+    entries: Entries,
     /// For each opcode the place of its first entry. 4,294,967,295 stands where it has none, and the list ends with the
     /// greatest opcode that has one.
-    places: Vec<u32>,
-    /// Where the names of the entries are.
-    names: Names,
+    places: Listed<u32>,
     /// Where the names of the kinds are.
     kind_names: Names,
     /// The form of each kind.
-    forms: Vec<Form>,
+    forms: Listed<Form>,
     /// Of each entry whether its pattern has a result.
-    results: Vec<Results>,
+    results: Listed<Results>,
     /// For each opcode below `FRONTED` the front of its pattern, as far as `places` goes.
-    fronts: Vec<Front>,
+    fronts: Listed<Front>,
 }
 
 impl Model for Table {
-    ghost use Rattle.std.specs.Prelude.{◌≡◌, ℕ, List, map, slice_get, slice_index_or};
+    ghost use Rattle.std.specs.Prelude.{◌≡◌, map};
     ghost use Rattle.spv_table.specs.Table.{Table};
 
     ghost Value = { Table };
 
-    ghost use Rattle.spv_table.specs.Table.{IsWhole, first_with};
+    ghost use Rattle.spv_table.specs.Table.{IsWhole};
+    ghost use Rattle.spv_table.specs.inner.Places.{ArePlacesOf};
     ghost use Rattle.spv_table.specs.inner.Form.{form_of};
     ghost use Rattle.spv_table.specs.inner.Front.{AreFronts};
     ghost use Rattle.spv_table.specs.inner.Named.{Finds};
     ghost use Rattle.spv_table.specs.inner.Results.{results_of};
 
-    ghost view = { λ t. record { kinds = t.sorts.items; entries = t.entries.items } };
+    ghost view = { λ t. record { kinds = t.sorts.items; entries = t.entries } };
 
-    ghost invariant = { λ t. IsWhole (record { kinds = t.sorts.items; entries = t.entries.items })
-        × ((n : ℕ) → slice_get t.entries.items (slice_index_or t.places.items n 4294967295)
-        ≡ first_with (λ e. e.0) n t.entries.items)
-        × Finds (λ e. e.1.name) t.entries.items t.names
+    ghost invariant = { λ t. IsWhole (record { kinds = t.sorts.items; entries = t.entries })
+        × ArePlacesOf t.places t.entries
         × Finds (λ s. s.kind.name) t.sorts.items t.kind_names
-        × (t.forms.items ≡ map form_of t.sorts.items)
-        × (t.results.items ≡ map
-        (λ e. results_of (record { kinds = t.sorts.items; entries = t.entries.items }) e.1) t.entries.items)
-        × AreFronts (record { kinds = t.sorts.items; entries = t.entries.items }) t.fronts.items };
+        × (t.forms ≡ map form_of t.sorts.items)
+        × (t.results ≡ map
+        (λ e. results_of (record { kinds = t.sorts.items; entries = t.entries }) e.1) t.entries)
+        × AreFronts (record { kinds = t.sorts.items; entries = t.entries }) t.fronts };
 }
 
 /// Below which opcodes the fronts of patterns are kept: those of the profile.
@@ -129,8 +129,7 @@ const FRONTED: usize = 331;
 /// For each opcode the place of its first entry.
 fn opcode_places(alloc: Global, entries: &[(u16, Entry)]) -> Result<Vec<u32>, AllocError>
     requires { length entries.now < 2 ^ 32 }
-    ensures { IfOk result (λ places. (n : ℕ) → slice_get entries.now (slice_index_or places.items n 4294967295)
-        ≡ first_with (λ e. e.0) n entries.now) }
+    ensures { IfOk result (λ places. ArePlacesOf places.items entries.now) }
 {
     let mut places = Vec::new(alloc);
     for i in (0..entries.len()).rev() {
@@ -159,17 +158,6 @@ fn place_in(places: &[u32], opcode: u16) -> u32
     }
 }
 
-/// A copy of a list.
-fn copied<T: Copy + Drop>(alloc: Global, items: &[T]) -> Result<Vec<T>, AllocError>
-    ensures { IfOk result (λ v. v.items ≡ items.now) }
-{
-    let mut copies = Vec::with_capacity(alloc, items.len())?;
-    for item in items {
-        copies.push(*item)?;
-    }
-    Ok(copies)
-}
-
 impl Named for (u16, Entry) {
     ghost name = { λ e. e.1.name };
 
@@ -193,59 +181,54 @@ impl Table {
             return Err(AllocError);
         }
         let places = opcode_places(alloc, entries.as_slice())?;
-        let names = Names::of(alloc, entries.as_slice())?;
         let kind_names = Names::of(alloc, sorts.as_slice())?;
         let forms = forms_of(alloc, sorts.as_slice())?;
         let results = results_of_entries(alloc, forms.as_slice(), entries.as_slice())?;
         let fronted = fronted_of(places.as_slice());
         let fronts = fronts_of(alloc, forms.as_slice(), fronted, entries.as_slice())?;
+        let entries = Entries::made(alloc, entries)?;
         Ok(Table {
             sorts,
             entries,
-            places,
-            names,
+            places: Listed::from_vec(places),
             kind_names,
-            forms,
-            results,
-            fronts,
+            forms: Listed::from_vec(forms),
+            results: Listed::from_vec(results),
+            fronts: Listed::from_vec(fronts),
         })
     }
 
-    /// The table of these kinds and entries, with the places of their names; of each entry whether its pattern has a
-    /// result; and the fronts of the opcodes of the profile. The error is that memory ran out.
+    /// The table of these kinds and entries, with the places of the names of kinds; for each opcode the place of its
+    /// entry; the form of each kind; of each entry whether its pattern has a result; and the fronts of the opcodes of
+    /// the profile. It takes no memory.
     pub fn found(
-        alloc: Global,
         sorts: Vec<Sort>,
-        entries: Vec<(u16, Entry)>,
-        names: Names,
+        entries: Entries,
         kind_names: Names,
-        results: &[Results],
-        fronts: &[Front],
-    ) -> Result<Table, AllocError>
-        requires whole { IsWhole (record { kinds = sorts.items; entries = entries.items }) }
-        requires names { Finds (λ e. e.1.name) entries.items names }
+        places: &'static [u32],
+        forms: &'static [Form],
+        results: &'static [Results],
+        fronts: &'static [Front],
+    ) -> Table
+        requires whole { IsWhole (record { kinds = sorts.items; entries = entries }) }
         requires kind_names { Finds (λ s. s.kind.name) sorts.items kind_names }
+        requires places { ArePlacesOf places.now entries }
+        requires forms { forms.now ≡ map form_of sorts.items }
         requires results { results.now
-            ≡ map (λ e. results_of (record { kinds = sorts.items; entries = entries.items }) e.1) entries.items }
-        requires fronts { AreFronts (record { kinds = sorts.items; entries = entries.items }) fronts.now }
-        ensures { IfOk result (λ G. G ≡ record { kinds = sorts.items; entries = entries.items }) }
+            ≡ map (λ e. results_of (record { kinds = sorts.items; entries = entries }) e.1) entries }
+        requires fronts { AreFronts (record { kinds = sorts.items; entries = entries }) fronts.now }
+        ensures { result ≡ record { kinds = sorts.items; entries = entries } }
     {
-        let places = opcode_places(alloc, entries.as_slice())?;
-        let forms = forms_of(alloc, sorts.as_slice())?;
-        let results = copied(alloc, results)?;
-        let fronts = copied(alloc, fronts)?;
-        Ok(Table {
+        Table {
             sorts,
             entries,
-            places,
-            names,
+            places: Listed::lent(places),
             kind_names,
-            forms,
-            results,
-            fronts,
-        })
+            forms: Listed::lent(forms),
+            results: Listed::lent(results),
+            fronts: Listed::lent(fronts),
+        }
     }
-
     /// The kind of a number.
     pub fn kind(&self, number: u32) -> Option<&Kind>
         ensures kind { option_map (λ k. k.now) result ≡ option_map (λ s. s.kind) (kind_of self.now number) }
@@ -265,10 +248,10 @@ impl Table {
     }
 
     /// The entries with their opcodes, in the order of the file.
-    pub fn entries(&self) -> &[(u16, Entry)]
+    pub fn entries(&self) -> &Entries
         ensures { result.now ≡ self.now.entries }
     {
-        self.entries.as_slice()
+        &self.entries
     }
 
     /// The number of the kind of a name.
@@ -280,9 +263,9 @@ impl Table {
     }
 
     /// The enumerant of a kind's value or bit: the first of the file that is not dropped.
-    pub fn enumerant(&self, kind: u32, value: u32) -> Option<&Enumerant>
-        ensures { option_map (λ e. e.now) result ≡ option_and_then (λ s. enumerant_of s.enumerants value)
-            (kind_of self.now kind) }
+    #[inline(always)]
+    pub fn enumerant(&self, kind: u32, value: u32) -> Option<EnumerantRef<'_>>
+        ensures { result ≡ option_and_then (λ s. enumerant_of s.enumerants value) (kind_of self.now kind) }
     {
         let Some(sort) = self.sorts.get(kind as usize) else {
             return None;
@@ -301,8 +284,9 @@ impl Table {
     }
 
     /// The entry of an opcode: the first of the file.
-    pub fn entry(&self, opcode: u16) -> Option<&Entry>
-        ensures { option_map (λ e. e.now) result ≡ entry_of self.now opcode }
+    #[inline(always)]
+    pub fn entry(&self, opcode: u16) -> Option<EntryRef<'_>>
+        ensures { result ≡ entry_of self.now opcode }
     {
         let place = place_in(self.places.as_slice(), opcode);
         match self.entries.get(place as usize) {
@@ -325,7 +309,7 @@ impl Table {
         ensures { result ≡ entry_has_result may self.now (entry_of self.now opcode) }
     {
         let place = place_in(self.places.as_slice(), opcode);
-        match self.results.get(place as usize) {
+        match self.results.as_slice().get(place as usize) {
             Some(results) => { if may { results.ever } else { results.always } }
             None => false,
         }
@@ -343,9 +327,9 @@ impl Table {
     pub fn named(&self, name: &str) -> Option<u16>
         ensures { result ≡ opcode_named self.now.entries name.now }
     {
-        let place = self.names.place(self.entries.as_slice(), name)?;
+        let place = self.entries.place(name)?;
         match self.entries.get(place) {
-            Some((opcode, _)) => Some(*opcode),
+            Some((opcode, _)) => Some(opcode),
             None => None,
         }
     }
