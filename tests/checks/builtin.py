@@ -1,6 +1,6 @@
 """The built-in grammar, in spv_builtin, as Khronos' grammar file tells it.
 
-How rows tell a table is said in crates/spv_builtin/specs/BuiltIn.antt. What is dropped, and how kinds are numbered, is
+How rows tell a table is said in crates/spv_table/specs/Rows.antt. What is dropped, and how kinds are numbered, is
 told in spv_grammar (specs/Made.antt, specs/Kinds.antt).
 """
 
@@ -22,9 +22,9 @@ HEAD = """\
 //!
 {notice}
 
-use crate::row::KindRow;
 use spv_table::{{
-    Category, EntryRow, EnumerantRow, Form, Front, Head, Item, Leaf, Quantifier, Results, Span,
+    Category, EntryRow, EnumerantRow, Form, Front, Head, Item, KindRow, Leaf, Quantifier, Results,
+    Span,
 }};
 """
 # Below which number the place of an enumerant's value is told.

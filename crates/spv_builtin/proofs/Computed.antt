@@ -6,7 +6,7 @@ use Rattle.std.specs.Hash.FoldHasher as folding
 use Rattle.spv_table.specs.Table.{IsWhole, is_sound, has_other_parts}
 use Rattle.spv_builtin.specs.declared.constants.TheConstants.{TEXT, ITEMS, KINDS, ENUMERANTS, ENTRIES, RESULTS, FRONTS, KIND_SLOTS, SLOTS, ENTRY_SLOTS, NEAR, PLACES, FORMS}
 use Rattle.spv_table.specs.declared.row.EntryRow.{EntryRow}
-use Rattle.spv_builtin.specs.declared.row.KindRow.{KindRow}
+use Rattle.spv_table.specs.declared.row.KindRow.{KindRow}
 use Rattle.spv_table.specs.inner.Form.{form_of}
 use Rattle.spv_builtin.specs.BuiltIn.{built_in}
 use Rattle.spv_builtin.specs.inner.Slots.{is_ascii, follow, cut, is_held, are_held, find, never_down, passes}

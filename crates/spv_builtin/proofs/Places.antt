@@ -140,7 +140,7 @@ places_are number f of rows places same made up few n =
     numbers (r ∷ rs) = ap₂ (λ (m : ℕ) (ms : List ℕ). m ∷ ms) (same r) (numbers rs)
 
 -- patterns
-all_at : {A : Type 0} (p : A → Bool) (xs : List A) → list_all p xs ≡ true → (k : ℕ) (d : A) → k < length xs → p (get_or xs k d) ≡ true
+pub all_at : {A : Type 0} (p : A → Bool) (xs : List A) → list_all p xs ≡ true → (k : ℕ) (d : A) → k < length xs → p (get_or xs k d) ≡ true
 all_at p [] h k d l = absurd (omega (arith, l))
 all_at p (x ∷ xs) h zero d l = (and_parts (p x) (list_all p xs) h).0
 all_at p (x ∷ xs) h (suc k) d l = all_at p xs (and_parts (p x) (list_all p xs) h).1 k d (omega (arith, l))

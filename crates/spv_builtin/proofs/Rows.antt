@@ -1,6 +1,6 @@
 -- What rows tell.
-use Rattle.std.proofs.Common.{◌≡◌, ℕ, zero, suc, ◌+◌, ◌<◌, ◌≤◌, true, List, [], ◌∷◌, length, get_or, map, refl, ap, ◌∙◌, ltb-true, leb-true, arith}
-use Rattle.std.specs.List.Sorted.{IsNonDecreasingBy}
+use Rattle.std.proofs.Common.{◌≡◌, ℕ, zero, suc, ◌+◌, ◌<◌, ◌≤◌, true, List, [], ◌∷◌, length, get_or, map, refl, sym, ap, ◌∙◌, ltb-true, leb-true, arith}
+use Rattle.std.specs.List.{list_all}
 use Rattle.std.specs.Str.{IsAscii}
 use Rattle.std.proofs.lemmas.Bool.{and_parts}
 use Rattle.std.proofs.lemmas.List.Sorted.{IsNonDecreasingBy-from_all_adjacent}
@@ -10,12 +10,12 @@ use Rattle.spv_table.specs.declared.row.EnumerantRow.{EnumerantRow}
 use Rattle.spv_table.specs.declared.span.Span.{Span}
 use Rattle.spv_table.specs.Span.{spanned}
 use Rattle.spv_table.specs.inner.Named.{Finds}
-use Rattle.spv_table.specs.inner.Rows.{told, AreNear}
-use Rattle.spv_builtin.specs.declared.row.KindRow.{KindRow}
+use Rattle.spv_table.specs.inner.Rows.{told, AreEnumerants, AreKinds}
+use Rattle.spv_table.specs.declared.row.KindRow.{KindRow}
 use Rattle.spv_builtin.specs.inner.Places.{are_near}
 use Rattle.spv_builtin.specs.inner.Slots.{is_ascii, find, never_down, all_pass, passes}
 use Rattle.spv_builtin.proofs.Held.{finds}
-use Rattle.spv_builtin.proofs.Places.{near_are}
+use Rattle.spv_builtin.proofs.Places.{near_are, all_at}
 
 pub is_ascii-is : (octets : List ℕ) → is_ascii octets ≡ true → IsAscii octets
 unfolding is_ascii
@@ -42,13 +42,7 @@ adjacent last (r ∷ s ∷ rs) h (suc k) d l =
     let e : suc k + 1 ≡ suc (k + 1) = omega arith in
     rw e (adjacent r.0 (s ∷ rs) (and_parts _ _ h).1 k d (omega (arith, l)))
 
--- what holds of the enumerants, the slots and the near places that pass
-pub record ArePassed (text : List ℕ) (rows : List EnumerantRow) (slots near : List ℕ) : Type 0 where
-  pub ordered : IsNonDecreasingBy (λ (r : EnumerantRow). r.0) rows
-  pub finds : Finds (told text (λ (r : EnumerantRow). r.1)) rows (record { slots = slots; others = [] })
-  pub near : AreNear near rows
-
-pub all_pass-is : (text : List ℕ) (rows : List EnumerantRow) (slots near : List ℕ) → all_pass text rows slots near ≡ true → ArePassed text rows slots near
+pub all_pass-is : (text : List ℕ) (rows : List EnumerantRow) (slots near : List ℕ) → all_pass text rows slots near ≡ true → AreEnumerants text rows slots near
 all_pass-is text rows slots near h =
     let up = and_parts _ _ h in
     let more = and_parts _ _ up.1 in
@@ -58,7 +52,14 @@ all_pass-is text rows slots near h =
       near = near_are near rows more.1;
     }
 
-pub passes-is : (text : List ℕ) (enumerants : List EnumerantRow) (slots near : List ℕ) (r : KindRow) → passes text enumerants slots near r ≡ true
-    → ArePassed text (spanned enumerants r.3) (spanned slots r.4) (spanned near r.5)
+passes-is : (text : List ℕ) (enumerants : List EnumerantRow) (slots near : List ℕ) (r : KindRow) → passes text enumerants slots near r ≡ true
+    → AreEnumerants text (spanned enumerants r.3) (spanned slots r.4) (spanned near r.5)
 unfolding passes
 passes-is text enumerants slots near r h = all_pass-is text (spanned enumerants r.3) (spanned slots r.4) (spanned near r.5) h
+
+-- kinds that pass
+pub kinds_are : (text : List ℕ) (enumerants : List EnumerantRow) (slots near : List ℕ) (rows : List KindRow) → list_all (passes text enumerants slots near) rows ≡ true
+    → AreKinds text enumerants slots near rows
+kinds_are text enumerants slots near rows h = λ r c.
+    let test = all_at (passes text enumerants slots near) rows h c.0 r c.1 in
+    passes-is text enumerants slots near r (ap (passes text enumerants slots near) (sym c.2) ∙ test)

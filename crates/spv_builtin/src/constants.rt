@@ -26,9 +26,9 @@
 //! FROM,OUT OF OR IN CONNECTION WITH THE MATERIALS OR THE USE OR OTHER DEALINGS
 //! IN THE MATERIALS.
 
-use crate::row::KindRow;
 use spv_table::{
-    Category, EntryRow, EnumerantRow, Form, Front, Head, Item, Leaf, Quantifier, Results, Span,
+    Category, EntryRow, EnumerantRow, Form, Front, Head, Item, KindRow, Leaf, Quantifier, Results,
+    Span,
 };
 
 /// The names, one after another.

@@ -8,7 +8,6 @@ mod fault;
 pub mod laws;
 mod load;
 mod reason;
-mod row;
 mod source;
 mod text;
 mod tree;

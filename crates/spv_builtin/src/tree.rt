@@ -10,8 +10,8 @@ ghost use Rattle.spv_grammar.specs.Tree.{with_parts, category_text, kind_tree, g
 
 use serde_json::{Map, Value, put};
 use spv_table::{
-    Category, Entries, EntryRef, EnumerantRef, Enumerants, Item, NameListRef, Quantifier, Sort,
-    Table,
+    Category, Entries, EntryRef, EnumerantRef, EnumerantsRef, Item, NameListRef, Quantifier,
+    SortRef, Sorts, Table,
 };
 use std::alloc::{AllocError, Global};
 
@@ -61,7 +61,7 @@ fn kind_name(table: &Table, number: u32) -> &str
     ensures { result.now ≡ kind_name table.now number }
 {
     match table.kind(number) {
-        Some(kind) => kind.name.as_str(),
+        Some(kind) => kind.name(),
         None => "",
     }
 }
@@ -138,11 +138,7 @@ fn instruction(
 }
 
 /// The instructions.
-fn instructions(
-    alloc: Global,
-    table: &Table,
-    entries: &Entries,
-) -> Result<Vec<Value>, AllocError>
+fn instructions(alloc: Global, table: &Table, entries: &Entries) -> Result<Vec<Value>, AllocError>
     ensures { IfOk result (λ v. map view v.items ≡ map (instruction_tree table.now) entries.now) }
 {
     let mut found = Vec::with_capacity(alloc, entries.len())?;
@@ -198,7 +194,7 @@ fn put_enumerants(
     table: &Table,
     members: &mut Map<String, Value>,
     category: Category,
-    enumerants: &Enumerants,
+    enumerants: &EnumerantsRef<'_>,
 ) -> Result<(), AllocError>
     ensures { OnOk result (members_view members.new.entries
         ≡ with_enumerants table.now category enumerants.now (members_view members.old.entries)) }
@@ -235,7 +231,7 @@ fn put_parts(
     alloc: Global,
     table: &Table,
     members: &mut Map<String, Value>,
-    sort: &Sort,
+    sort: &SortRef<'_>,
     category: Category,
 ) -> Result<(), AllocError>
     ensures { OnOk result (members_view members.new.entries
@@ -245,7 +241,7 @@ fn put_parts(
         Category::BitEnum | Category::ValueEnum => {
             put_enumerants(alloc, table, members, category, sort.enumerants())
         }
-        Category::Composite => put_bases(alloc, table, members, sort.kind().bases.as_slice()),
+        Category::Composite => put_bases(alloc, table, members, sort.kind().bases()),
         Category::Id | Category::Literal => Ok(()),
     }
 }
@@ -264,24 +260,27 @@ fn category_text(category: Category) -> &'static str
 }
 
 /// A kind of operands.
-fn kind(alloc: Global, table: &Table, sort: &Sort) -> Result<Value, AllocError>
+fn kind(alloc: Global, table: &Table, sort: &SortRef<'_>) -> Result<Value, AllocError>
     ensures { IfOk result (λ v. view v ≡ kind_tree table.now sort.now) }
 {
     let mut members = Map::new(alloc);
-    let category = sort.kind().category;
-    put_text(alloc, &mut members, "kind", sort.kind().name.as_str())?;
+    let category = sort.kind().category();
+    put_text(alloc, &mut members, "kind", sort.kind().name())?;
     put_text(alloc, &mut members, "category", category_text(category))?;
     put_parts(alloc, table, &mut members, sort, category)?;
     Ok(Value::Object(members))
 }
 
 /// The kinds of operands.
-fn kinds(alloc: Global, table: &Table, sorts: &[Sort]) -> Result<Vec<Value>, AllocError>
+fn kinds(alloc: Global, table: &Table, sorts: &Sorts) -> Result<Vec<Value>, AllocError>
     ensures { IfOk result (λ v. map view v.items ≡ map (kind_tree table.now) sorts.now) }
 {
     let mut found = Vec::with_capacity(alloc, sorts.len())?;
-    for sort in sorts {
-        found.push(kind(alloc, table, sort)?)?;
+    for place in 0..sorts.len() {
+        let Some(sort) = sorts.get(place) else {
+            unreachable!();
+        };
+        found.push(kind(alloc, table, &sort)?)?;
     }
     Ok(found)
 }

@@ -150,7 +150,7 @@ pub fn push_due(out: &mut String, table: &Table, kind: Option<u32>) -> Result<()
         return out.push_str("nothing");
     };
     match table.kind(number) {
-        Some(kind) => out.push_str(kind.name.as_str()),
+        Some(kind) => out.push_str(kind.name()),
         None => push_number(out, number),
     }
 }

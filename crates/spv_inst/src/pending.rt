@@ -241,7 +241,7 @@ impl<'t> Pending<'t> {
                 let Some(kind) = table.kind(slot.kind) else {
                     unreachable!();
                 };
-                let Some(first) = take_first(&mut self.frames, kind.bases.as_slice(), paired)?
+                let Some(first) = take_first(&mut self.frames, kind.bases(), paired)?
                 else {
                     unreachable!();
                 };

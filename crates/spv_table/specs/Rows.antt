@@ -6,7 +6,9 @@ use Rattle.spv_table.specs.declared.table.Item.{Item}
 use Rattle.spv_table.specs.declared.span.Span.{Span}
 use Rattle.spv_table.specs.declared.row.EntryRow.{EntryRow}
 use Rattle.spv_table.specs.declared.row.EnumerantRow.{EnumerantRow}
+use Rattle.spv_table.specs.declared.row.KindRow.{KindRow}
 use Rattle.spv_table.specs.Span.{spanned}
+use Rattle.spv_table.specs.Table.{Sort}
 
 -- the names whose places in a text are at a span of a list [own]
 abbrev pub names_at : List ℕ → List Span → Span → List (List ℕ)
@@ -30,4 +32,12 @@ enumerant_in text numbers names r =
       value = r.0;
       parameters = spanned numbers r.2;
       capabilities = names_at text names r.3;
+    }
+
+-- the kind of a row with its enumerants [own]
+abbrev pub sort_in : List ℕ → List ℕ → List Span → List EnumerantRow → KindRow → Sort
+sort_in text numbers names enumerants r =
+    record {
+      kind = record { name = spanned text r.1; category = r.0; bases = spanned numbers r.2 };
+      enumerants = map (enumerant_in text numbers names) (spanned enumerants r.3);
     }

@@ -1,4 +1,5 @@
 -- Definitions that serve the code alone.
+pub mod Constants
 pub mod Entries
 pub mod Enumerants
 pub mod Form
@@ -13,3 +14,4 @@ pub mod Places
 pub mod Reached
 pub mod Results
 pub mod Rows
+pub mod Sorts

@@ -6,6 +6,7 @@ ghost use Rattle.spv_table.specs.Rows.{entry_in};
 ghost use Rattle.spv_table.specs.inner.Named.{Finds};
 ghost use Rattle.spv_table.specs.inner.Rows.{told, AreCounted, IsCounted};
 
+use crate::constants::Constants;
 use crate::name_list_ref::NameListRef;
 use crate::named::Names;
 use crate::named_rows::place_among;
@@ -115,15 +116,10 @@ impl Model for Made {
     ghost invariant = { λ m. Finds (λ e. e.1.name) m.entries.items m.names };
 }
 
-/// Entries that rows of the program tell, and the slots that find their names. Contracts see the list of them, with
-/// their opcodes.
+/// Entries that rows of the program tell. Contracts see the list of them, with their opcodes.
 #[derive(Drop)]
 struct Told {
-    text: &'static str,
-    items: &'static [Item],
-    names: &'static [Span],
-    rows: &'static [EntryRow],
-    slots: &'static [u32],
+    lies: Constants,
 }
 
 impl Model for Told {
@@ -136,10 +132,11 @@ impl Model for Told {
 
     ghost Value = { List (ℕ × declared.Entry) };
 
-    ghost view = { λ l. map (entry_in l.text.now l.items.now l.names.now) l.rows.now };
+    ghost view = { λ l. map (entry_in l.lies.text.now l.lies.items.now l.lies.names.now) l.lies.entries.now };
 
-    ghost invariant = { λ l. IsAscii l.text.now × AreCounted l.items.now l.rows.now
-        × Finds (told l.text.now (λ r. r.1)) l.rows.now (record { slots = l.slots.now; others = [] }) };
+    ghost invariant = { λ l. IsAscii l.lies.text.now × AreCounted l.lies.items.now l.lies.entries.now
+        × Finds (told l.lies.text.now (λ r. r.1)) l.lies.entries.now
+        (record { slots = l.lies.entry_slots.now; others = [] }) };
 }
 
 impl Told {
@@ -148,11 +145,14 @@ impl Told {
     fn get(&self, place: usize) -> Option<(u16, EntryRef<'static>)>
         ensures { result ≡ slice_get self.now place }
     {
-        match self.rows.get(place) {
-            Some(row) => Some((
-                row.0,
-                EntryRef::told(self.text, self.items, self.names, row),
-            )),
+        match self.lies.entries.get(place) {
+            Some(row) => {
+                let lies = &self.lies;
+                Some((
+                    row.0,
+                    EntryRef::told(lies.text, lies.items, lies.names, row),
+                ))
+            }
             None => None,
         }
     }
@@ -161,7 +161,12 @@ impl Told {
     fn place(&self, name: &str) -> Option<usize>
         ensures { result ≡ position (λ e. bytes_eq name.now e.1.name) self.now }
     {
-        place_among(self.text, self.rows, self.slots, name)
+        place_among(
+            self.lies.text,
+            self.lies.entries,
+            self.lies.entry_slots,
+            name,
+        )
     }
 }
 
@@ -220,27 +225,16 @@ impl Entries {
         })
     }
 
-    /// The entries that rows of the program tell, with the slots that find their names. It takes no memory.
-    pub fn told(
-        text: &'static str,
-        items: &'static [Item],
-        names: &'static [Span],
-        rows: &'static [EntryRow],
-        slots: &'static [u32],
-    ) -> Entries
-        requires ascii { IsAscii text.now }
-        requires counted { AreCounted items.now rows.now }
-        requires finds { Finds (told text.now (λ r. r.1)) rows.now (record { slots = slots.now; others = [] }) }
-        ensures { result ≡ map (entry_in text.now items.now names.now) rows.now }
+    /// The entries that constants tell. It takes no memory.
+    pub(crate) fn told(lies: Constants) -> Entries
+        requires ascii { IsAscii lies.text.now }
+        requires counted { AreCounted lies.items.now lies.entries.now }
+        requires finds { Finds (told lies.text.now (λ r. r.1)) lies.entries.now
+            (record { slots = lies.entry_slots.now; others = [] }) }
+        ensures { result ≡ map (entry_in lies.text.now lies.items.now lies.names.now) lies.entries.now }
     {
         Entries {
-            kept: Kept::Told(Told {
-                text,
-                items,
-                names,
-                rows,
-                slots,
-            }),
+            kept: Kept::Told(Told { lies }),
         }
     }
 
@@ -250,7 +244,7 @@ impl Entries {
     {
         match &self.kept {
             Kept::Made(made) => made.entries.len(),
-            Kept::Told(told) => told.rows.len(),
+            Kept::Told(told) => told.lies.entries.len(),
         }
     }
 

@@ -1,13 +1,12 @@
 //! The enumerants of a kind that lie in the program, as rows.
 
-ghost use Rattle.std.specs.Prelude.{◌≡◌, [], length, map, option_map, slice_get};
+ghost use Rattle.std.specs.Prelude.{◌≡◌, length, map, option_map, slice_get};
 ghost use Rattle.std.specs.List.Sorted.{IsNonDecreasingBy};
 ghost use Rattle.std.specs.Str.{IsAscii};
 ghost use Rattle.spv_table.specs.Lookups.{value_named};
 ghost use Rattle.spv_table.specs.Rows.{enumerant_in};
 ghost use Rattle.spv_table.specs.Table.{enumerant_of, first_with};
-ghost use Rattle.spv_table.specs.inner.Named.{Finds};
-ghost use Rattle.spv_table.specs.inner.Rows.{told, AreNear};
+ghost use Rattle.spv_table.specs.inner.Rows.{AreEnumerants, AreNear};
 
 use crate::enumerant_list::SMALL;
 use crate::enumerants::EnumerantRef;
@@ -29,21 +28,17 @@ pub(crate) struct EnumerantRows {
 }
 
 impl Model for EnumerantRows {
-    ghost use Rattle.std.specs.Prelude.{List, [], map};
-    ghost use Rattle.std.specs.List.Sorted.{IsNonDecreasingBy};
+    ghost use Rattle.std.specs.Prelude.{List, map};
     ghost use Rattle.std.specs.Str.{IsAscii};
     ghost use Rattle.spv_table.specs.declared.table.Enumerant as declared;
     ghost use Rattle.spv_table.specs.Rows.{enumerant_in};
-    ghost use Rattle.spv_table.specs.inner.Named.{Finds};
-    ghost use Rattle.spv_table.specs.inner.Rows.{told, AreNear};
+    ghost use Rattle.spv_table.specs.inner.Rows.{AreEnumerants};
 
     ghost Value = { List declared.Enumerant };
 
     ghost view = { λ l. map (enumerant_in l.text.now l.numbers.now l.names.now) l.rows.now };
 
-    ghost invariant = { λ l. IsAscii l.text.now × IsNonDecreasingBy (λ r. r.0) l.rows.now
-        × Finds (told l.text.now (λ r. r.1)) l.rows.now (record { slots = l.slots.now; others = [] })
-        × AreNear l.near.now l.rows.now };
+    ghost invariant = { λ l. IsAscii l.text.now × AreEnumerants l.text.now l.rows.now l.slots.now l.near.now };
 }
 
 /// The first row with a value, where the values never go down.
@@ -76,7 +71,9 @@ fn row_of<'t>(rows: &'t [EnumerantRow], near: &[u32], value: u32) -> Option<&'t 
 }
 
 impl EnumerantRows {
-    /// The rows, as `Enumerants::told` says.
+    /// The enumerants that rows tell, whose values never go down, with the slots that find their names, and for each
+    /// value below `SMALL` the place of the first row that has it.
+    #[inline(always)]
     pub(crate) fn new(
         text: &'static str,
         numbers: &'static [u32],
@@ -86,9 +83,7 @@ impl EnumerantRows {
         near: &'static [u32],
     ) -> EnumerantRows
         requires ascii { IsAscii text.now }
-        requires ordered { IsNonDecreasingBy (λ r. r.0) rows.now }
-        requires finds { Finds (told text.now (λ r. r.1)) rows.now (record { slots = slots.now; others = [] }) }
-        requires near { AreNear near.now rows.now }
+        requires are { AreEnumerants text.now rows.now slots.now near.now }
         ensures { result ≡ map (enumerant_in text.now numbers.now names.now) rows.now }
     {
         EnumerantRows {

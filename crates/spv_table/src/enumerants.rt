@@ -1,13 +1,10 @@
 //! The enumerants of a kind, which the table has made or which lie in the program.
 
-ghost use Rattle.std.specs.Prelude.{◌≡◌, [], length, map, slice_get, IfOk};
-ghost use Rattle.std.specs.List.Sorted.{IsNonDecreasingBy};
+ghost use Rattle.std.specs.Prelude.{◌≡◌, length, slice_get};
 ghost use Rattle.std.specs.Str.{IsAscii};
 ghost use Rattle.spv_table.specs.Lookups.{value_named};
 ghost use Rattle.spv_table.specs.Rows.{enumerant_in};
 ghost use Rattle.spv_table.specs.Table.{enumerant_of};
-ghost use Rattle.spv_table.specs.inner.Named.{Finds};
-ghost use Rattle.spv_table.specs.inner.Rows.{told, AreNear};
 
 use crate::enumerant_list::EnumerantList;
 use crate::enumerant_rows::EnumerantRows;
@@ -15,7 +12,6 @@ use crate::name_list_ref::NameListRef;
 use crate::row::EnumerantRow;
 use crate::span::Span;
 use crate::table::Enumerant;
-use std::alloc::{AllocError, Global};
 use std::marker::Model;
 
 /// An enumerant of a table, looked at where it lies. Contracts see it as the enumerant.
@@ -108,18 +104,18 @@ impl<'t> EnumerantRef<'t> {
 
 /// Where enumerants are.
 #[derive(Drop)]
-enum Kept {
-    Made(EnumerantList),
+enum Kept<'t> {
+    Made(&'t EnumerantList),
     Told(EnumerantRows),
 }
 
-/// The enumerants of a kind. Contracts see the list of them, in the order of the file.
+/// The enumerants of a kind, looked at where they lie. Contracts see the list of them, in the order of the file.
 #[derive(Drop)]
-pub struct Enumerants {
-    kept: Kept,
+pub struct EnumerantsRef<'t> {
+    kept: Kept<'t>,
 }
 
-impl Model for Enumerants {
+impl<'t> Model for EnumerantsRef<'t> {
     ghost use Rattle.std.specs.Prelude.{List};
     ghost use Rattle.spv_table.specs.declared.table.Enumerant as declared;
     ghost use Rattle.spv_table.specs.inner.Enumerants.{enumerants_in};
@@ -129,35 +125,23 @@ impl Model for Enumerants {
     ghost view = { λ e. enumerants_in e.kept };
 }
 
-impl Enumerants {
-    /// The enumerants of a vector. The error is that memory ran out, or places: there may be 4,294,967,295.
-    pub(crate) fn made(alloc: Global, enumerants: Vec<Enumerant>) -> Result<Enumerants, AllocError>
-        ensures { IfOk result (λ e. e ≡ enumerants.items) }
+impl<'t> EnumerantsRef<'t> {
+    /// Enumerants that were made.
+    #[inline(always)]
+    pub(crate) fn made(list: &'t EnumerantList) -> EnumerantsRef<'t>
+        ensures { result ≡ list.now }
     {
-        let list = EnumerantList::new(alloc, enumerants)?;
-        Ok(Enumerants {
+        EnumerantsRef {
             kept: Kept::Made(list),
-        })
+        }
     }
 
-    /// The enumerants that rows of the program tell, whose values never go down, with the slots that find their names,
-    /// and for each value below 64 the place of the first row that has it. It takes no memory.
-    pub fn told(
-        text: &'static str,
-        numbers: &'static [u32],
-        names: &'static [Span],
-        rows: &'static [EnumerantRow],
-        slots: &'static [u32],
-        near: &'static [u32],
-    ) -> Enumerants
-        requires ascii { IsAscii text.now }
-        requires ordered { IsNonDecreasingBy (λ r. r.0) rows.now }
-        requires finds { Finds (told text.now (λ r. r.1)) rows.now (record { slots = slots.now; others = [] }) }
-        requires near { AreNear near.now rows.now }
-        ensures { result ≡ map (enumerant_in text.now numbers.now names.now) rows.now }
+    /// Enumerants that rows of the program tell.
+    #[inline(always)]
+    pub(crate) fn told(rows: EnumerantRows) -> EnumerantsRef<'t>
+        ensures { result ≡ rows }
     {
-        let rows = EnumerantRows::new(text, numbers, names, rows, slots, near);
-        Enumerants {
+        EnumerantsRef {
             kept: Kept::Told(rows),
         }
     }
@@ -173,7 +157,7 @@ impl Enumerants {
     }
 
     /// The enumerant at a place, from 0.
-    pub fn get(&self, place: usize) -> Option<EnumerantRef<'_>>
+    pub fn get(&self, place: usize) -> Option<EnumerantRef<'t>>
         ensures { result ≡ slice_get self.now place }
     {
         match &self.kept {
@@ -187,7 +171,7 @@ impl Enumerants {
 
     /// The first enumerant with a value: in constant time where the value is below 64.
     #[inline(always)]
-    pub(crate) fn enumerant(&self, value: u32) -> Option<EnumerantRef<'_>>
+    pub(crate) fn enumerant(&self, value: u32) -> Option<EnumerantRef<'t>>
         ensures { result ≡ enumerant_of self.now value }
     {
         match &self.kept {

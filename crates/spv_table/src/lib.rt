@@ -1,6 +1,7 @@
 //! The grammar table: which instructions, operand kinds and enumerants there are, and how they are looked up.
 #![tactic(auto)]
 
+mod constants;
 mod entries;
 mod enumerant_list;
 mod enumerant_rows;
@@ -20,11 +21,13 @@ mod places;
 mod results;
 mod row;
 mod sort;
+mod sorts;
 mod span;
 mod table;
 
+pub use constants::Constants;
 pub use entries::{Entries, EntryRef};
-pub use enumerants::{EnumerantRef, Enumerants};
+pub use enumerants::{EnumerantRef, EnumerantsRef};
 pub use error::Memory;
 pub use form::{Form, Leaf, form_in};
 pub use front::{Front, Head};
@@ -34,7 +37,8 @@ pub use name_list_ref::NameListRef;
 pub use named::{Named, Names};
 pub use pattern::{Pattern, PatternRef};
 pub use results::Results;
-pub use row::{EntryRow, EnumerantRow};
-pub use sort::Sort;
+pub use row::{EntryRow, EnumerantRow, KindRow};
+pub use sort::{KindRef, Sort, SortRef};
+pub use sorts::Sorts;
 pub use span::Span;
 pub use table::{Category, Entry, Enumerant, Item, Kind, Quantifier, Table};

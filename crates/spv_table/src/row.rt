@@ -3,6 +3,7 @@
 ghost use Rattle.std.specs.Prelude.{◌≡◌};
 
 use crate::span::Span;
+use crate::table::Category;
 
 /// An instruction: its opcode; where its name is in the text; where its operands are among the items; where the names
 /// of its capabilities are; and how many of its operands at the end are optional.
@@ -13,6 +14,19 @@ pub struct EntryRow(pub u16, pub Span, pub Span, pub Span, pub u32);
 /// where the names of its capabilities are.
 #[derive(Clone, Copy)]
 pub struct EnumerantRow(pub u32, pub Span, pub Span, pub Span);
+
+/// A kind: its category; where its name is in the text; where its bases are among the numbers; where its enumerants are
+/// among those of all kinds; where the slots are that find their names; and where the places are of those with values
+/// below 64.
+#[derive(Clone, Copy)]
+pub struct KindRow(
+    pub Category,
+    pub Span,
+    pub Span,
+    pub Span,
+    pub Span,
+    pub Span,
+);
 
 /// A row that tells where a name is.
 pub trait NamedRow {
@@ -35,6 +49,15 @@ impl NamedRow for EntryRow {
 }
 
 impl NamedRow for EnumerantRow {
+    ghost span = { λ r. r.1 };
+
+    #[inline(always)]
+    fn span(&self) -> Span {
+        self.1
+    }
+}
+
+impl NamedRow for KindRow {
     ghost span = { λ r. r.1 };
 
     #[inline(always)]

@@ -1,24 +1,29 @@
-ghost use Rattle.std.specs.Prelude.{◌≡◌, ◌<◌, ◌^◌, ℕ, List, length, slice_get, slice_index_or};
+ghost use Rattle.std.specs.Prelude.{◌≡◌, ◌<◌, ◌^◌, ℕ, List, [], length, slice_get, slice_index_or};
 ghost use Rattle.std.specs.Prelude.{min, take, map, option_map, option_and_then, IfOk};
 ghost use Rattle.spv_table.specs.Table.{entry_of, kind_of, enumerant_of, first_with, IsWhole};
 ghost use Rattle.spv_table.specs.Lookups.{opcode_named, value_named, number_named};
-ghost use Rattle.spv_table.specs.inner.Places.{ArePlacesOf};
+ghost use Rattle.std.specs.Str.{IsAscii};
+ghost use Rattle.spv_table.specs.inner.Constants.{table_in};
 ghost use Rattle.spv_table.specs.inner.Form.{form_of};
 ghost use Rattle.spv_table.specs.inner.Front.{front_at, AreFronts};
 ghost use Rattle.spv_table.specs.inner.Named.{Finds};
+ghost use Rattle.spv_table.specs.inner.Places.{ArePlacesOf};
 ghost use Rattle.spv_table.specs.inner.Results.{entry_has_result, results_of};
+ghost use Rattle.spv_table.specs.inner.Rows.{told, AreCounted, AreKinds};
 
+use crate::constants::Constants;
 use crate::entries::{Entries, EntryRef};
 use crate::enumerants::EnumerantRef;
 use crate::form::{Form, forms_of};
 use crate::front::{Front, front_in, fronts_of};
 use crate::listed::{Listed, NameList};
 use crate::name::Name;
-use crate::named::{Named, Names};
+use crate::named::Named;
 use crate::pattern::Pattern;
 use crate::places::widen;
 use crate::results::{Results, results_of_entries};
-use crate::sort::Sort;
+use crate::sort::{KindRef, Sort};
+use crate::sorts::Sorts;
 use std::alloc::{AllocError, Global};
 use std::marker::Model;
 
@@ -84,13 +89,11 @@ pub struct Enumerant {
 /// What a grammar file says. Contracts see its kinds and its entries, as lists.
 #[derive(Drop)]
 pub struct Table {
-    sorts: Vec<Sort>,
+    sorts: Sorts,
     entries: Entries,
     /// For each opcode the place of its first entry. 4,294,967,295 stands where it has none, and the list ends with the
     /// greatest opcode that has one.
     places: Listed<u32>,
-    /// Where the names of the kinds are.
-    kind_names: Names,
     /// The form of each kind.
     forms: Listed<Form>,
     /// Of each entry whether its pattern has a result.
@@ -109,18 +112,16 @@ impl Model for Table {
     ghost use Rattle.spv_table.specs.inner.Places.{ArePlacesOf};
     ghost use Rattle.spv_table.specs.inner.Form.{form_of};
     ghost use Rattle.spv_table.specs.inner.Front.{AreFronts};
-    ghost use Rattle.spv_table.specs.inner.Named.{Finds};
     ghost use Rattle.spv_table.specs.inner.Results.{results_of};
 
-    ghost view = { λ t. record { kinds = t.sorts.items; entries = t.entries } };
+    ghost view = { λ t. record { kinds = t.sorts; entries = t.entries } };
 
-    ghost invariant = { λ t. IsWhole (record { kinds = t.sorts.items; entries = t.entries })
+    ghost invariant = { λ t. IsWhole (record { kinds = t.sorts; entries = t.entries })
         × ArePlacesOf t.places t.entries
-        × Finds (λ s. s.kind.name) t.sorts.items t.kind_names
-        × (t.forms ≡ map form_of t.sorts.items)
+        × (t.forms ≡ map form_of t.sorts)
         × (t.results ≡ map
-        (λ e. results_of (record { kinds = t.sorts.items; entries = t.entries }) e.1) t.entries)
-        × AreFronts (record { kinds = t.sorts.items; entries = t.entries }) t.fronts };
+        (λ e. results_of (record { kinds = t.sorts; entries = t.entries }) e.1) t.entries)
+        × AreFronts (record { kinds = t.sorts; entries = t.entries }) t.fronts };
 }
 
 /// Below which opcodes the fronts of patterns are kept: those of the profile.
@@ -181,70 +182,67 @@ impl Table {
             return Err(AllocError);
         }
         let places = opcode_places(alloc, entries.as_slice())?;
-        let kind_names = Names::of(alloc, sorts.as_slice())?;
         let forms = forms_of(alloc, sorts.as_slice())?;
         let results = results_of_entries(alloc, forms.as_slice(), entries.as_slice())?;
         let fronted = fronted_of(places.as_slice());
         let fronts = fronts_of(alloc, forms.as_slice(), fronted, entries.as_slice())?;
+        let sorts = Sorts::made(alloc, sorts)?;
         let entries = Entries::made(alloc, entries)?;
         Ok(Table {
             sorts,
             entries,
             places: Listed::from_vec(places),
-            kind_names,
             forms: Listed::from_vec(forms),
             results: Listed::from_vec(results),
             fronts: Listed::from_vec(fronts),
         })
     }
 
-    /// The table of these kinds and entries, with the places of the names of kinds; for each opcode the place of its
-    /// entry; the form of each kind; of each entry whether its pattern has a result; and the fronts of the opcodes of
-    /// the profile. It takes no memory.
-    pub fn found(
-        sorts: Vec<Sort>,
-        entries: Entries,
-        kind_names: Names,
-        places: &'static [u32],
-        forms: &'static [Form],
-        results: &'static [Results],
-        fronts: &'static [Front],
-    ) -> Table
-        requires whole { IsWhole (record { kinds = sorts.items; entries = entries }) }
-        requires kind_names { Finds (λ s. s.kind.name) sorts.items kind_names }
-        requires places { ArePlacesOf places.now entries }
-        requires forms { forms.now ≡ map form_of sorts.items }
-        requires results { results.now
-            ≡ map (λ e. results_of (record { kinds = sorts.items; entries = entries }) e.1) entries }
-        requires fronts { AreFronts (record { kinds = sorts.items; entries = entries }) fronts.now }
-        ensures { result ≡ record { kinds = sorts.items; entries = entries } }
+    /// The table that constants tell, where what they tell beside the rows is right. It takes no memory.
+    pub fn told(lies: Constants) -> Table
+        requires ascii { IsAscii lies.text.now }
+        requires kinds { AreKinds lies.text.now lies.enumerants.now lies.slots.now lies.near.now lies.kinds.now }
+        requires kind_names { Finds (told lies.text.now (λ r. r.1)) lies.kinds.now
+            (record { slots = lies.kind_slots.now; others = [] }) }
+        requires counted { AreCounted lies.items.now lies.entries.now }
+        requires entry_names { Finds (told lies.text.now (λ r. r.1)) lies.entries.now
+            (record { slots = lies.entry_slots.now; others = [] }) }
+        requires whole { IsWhole (table_in lies) }
+        requires places { ArePlacesOf lies.places.now (table_in lies).entries }
+        requires forms { lies.forms.now ≡ map form_of (table_in lies).kinds }
+        requires results { lies.results.now ≡ map (λ e. results_of (table_in lies) e.1) (table_in lies).entries }
+        requires fronts { AreFronts (table_in lies) lies.fronts.now }
+        ensures { result ≡ table_in lies }
     {
+        let sorts = Sorts::told(lies);
+        let entries = Entries::told(lies);
         Table {
             sorts,
             entries,
-            places: Listed::lent(places),
-            kind_names,
-            forms: Listed::lent(forms),
-            results: Listed::lent(results),
-            fronts: Listed::lent(fronts),
+            places: Listed::lent(lies.places),
+            forms: Listed::lent(lies.forms),
+            results: Listed::lent(lies.results),
+            fronts: Listed::lent(lies.fronts),
         }
     }
+
     /// The kind of a number.
-    pub fn kind(&self, number: u32) -> Option<&Kind>
-        ensures kind { option_map (λ k. k.now) result ≡ option_map (λ s. s.kind) (kind_of self.now number) }
+    #[inline(always)]
+    pub fn kind(&self, number: u32) -> Option<KindRef<'_>>
+        ensures kind { result ≡ option_map (λ s. s.kind) (kind_of self.now number) }
         ensures whole { IsWhole self.now }
     {
         match self.sorts.get(number as usize) {
-            Some(sort) => Some(sort.kind()),
+            Some(sort) => Some(sort.kind().again()),
             None => None,
         }
     }
 
     /// The kinds with their enumerants, in the order of their numbers.
-    pub fn sorts(&self) -> &[Sort]
+    pub fn sorts(&self) -> &Sorts
         ensures { result.now ≡ self.now.kinds }
     {
-        self.sorts.as_slice()
+        &self.sorts
     }
 
     /// The entries with their opcodes, in the order of the file.
@@ -258,7 +256,7 @@ impl Table {
     pub fn kind_named(&self, name: &str) -> Option<u32>
         ensures { result ≡ number_named self.now name.now }
     {
-        let place = self.kind_names.place(self.sorts.as_slice(), name)?;
+        let place = self.sorts.place(name)?;
         Some(place as u32)
     }
 
@@ -270,7 +268,7 @@ impl Table {
         let Some(sort) = self.sorts.get(kind as usize) else {
             return None;
         };
-        sort.enumerant(value)
+        sort.enumerants().enumerant(value)
     }
 
     /// The value of the enumerant of a kind that bears a name: of the first that is not dropped.
@@ -280,7 +278,7 @@ impl Table {
         let Some(sort) = self.sorts.get(kind as usize) else {
             return None;
         };
-        sort.value(name)
+        sort.enumerants().value(name)
     }
 
     /// The entry of an opcode: the first of the file.

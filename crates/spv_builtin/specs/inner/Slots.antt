@@ -6,7 +6,7 @@ use Rattle.spv_table.specs.declared.span.Span.{Span}
 use Rattle.spv_table.specs.Span.{spanned}
 use Rattle.spv_table.specs.inner.Named.{slot_in}
 use Rattle.spv_table.specs.declared.row.EnumerantRow.{EnumerantRow}
-use Rattle.spv_builtin.specs.declared.row.KindRow.{KindRow}
+use Rattle.spv_table.specs.declared.row.KindRow.{KindRow}
 use Rattle.spv_builtin.specs.inner.Places.{are_near}
 
 -- is a text ASCII

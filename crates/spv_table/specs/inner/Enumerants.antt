@@ -5,5 +5,5 @@ use Rattle.spv_table.specs.declared.enumerants.Kept.{Kept}
 use Rattle.spv_table.specs.declared.enumerants.Kept.TheVariants.{Made, Told}
 
 abbrev pub enumerants_in : Kept → List Enumerant
-enumerants_in (Made made) = made
+enumerants_in (Made made) = made.now
 enumerants_in (Told told) = told

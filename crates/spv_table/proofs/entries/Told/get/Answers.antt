@@ -11,13 +11,13 @@ told-requires-clause-counted c =
 
 pub returns-in-Some : goal.returns-in-Some
 returns-in-Some c =
-    let i = c.self.inside in
+    let i = c.self.inside.lies in
     let l = c.in-Some.ensures.lookup in
-    ap Some c.told.ensures ∙ got_made (entry_in i.text.now i.items.now i.names.now) i.rows.now c.args.place c.in-Some.row.now l.3.0 l.1
+    ap Some c.told.ensures ∙ got_made (entry_in i.text.now i.items.now i.names.now) i.entries.now c.args.place c.in-Some.row.now l.3.0 l.1
     ∙ ap (λ (es : List (ℕ × Entry)). slice_get es c.args.place) c.self.view_is
 
 pub returns-in-None : goal.returns-in-None
 returns-in-None c =
-    let i = c.self.inside in
-    none_made (entry_in i.text.now i.items.now i.names.now) i.rows.now c.args.place c.in-None.ensures.lookup.3
+    let i = c.self.inside.lies in
+    none_made (entry_in i.text.now i.items.now i.names.now) i.entries.now c.args.place c.in-None.ensures.lookup.3
     ∙ ap (λ (es : List (ℕ × Entry)). slice_get es c.args.place) c.self.view_is

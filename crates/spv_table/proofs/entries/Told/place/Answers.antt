@@ -13,7 +13,7 @@ place_among-requires-clause-finds c = c.self.invariant.2
 
 pub returns : goal.returns
 returns c =
-    let i = c.self.inside in
+    let i = c.self.inside.lies in
     let q = c.args.name.now in
-    c.place_among.ensures ∙ place_made (entry_in i.text.now i.items.now i.names.now) (λ (e : ℕ × Entry). bytes_eq q e.1.name) i.rows.now
+    c.place_among.ensures ∙ place_made (entry_in i.text.now i.items.now i.names.now) (λ (e : ℕ × Entry). bytes_eq q e.1.name) i.entries.now
     ∙ ap (position (λ (e : ℕ × Entry). bytes_eq q e.1.name)) c.self.view_is

@@ -5,6 +5,12 @@ use Rattle.spv_table.specs.Table.{enumerant_of}
 use Rattle.spv_table.proofs.Told.{first_made}
 use Rattle.spv_table.proofs.enumerant_rows.EnumerantRows.enumerant.Goals as goal
 
+pub row_of-requires-clause-ordered : goal.row_of-requires-clause-ordered
+row_of-requires-clause-ordered c = c.self.invariant.1.ordered
+
+pub row_of-requires-clause-near : goal.row_of-requires-clause-near
+row_of-requires-clause-near c = c.self.invariant.1.near
+
 pub returns-in-Some : goal.returns-in-Some
 returns-in-Some c =
     let i = c.self.inside in

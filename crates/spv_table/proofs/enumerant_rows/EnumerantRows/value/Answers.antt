@@ -11,6 +11,12 @@ use Rattle.spv_table.proofs.Found.{found_at}
 use Rattle.spv_table.proofs.Told.{value_made}
 use Rattle.spv_table.proofs.enumerant_rows.EnumerantRows.value.Goals as goal
 
+pub place_among-requires-clause-ascii : goal.place_among-requires-clause-ascii
+place_among-requires-clause-ascii c = c.self.invariant.0
+
+pub place_among-requires-clause-finds : goal.place_among-requires-clause-finds
+place_among-requires-clause-finds c = c.self.invariant.1.finds
+
 pub returns-in_err-place : goal.returns-in_err-place
 returns-in_err-place c =
     let i = c.self.inside in
