@@ -49,7 +49,7 @@ all_pass-is text rows slots near h =
     record {
       ordered = IsNonDecreasingBy-from_all_adjacent (λ (r : EnumerantRow). r.0) rows (adjacent 0 rows up.0);
       finds = told_found text slots (λ (r : EnumerantRow). r.1) rows more.0;
-      near = near_are near rows more.1;
+      places = near_are near rows more.1;
     }
 
 passes-is : (text : List ℕ) (enumerants : List EnumerantRow) (slots near : List ℕ) (r : KindRow) → passes text enumerants slots near r ≡ true

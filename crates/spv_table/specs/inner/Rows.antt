@@ -32,7 +32,7 @@ AreNear near rows =
 pub record AreEnumerants (text : List ℕ) (rows : List EnumerantRow) (slots near : List ℕ) : Type 0 where
   pub ordered : IsNonDecreasingBy (λ r. r.0) rows
   pub finds : Finds (told text (λ (r : EnumerantRow). r.1)) rows (record { slots = slots; others = [] })
-  pub near : AreNear near rows
+  pub places : AreNear near rows
 
 -- the same of each of some kinds
 abbrev pub AreKinds : List ℕ → List EnumerantRow → List ℕ → List ℕ → List KindRow → Type 0

@@ -9,7 +9,7 @@ pub row_of-requires-clause-ordered : goal.row_of-requires-clause-ordered
 row_of-requires-clause-ordered c = c.self.invariant.1.ordered
 
 pub row_of-requires-clause-near : goal.row_of-requires-clause-near
-row_of-requires-clause-near c = c.self.invariant.1.near
+row_of-requires-clause-near c = c.self.invariant.1.places
 
 pub returns-in-Some : goal.returns-in-Some
 returns-in-Some c =
