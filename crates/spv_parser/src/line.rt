@@ -135,7 +135,7 @@ fn name_in<'t, 'a>(
         × (p.1.now ≡ from_space text.now)) }
     ensures last { IsKnown table.now last.new }
 {
-    if let Some((named, operands)) = named_again(last, text) {
+    if let Some((named, operands)) = named_again(&*last, text) {
         return Some((named, operands));
     }
     let (name, operands) = split_token(text);
