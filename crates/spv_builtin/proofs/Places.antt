@@ -56,55 +56,55 @@ module _ {A : Type 0} (number : A → ℕ) where
     none : slice_get xs 4294967295 ≡ None
     none = slice_get_past xs 4294967295 few
 
-    -- places that are filled
+    -- places that are filled, by what the rest is
+    module _ (z : A) (zs : List A) (n at k j : ℕ) (e : drop at xs ≡ z ∷ zs) (up : rise (number z) (map number zs) ≡ true) (s : k ≡ n + j)
+        (same : slice_get xs (get_or (fill n (suc at) (map number zs)) j 4294967295) ≡ first_with number k zs)
+        (later : (i : ℕ) → k ≡ suc (number z) + i → slice_get xs (get_or (fill (suc (number z)) (suc at) (map number zs)) i 4294967295) ≡ first_with number k zs) where
+      abbrev more : List ℕ
+      more = fill (suc (number z)) (suc at) (map number zs)
+
+      filled_by : (b : Bool) → nat_lt (number z) n ≡ b
+          → slice_get xs (get_or (if b then fill n (suc at) (map number zs) else replicate (number z - n) 4294967295 ++ at ∷ fill (suc (number z)) (suc at) (map number zs)) j 4294967295)
+          ≡ first_with number k (z ∷ zs)
+      filled_by true t =
+          let less : number z < n = ltb-true (number z) n t in
+          same ∙ sym (passed z zs k (λ q. omega (arith, q, less, s)))
+      filled_by false t =
+          let past : n ≤ number z = grind (arith, nat_tests, t) in
+          elim (cases_lt j (number z - n)) [
+            | inl l ↦ (let front = before (number z - n) (at ∷ more) j l in
+                let low : k < number z = omega (arith, l, s, past) in
+                let other = passed z zs k (λ q. omega (arith, q, low)) ∙ none_below zs (number z) k up low in
+                ap (slice_get xs) front ∙ none ∙ sym other)
+            | inr g ↦ elim (cases_lt (number z - n) j) [
+              | inl l ↦ (let i = j - suc (number z - n) in
+                  let moved = behind (number z - n) (at ∷ more) (suc i) j (omega (arith, l)) in
+                  ap (slice_get xs) moved ∙ later i (omega (arith, s, l, past)) ∙ sym (passed z zs k (λ q. omega (arith, q, s, l, past))))
+              | inr last ↦ (let moved = behind (number z - n) (at ∷ more) 0 j (omega (arith, g, last)) in
+                  ap (slice_get xs) moved ∙ got xs at z zs e ∙ sym (reached z zs k (omega (arith, s, g, last, past))))
+            ]
+          ]
+
     filled : (zs : List A) (n at last k j : ℕ) → drop at xs ≡ zs → rise last (map number zs) ≡ true → k ≡ n + j
         → slice_get xs (get_or (fill n at (map number zs)) j 4294967295) ≡ first_with number k zs
     unfolding fill rise
     filled [] n at last k j e h s = none
-    filled (z ∷ zs) n at last k j e h s = by (nat_lt (number z) n) refl
-      where
-        m : ℕ
-        m = number z
-
-        ms : List ℕ
-        ms = map number zs
-
-        up : rise (number z) (map number zs) ≡ true
-        up = (and_parts (nat_le last (number z)) (rise (number z) (map number zs)) h).1
-
-        by : (b : Bool) → nat_lt (number z) n ≡ b
-            → slice_get xs (get_or (if b then fill n (suc at) (map number zs) else replicate (number z - n) 4294967295 ++ at ∷ fill (suc (number z)) (suc at) (map number zs)) j 4294967295)
-            ≡ first_with number k (z ∷ zs)
-        by true t =
-            let less : number z < n = ltb-true (number z) n t in
-            filled zs n (suc at) (number z) k j (next xs at z zs e) up s ∙ sym (passed z zs k (λ q. omega (arith, q, less, s)))
-        by false t =
-            let past : n ≤ number z = grind (arith, nat_tests, t) in
-            let more = fill (suc (number z)) (suc at) (map number zs) in
-            elim (cases_lt j (number z - n)) [
-              | inl l ↦ (let front = before (number z - n) (at ∷ more) j l in
-                  let low : k < number z = omega (arith, l, s, past) in
-                  let other = passed z zs k (λ q. omega (arith, q, low)) ∙ none_below zs (number z) k up low in
-                  ap (slice_get xs) front ∙ none ∙ sym other)
-              | inr g ↦ elim (cases_lt (number z - n) j) [
-                | inl l ↦ (let i = j - suc (number z - n) in
-                    let moved = behind (number z - n) (at ∷ more) (suc i) j (omega (arith, l)) in
-                    ap (slice_get xs) moved ∙ filled zs (suc (number z)) (suc at) (number z) k i (next xs at z zs e) up (omega (arith, s, l, past))
-                    ∙ sym (passed z zs k (λ q. omega (arith, q, s, l, past))))
-                | inr same ↦ (let moved = behind (number z - n) (at ∷ more) 0 j (omega (arith, g, same)) in
-                    ap (slice_get xs) moved ∙ got xs at z zs e ∙ sym (reached z zs k (omega (arith, s, g, same, past))))
-              ]
-            ]
+    filled (z ∷ zs) n at last k j e h s =
+        let up = (and_parts (nat_le last (number z)) (rise (number z) (map number zs)) h).1 in
+        let rest = next xs at z zs e in
+        filled_by z zs n at k j e up s (filled zs n (suc at) (number z) k j rest up s)
+        (λ i q. filled zs (suc (number z)) (suc at) (number z) k i rest up q) (nat_lt (number z) n) refl
 
     -- the place of the first
     first_placed : (zs : List A) (at n : ℕ) → drop at xs ≡ zs → slice_get xs (first_place n at (map number zs)) ≡ first_with number n zs
     unfolding first_place
     first_placed [] at n e = none
-    first_placed (z ∷ zs) at n e = by (nat_eq (number z) n)
+    first_placed (z ∷ zs) at n e = by (nat_eq (number z) n) (first_placed zs (suc at) n (next xs at z zs e))
       where
-        by : (b : Bool) → slice_get xs (if b then at else first_place n (suc at) (map number zs)) ≡ (if b then Some z else first_with number n zs)
-        by true = got xs at z zs e
-        by false = first_placed zs (suc at) n (next xs at z zs e)
+        by : (b : Bool) → slice_get xs (first_place n (suc at) (map number zs)) ≡ first_with number n zs
+            → slice_get xs (if b then at else first_place n (suc at) (map number zs)) ≡ (if b then Some z else first_with number n zs)
+        by true later = got xs at z zs e
+        by false later = later
 
 first_at : (n : ℕ) (near ms : List ℕ) → are_first n near ms ≡ true → (v : ℕ) → v < n → get_or near v 4294967295 ≡ first_place v 0 ms
 unfolding are_first
@@ -125,19 +125,19 @@ near_are near rows h = λ v l.
     ap (slice_get rows) (first_at 64 near (map (λ (r : EnumerantRow). r.0) rows) a.1 v l)
     ∙ first_placed (λ (r : EnumerantRow). r.0) rows (omega (arith, few)) rows 0 v refl
 
+numbers_of : {A B : Type 0} (number : B → ℕ) (f : A → B) (of : A → ℕ) → ((r : A) → number (f r) ≡ of r) → (rs : List A) → map number (map f rs) ≡ map of rs
+numbers_of number f of same [] = refl
+numbers_of number f of same (r ∷ rs) = ap₂ (λ (m : ℕ) (ms : List ℕ). m ∷ ms) (same r) (numbers_of number f of same rs)
+
 -- places by which rows are found
 pub places_are : {A B : Type 0} (number : B → ℕ) (f : A → B) (of : A → ℕ) (rows : List A) (places : List ℕ) → ((r : A) → number (f r) ≡ of r)
     → places ≡ fill 0 0 (map of rows) → rise 0 (map of rows) ≡ true → length rows < 4294967296
     → (n : ℕ) → slice_get (map f rows) (get_or places n 4294967295) ≡ first_with number n (map f rows)
 places_are number f of rows places same made up few n =
     let long = length-map rows f in
-    let all = numbers rows in
+    let all = numbers_of number f of same rows in
     ap (λ ps. slice_get (map f rows) (get_or ps n 4294967295)) (made ∙ ap (fill 0 0) (sym all))
     ∙ filled number (map f rows) (omega (arith, long, few)) (map f rows) 0 0 0 n n refl (ap (rise 0) all ∙ up) (omega arith)
-  where
-    numbers : (rs : List A) → map number (map f rs) ≡ map of rs
-    numbers [] = refl
-    numbers (r ∷ rs) = ap₂ (λ (m : ℕ) (ms : List ℕ). m ∷ ms) (same r) (numbers rs)
 
 -- patterns
 pub all_at : {A : Type 0} (p : A → Bool) (xs : List A) → list_all p xs ≡ true → (k : ℕ) (d : A) → k < length xs → p (get_or xs k d) ≡ true

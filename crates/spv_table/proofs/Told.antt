@@ -16,11 +16,12 @@ module _ {A B : Type 0} (f : A → B) where
   -- the first element of a number
   pub first_made : (number : B → ℕ) (n : ℕ) (xs : List A) → first_with number n (map f xs) ≡ option_map f (first_with (λ x. number (f x)) n xs)
   first_made number n [] = refl
-  first_made number n (x ∷ xs) = by (nat_eq (number (f x)) n)
+  first_made number n (x ∷ xs) = by (nat_eq (number (f x)) n) (first_made number n xs)
     where
-      by : (b : Bool) → (if b then Some (f x) else first_with number n (map f xs)) ≡ option_map f (if b then Some x else first_with (λ y. number (f y)) n xs)
-      by true = refl
-      by false = first_made number n xs
+      by : (b : Bool) → first_with number n (map f xs) ≡ option_map f (first_with (λ y. number (f y)) n xs)
+          → (if b then Some (f x) else first_with number n (map f xs)) ≡ option_map f (if b then Some x else first_with (λ y. number (f y)) n xs)
+      by true later = refl
+      by false later = later
 
   prefix_made : (q : B → Bool) (xs : List A) → prefix_len q (map f xs) ≡ prefix_len (λ x. q (f x)) xs
   prefix_made q [] = refl
@@ -41,11 +42,12 @@ module _ {A B : Type 0} (f : A → B) where
   -- the first element that passes a test
   pub find_made : (p : B → Bool) (xs : List A) → find p (map f xs) ≡ option_map f (find (λ x. p (f x)) xs)
   find_made p [] = refl
-  find_made p (x ∷ xs) = by (p (f x))
+  find_made p (x ∷ xs) = by (p (f x)) (find_made p xs)
     where
-      by : (b : Bool) → cond b (Some (f x)) (find p (map f xs)) ≡ option_map f (cond b (Some x) (find (λ y. p (f y)) xs))
-      by true = refl
-      by false = find_made p xs
+      by : (b : Bool) → find p (map f xs) ≡ option_map f (find (λ y. p (f y)) xs)
+          → cond b (Some (f x)) (find p (map f xs)) ≡ option_map f (cond b (Some x) (find (λ y. p (f y)) xs))
+      by true later = refl
+      by false later = later
 
 once_more : {A B C : Type 0} (f : A → B) (g : B → C) (o : Option A) → option_map (λ x. g (f x)) o ≡ option_map g (option_map f o)
 once_more f g None = refl

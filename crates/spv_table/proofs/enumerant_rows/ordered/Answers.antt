@@ -6,18 +6,18 @@ use Rattle.spv_table.specs.declared.row.EnumerantRow.{EnumerantRow}
 use Rattle.spv_table.proofs.Ordered.{none_has, first_has}
 use Rattle.spv_table.proofs.enumerant_rows.ordered.Goals as goal
 
-pub returns-then-row-0-value : goal.returns-then-row-0-value
-returns-then-row-0-value c =
+pub returns-then-row-value : goal.returns-then-row-value
+returns-then-row-value c =
     let es = c.args.rows.now in
     let v = c.args.value in
     let parted = IsPartitionedBy-ltb (λ (e : EnumerantRow). e.0) es v c.requires in
     let point = IsPartitionPoint-from_clause (λ (e : EnumerantRow). ltb e.0 v) es _ c.partition_point-place.ensures.partitioned parted (λ a r q k. search rules) in
-    let same : c.in-Some.row.now.0 ≡ v = omega (arith, c.if-row-0-value.true) in
+    let same : c.in-Some.row.now.0 ≡ v = omega (arith, c.if-row-value.true) in
     sym (first_has (λ (e : EnumerantRow). e.0) es c.partition_point-place.result v c.in-Some.row.now c.in-Some.ensures.lookup.3.0 c.in-Some.ensures.lookup.1 same
     (λ k d h e. let l = ltb-true _ _ (point.0 k d (omega arith) h) in omega (arith, l, e)))
 
-pub returns-else-row-0-value : goal.returns-else-row-0-value
-returns-else-row-0-value c =
+pub returns-else-row-value : goal.returns-else-row-value
+returns-else-row-value c =
     let es = c.args.rows.now in
     let v = c.args.value in
     let i = c.partition_point-place.result in
@@ -25,7 +25,7 @@ returns-else-row-0-value c =
     let point = IsPartitionPoint-from_clause (λ (e : EnumerantRow). ltb e.0 v) es _ c.partition_point-place.ensures.partitioned parted (λ a r q k. search rules) in
     let within : i < length es = c.in-Some.ensures.lookup.3.0 in
     let here : (d : EnumerantRow) → get_or es i d ≡ c.in-Some.row.now = λ d. get_or_default es i d c.in-Some.row.now within ∙ sym c.in-Some.ensures.lookup.1 in
-    let other : c.in-Some.row.now.0 ≢ v = λ e. omega (arith, c.if-row-0-value.false, e) in
+    let other : c.in-Some.row.now.0 ≢ v = λ e. omega (arith, c.if-row-value.false, e) in
     sym (none_has (λ (e : EnumerantRow). e.0) es v (λ k d h e. elim (cases_lt k i) [
       | inl l ↦ (let b = ltb-true _ _ (point.0 k d (omega arith) l) in omega (arith, b, e))
       | inr g ↦ (let b = ltb-false _ _ (point.1 i d (omega arith) within) in
