@@ -1,6 +1,6 @@
 """The built-in grammar, in spv_builtin, as Khronos' grammar file tells it.
 
-How rows tell a table is said in crates/spv_builtin/specs/BuiltIn.antt. What is dropped, and how kinds are numbered, is
+How rows tell a table is said in crates/spv_table/specs/Rows.antt. What is dropped, and how kinds are numbered, is
 told in spv_grammar (specs/Made.antt, specs/Kinds.antt).
 """
 
@@ -22,11 +22,13 @@ HEAD = """\
 //!
 {notice}
 
-use crate::row::{{EntryRow, EnumerantRow, KindRow}};
-use spv_table::{{Category, Front, Head, Item, Quantifier, Results, Span}};
+use spv_table::{{
+    Category, EntryRow, EnumerantRow, Form, Front, Head, Item, KindRow, Leaf, Quantifier, Results,
+    Span,
+}};
 """
-# Of fewer enumerants than this the names are gone through.
-FEW = 8
+# Below which number the place of an enumerant's value is told.
+SMALL = 64
 # In how many slots a name may lie: in the one that its hash tells, and in those behind it.
 NEAR = 8
 NO_PLACE = 0xFFFF_FFFF
@@ -117,6 +119,40 @@ def slots_of(names):
         count += 1
 
 
+def places_of(numbers, most):
+    """For each number below `most` the place of the first that is it, up to the greatest that is there."""
+    first = {}
+    for place, number in enumerate(numbers):
+        if number < most:
+            first.setdefault(number, place)
+    return [first.get(number, NO_PLACE) for number in range(max(first, default=-1) + 1)]
+
+
+def optional_in(operands):
+    """How many operands at the end are optional."""
+    quantified = [operand.get("quantifier") is not None for operand in operands]
+    return len(quantified) if all(quantified) else quantified[::-1].index(False)
+
+
+def form_of(name, category):
+    """The form of a kind, as crates/spv_table/specs/inner/Form.antt tells it."""
+    leaves = {
+        "Id": {"IdResultType": "ResultType", "IdResult": "Result"}.get(name, "Id"),
+        "Literal": {
+            "LiteralInteger": "Integer",
+            "LiteralFloat": "Word",
+            "LiteralExtInstInteger": "Word",
+            "LiteralString": "Text",
+            "LiteralContextDependentNumber": "ContextNumber",
+        }.get(name, "Nothing"),
+        "ValueEnum": "Value",
+        "BitEnum": "Mask",
+    }
+    if category == "Composite":
+        return f"Form::Parts {{ paired: {str(name == 'PairLiteralIntegerIdRef').lower()} }}"
+    return f"Form::Leaf(Leaf::{leaves[category]})"
+
+
 class Lists:
     """Lists that lie in one, each once."""
 
@@ -151,6 +187,7 @@ class Rows:
         self.names = {}
         self.items, self.numbers, self.lists = Lists(), Lists(), Lists()
         self.slots = []
+        self.near = Lists()
 
     def name(self, name):
         """The span of a name, which is added to the text."""
@@ -170,12 +207,14 @@ class Rows:
         return f"EnumerantRow({value}, {name}, {self.numbers.span(parameters)}, {{}})", element
 
     def kind_slots(self, enumerants):
-        """The span of the slots of the names of enumerants: of none where there are few."""
-        if len(enumerants) < FEW:
-            return "Span(0, 0)"
+        """The span of the slots of the names of enumerants."""
         begin = len(self.slots)
         self.slots += slots_of([enumerant["enumerant"] for enumerant in enumerants])
         return f"Span({begin}, {len(self.slots)})"
+
+    def near_places(self, category, enumerants):
+        """The span of the places of the enumerants with small values, by their values."""
+        return self.near.span(places_of([number_in(it["value"], category) for it in enumerants], SMALL))
 
     def entry(self, instruction):
         """The row of an instruction."""
@@ -183,8 +222,9 @@ class Rows:
             item_of(self.numbers_of[operand["kind"]], operand.get("quantifier"))
             for operand in instruction.get("operands", [])
         ]
+        optional = optional_in(instruction.get("operands", []))
         parts = (self.name(instruction["opname"]), self.items.span(operands), self.capabilities(instruction))
-        return f"EntryRow({instruction['opcode']}, {', '.join(parts)})"
+        return f"EntryRow({instruction['opcode']}, {', '.join(parts)}, {optional})"
 
 
 def results_of(operands):
@@ -262,7 +302,8 @@ def rows(content):
         span = f"Span({len(enumerants)}, {len(enumerants) + len(kept)})"
         enumerants += [it.enumerant(category, element) for element in kept]
         based = it.numbers.span([it.numbers_of[base] for base in bases])
-        parts = (f"Category::{category}", kind_names[name], based, span, it.kind_slots(kept))
+        places = (it.kind_slots(kept), it.near_places(category, kept))
+        parts = (f"Category::{category}", kind_names[name], based, span, *places)
         kind_rows.append(f"    KindRow(\n{''.join(f'        {part},' + chr(10) for part in parts)}    ),\n")
     enumerant_rows = [row.format(it.capabilities(element)) for row, element in enumerants]
     entries = [it.entry(instruction) for instruction in content["instructions"]]
@@ -276,6 +317,12 @@ def rows(content):
             array("The kinds.", "KINDS", "KindRow", kind_rows),
             array("The enumerants of all kinds.", "ENUMERANTS", "EnumerantRow", enumerant_rows),
             array("The instructions.", "ENTRIES", "EntryRow", entries),
+            numbers(
+                "For each opcode the place of the first instruction that has it; 4,294,967,295 where none has it.",
+                "PLACES",
+                places_of([instruction["opcode"] for instruction in content["instructions"]], 0x1_0000),
+            ),
+            array("The forms of the kinds.", "FORMS", "Form", [form_of(name, kind[0]) for name, kind in kinds.items()]),
             array(
                 "Of each instruction whether its pattern has a result.",
                 "RESULTS",
@@ -290,6 +337,11 @@ def rows(content):
             ),
             numbers("Slots that find the names of kinds.", "KIND_SLOTS", slots_of(list(kinds))),
             numbers("Slots that find the names of the enumerants of each kind.", "SLOTS", it.slots),
+            numbers(
+                "For each value below 64 of a kind the place of the first enumerant that has it.",
+                "NEAR",
+                it.near.elements,
+            ),
             numbers("Slots that find the names of instructions.", "ENTRY_SLOTS", slots_of(opnames)),
         )
     )

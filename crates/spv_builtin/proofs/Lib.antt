@@ -1,7 +1,7 @@
 pub mod Computed
 pub mod Fronts
 pub mod Held
-pub mod Made
+pub mod Places
 pub mod Rows
 pub mod Told
 pub mod Trees

@@ -1,9 +1,9 @@
 -- The tree of a table's grammar file as it is built, and that it has no float and is not deep.
-use Rattle.std.proofs.Common.{◌≡◌, ◌∙◌, ℕ, ◌+◌, ◌≤◌, suc, Bool, true, false, ◌||◌, List, [], ◌∷◌, ◌++◌, map, take, slice_get, Some, Vec, Global, codes, Ordering, Less, Equal, Greater, refl, sym, ap, arith}
+use Rattle.std.proofs.Common.{◌≡◌, ◌∙◌, ℕ, ◌+◌, ◌<◌, ◌≤◌, zero, suc, Bool, true, false, ◌||◌, List, [], ◌∷◌, ◌++◌, map, take, slice_get, length, Some, None, Vec, Global, codes, Ordering, Less, Equal, Greater, refl, sym, ap, arith}
 use Rattle.std.specs.Prelude.{Result, Ok, Err, IfOk, String, string_bytes}
 use Rattle.std.specs.Ordering.{match_ordering}
 use Rattle.std.proofs.lemmas.List.{map-append, take_more}
-use Rattle.std.proofs.lemmas.Option.{slice_get_within, get_or_from_slice_get}
+use Rattle.std.proofs.lemmas.Option.{none-some, slice_get_within, get_or_from_slice_get}
 use Rattle.serde_json.specs.Data.{Data, number, unsigned, string, array, object, Items, Members, no_members, member, put, depth, items_depth, members_depth}
 use Rattle.serde_json.specs.View.{view, items_of}
 use Rattle.serde_json.specs.Read.{read, max_depth}
@@ -28,6 +28,12 @@ one_more f xs i x vs ws v at so is grown =
     let front : take (i + 1) xs ≡ take i xs ++ x ∷ [] = rw (take_more xs i x (slice_get_within xs i x at), get_or_from_slice_get xs i x x at) refl in
     ap (map view) grown ∙ map-append view vs (v ∷ []) ∙ ap (λ (ds : List Data). ds ++ view v ∷ []) so ∙ ap (λ (d : Data). map f (take i xs) ++ d ∷ []) is
     ∙ sym (map-append f (take i xs) (x ∷ [])) ∙ ap (map f) (sym front)
+
+-- before the end of a list there is an element
+pub never_past : {A : Type 0} (xs : List A) (i : ℕ) → None ≡ slice_get xs i → i < length xs → ⊥
+never_past [] i e h = omega (arith, h)
+never_past (x ∷ xs) zero e h = none-some x e
+never_past (x ∷ xs) (suc i) e h = never_past xs i e (omega (arith, h))
 
 -- a list that is not empty is put
 pub some_put : (key : List ℕ) (v : Vec Value Global) (ms : Members) → (v.items ≡ [] → ⊥) → put key (view (Array v)) ms ≡ with_list key (map view v.items) ms

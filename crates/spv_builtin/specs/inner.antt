@@ -1,3 +1,4 @@
 -- Definitions that serve the code alone.
 pub mod Fronts
+pub mod Places
 pub mod Slots

@@ -8,7 +8,6 @@ mod fault;
 pub mod laws;
 mod load;
 mod reason;
-mod row;
 mod source;
 mod text;
 mod tree;
@@ -19,7 +18,7 @@ pub use reason::grammar_reason;
 pub use source::table_of;
 pub use spv_grammar::{GrammarError, GrammarFault};
 pub use spv_table::{
-    Category, Entry, Enumerant, Item, Kind, Listed, Memory, Name, NameList, Pattern, Quantifier,
-    Table,
+    Category, Entry, EntryRef, Enumerant, EnumerantRef, Item, Kind, KindRef, Listed, Memory, Name,
+    NameList, NameListRef, Pattern, PatternRef, Quantifier, Table,
 };
 pub use text::grammar_text;

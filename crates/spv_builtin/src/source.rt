@@ -16,7 +16,7 @@ use std::alloc::Global;
 /// # Errors
 ///
 /// Of J1 to J7 the least that the text breaks; J8 where a growth of memory was refused. The built-in table is never
-/// refused but by J8.
+/// refused, and takes no memory.
 pub fn table_of(alloc: Global, text: Option<&[u8]>) -> Result<Table, GrammarError>
     ensures table { IfOk result (λ G. IsTableOf (option_map (λ t. t.now) text.entry) G) }
     ensures refused { IfErr result (λ e. e ≢ J8 → breaks (option_map (λ t. t.now) text.entry) e) }
@@ -25,8 +25,5 @@ pub fn table_of(alloc: Global, text: Option<&[u8]>) -> Result<Table, GrammarErro
     if let Some(text) = text {
         return Table::from_slice(alloc, text);
     }
-    match built_in(alloc) {
-        Ok(table) => Ok(table),
-        Err(_) => Err(GrammarError::J8),
-    }
+    Ok(built_in())
 }

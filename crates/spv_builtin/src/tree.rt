@@ -9,7 +9,10 @@ ghost use Rattle.spv_grammar.specs.Tree.{instruction_tree, value_tree, enumerant
 ghost use Rattle.spv_grammar.specs.Tree.{with_parts, category_text, kind_tree, grammar_tree};
 
 use serde_json::{Map, Value, put};
-use spv_table::{Category, Entry, Enumerant, Item, NameList, Quantifier, Sort, Table};
+use spv_table::{
+    Category, Entries, EntryRef, EnumerantRef, EnumerantsRef, Item, NameListRef, Quantifier,
+    SortRef, Sorts, Table,
+};
 use std::alloc::{AllocError, Global};
 
 /// Adds a text at a key.
@@ -43,7 +46,7 @@ fn put_list(
 }
 
 /// The names of capabilities.
-fn names(alloc: Global, names: &NameList) -> Result<Vec<Value>, AllocError>
+fn names(alloc: Global, names: &NameListRef<'_>) -> Result<Vec<Value>, AllocError>
     ensures { IfOk result (λ v. map view v.items ≡ map string names.now) }
 {
     let mut found = Vec::with_capacity(alloc, names.len())?;
@@ -58,7 +61,7 @@ fn kind_name(table: &Table, number: u32) -> &str
     ensures { result.now ≡ kind_name table.now number }
 {
     match table.kind(number) {
-        Some(kind) => kind.name.as_str(),
+        Some(kind) => kind.name(),
         None => "",
     }
 }
@@ -116,30 +119,34 @@ fn parameters(alloc: Global, table: &Table, kinds: &[u32]) -> Result<Vec<Value>,
 }
 
 /// An instruction.
-fn instruction(alloc: Global, table: &Table, entry: &(u16, Entry)) -> Result<Value, AllocError>
-    ensures { IfOk result (λ v. view v ≡ instruction_tree table.now entry.now) }
+fn instruction(
+    alloc: Global,
+    table: &Table,
+    opcode: u16,
+    entry: &EntryRef<'_>,
+) -> Result<Value, AllocError>
+    ensures { IfOk result (λ v. view v ≡ instruction_tree table.now (opcode, entry.now)) }
 {
     let mut members = Map::new(alloc);
-    put_text(alloc, &mut members, "opname", entry.1.name.as_str())?;
-    put(&mut members, alloc, "opcode", Value::from(entry.0))?;
-    let operands = operands(alloc, table, entry.1.operands.as_slice())?;
+    put_text(alloc, &mut members, "opname", entry.name())?;
+    put(&mut members, alloc, "opcode", Value::from(opcode))?;
+    let operands = operands(alloc, table, entry.operands().as_slice())?;
     put_list(alloc, &mut members, "operands", operands)?;
-    let capabilities = names(alloc, &entry.1.capabilities)?;
+    let capabilities = names(alloc, &entry.capabilities())?;
     put_list(alloc, &mut members, "capabilities", capabilities)?;
     Ok(Value::Object(members))
 }
 
 /// The instructions.
-fn instructions(
-    alloc: Global,
-    table: &Table,
-    entries: &[(u16, Entry)],
-) -> Result<Vec<Value>, AllocError>
+fn instructions(alloc: Global, table: &Table, entries: &Entries) -> Result<Vec<Value>, AllocError>
     ensures { IfOk result (λ v. map view v.items ≡ map (instruction_tree table.now) entries.now) }
 {
     let mut found = Vec::with_capacity(alloc, entries.len())?;
-    for entry in entries {
-        found.push(instruction(alloc, table, entry)?)?;
+    for place in 0..entries.len() {
+        let Some((opcode, entry)) = entries.get(place) else {
+            unreachable!();
+        };
+        found.push(instruction(alloc, table, opcode, &entry)?)?;
     }
     Ok(found)
 }
@@ -166,17 +173,17 @@ fn enumerant(
     alloc: Global,
     table: &Table,
     category: Category,
-    enumerant: &Enumerant,
+    enumerant: &EnumerantRef<'_>,
 ) -> Result<Value, AllocError>
     ensures { IfOk result (λ v. view v ≡ enumerant_tree table.now category enumerant.now) }
 {
     let mut members = Map::new(alloc);
-    put_text(alloc, &mut members, "enumerant", enumerant.name.as_str())?;
-    let value = value(alloc, category, enumerant.value)?;
+    put_text(alloc, &mut members, "enumerant", enumerant.name())?;
+    let value = value(alloc, category, enumerant.value())?;
     put(&mut members, alloc, "value", value)?;
-    let parameters = parameters(alloc, table, enumerant.parameters.as_slice())?;
+    let parameters = parameters(alloc, table, enumerant.parameters())?;
     put_list(alloc, &mut members, "parameters", parameters)?;
-    let capabilities = names(alloc, &enumerant.capabilities)?;
+    let capabilities = names(alloc, &enumerant.capabilities())?;
     put_list(alloc, &mut members, "capabilities", capabilities)?;
     Ok(Value::Object(members))
 }
@@ -187,14 +194,17 @@ fn put_enumerants(
     table: &Table,
     members: &mut Map<String, Value>,
     category: Category,
-    enumerants: &[Enumerant],
+    enumerants: &EnumerantsRef<'_>,
 ) -> Result<(), AllocError>
     ensures { OnOk result (members_view members.new.entries
         ≡ with_enumerants table.now category enumerants.now (members_view members.old.entries)) }
 {
     let mut found = Vec::with_capacity(alloc, enumerants.len())?;
-    for element in enumerants {
-        found.push(enumerant(alloc, table, category, element)?)?;
+    for place in 0..enumerants.len() {
+        let Some(element) = enumerants.get(place) else {
+            unreachable!();
+        };
+        found.push(enumerant(alloc, table, category, &element)?)?;
     }
     put(members, alloc, "enumerants", Value::Array(found))
 }
@@ -221,7 +231,7 @@ fn put_parts(
     alloc: Global,
     table: &Table,
     members: &mut Map<String, Value>,
-    sort: &Sort,
+    sort: &SortRef<'_>,
     category: Category,
 ) -> Result<(), AllocError>
     ensures { OnOk result (members_view members.new.entries
@@ -231,7 +241,7 @@ fn put_parts(
         Category::BitEnum | Category::ValueEnum => {
             put_enumerants(alloc, table, members, category, sort.enumerants())
         }
-        Category::Composite => put_bases(alloc, table, members, sort.kind().bases.as_slice()),
+        Category::Composite => put_bases(alloc, table, members, sort.kind().bases()),
         Category::Id | Category::Literal => Ok(()),
     }
 }
@@ -250,24 +260,27 @@ fn category_text(category: Category) -> &'static str
 }
 
 /// A kind of operands.
-fn kind(alloc: Global, table: &Table, sort: &Sort) -> Result<Value, AllocError>
+fn kind(alloc: Global, table: &Table, sort: &SortRef<'_>) -> Result<Value, AllocError>
     ensures { IfOk result (λ v. view v ≡ kind_tree table.now sort.now) }
 {
     let mut members = Map::new(alloc);
-    let category = sort.kind().category;
-    put_text(alloc, &mut members, "kind", sort.kind().name.as_str())?;
+    let category = sort.kind().category();
+    put_text(alloc, &mut members, "kind", sort.kind().name())?;
     put_text(alloc, &mut members, "category", category_text(category))?;
     put_parts(alloc, table, &mut members, sort, category)?;
     Ok(Value::Object(members))
 }
 
 /// The kinds of operands.
-fn kinds(alloc: Global, table: &Table, sorts: &[Sort]) -> Result<Vec<Value>, AllocError>
+fn kinds(alloc: Global, table: &Table, sorts: &Sorts) -> Result<Vec<Value>, AllocError>
     ensures { IfOk result (λ v. map view v.items ≡ map (kind_tree table.now) sorts.now) }
 {
     let mut found = Vec::with_capacity(alloc, sorts.len())?;
-    for sort in sorts {
-        found.push(kind(alloc, table, sort)?)?;
+    for place in 0..sorts.len() {
+        let Some(sort) = sorts.get(place) else {
+            unreachable!();
+        };
+        found.push(kind(alloc, table, &sort)?)?;
     }
     Ok(found)
 }

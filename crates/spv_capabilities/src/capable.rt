@@ -14,7 +14,7 @@ ghost use Rattle.spv_capabilities.specs.inner.Capable.{IsKernel};
 
 use crate::surveyed::Survey;
 use spv_module::{Inst, Operand, opcode};
-use spv_table::NameList;
+use spv_table::NameListRef;
 
 /// Whether the module has Kernel and has not Shader.
 pub fn is_kernel(survey: &Survey<'_, '_>) -> bool
@@ -43,7 +43,7 @@ fn has_name(survey: &Survey<'_, '_>, name: &str) -> bool
 }
 
 /// Whether the module has one of the named capabilities.
-fn has_named(survey: &Survey<'_, '_>, names: &NameList) -> bool
+fn has_named(survey: &Survey<'_, '_>, names: &NameListRef<'_>) -> bool
     ensures { IsTrue result ↔ HasNamed survey.now.table survey.now.insts names.now }
 {
     for place in 0..names.len() {
@@ -55,7 +55,7 @@ fn has_named(survey: &Survey<'_, '_>, names: &NameList) -> bool
 }
 
 /// Whether listed capabilities are none, or the module has one of them.
-fn is_covered(survey: &Survey<'_, '_>, names: &NameList) -> bool
+fn is_covered(survey: &Survey<'_, '_>, names: &NameListRef<'_>) -> bool
     ensures { IsTrue result ↔ IsCovered survey.now.table survey.now.insts names.now }
 {
     names.is_empty() || has_named(survey, names)
@@ -66,7 +66,7 @@ pub fn is_covered_entry(survey: &Survey<'_, '_>, opcode: u16) -> bool
     ensures { IsTrue result ↔ IsCoveredEntry survey.now.table survey.now.insts opcode }
 {
     match survey.table().entry(opcode) {
-        Some(entry) => is_covered(survey, &entry.capabilities),
+        Some(entry) => is_covered(survey, &entry.capabilities()),
         None => true,
     }
 }
@@ -87,7 +87,7 @@ pub fn is_covered_value(survey: &Survey<'_, '_>, kind: u32, value: u32) -> bool
     ensures { IsTrue result ↔ IsCoveredValue survey.now.table survey.now.insts kind value }
 {
     match survey.table().enumerant(kind, value) {
-        Some(enumerant) => is_covered(survey, &enumerant.capabilities),
+        Some(enumerant) => is_covered(survey, &enumerant.capabilities()),
         None => true,
     }
 }
@@ -101,7 +101,7 @@ pub fn asks_nothing(survey: &Survey<'_, '_>, kind: u32, value: u32) -> bool
     ensures covered { IsTrue result → IsCoveredValue survey.now.table survey.now.insts kind value }
 {
     match survey.table().enumerant(kind, value) {
-        Some(enumerant) => enumerant.capabilities.is_empty(),
+        Some(enumerant) => enumerant.capabilities().is_empty(),
         None => true,
     }
 }

@@ -12,7 +12,7 @@ use crate::fact::Detail;
 use itoa::Buffer;
 use spv_module::{Inst, Module, Operand};
 use spv_printer::show_inst;
-use spv_table::{NameList, Table};
+use spv_table::{NameListRef, Table};
 use std::alloc::{AllocError, Global};
 
 /// What lines are about: a module, under the table of a grammar.
@@ -53,7 +53,7 @@ pub fn push_spaced(out: &mut String, number: u32) -> Result<(), AllocError>
 }
 
 /// Adds names, each after a space.
-pub fn push_names(out: &mut String, names: &NameList) -> Result<(), AllocError>
+pub fn push_names(out: &mut String, names: &NameListRef<'_>) -> Result<(), AllocError>
     ensures { OnOk result (string_bytes out.new ≡ string_bytes out.old ++ flat_map name_part names.now) }
 {
     for place in 0..names.len() {
@@ -68,7 +68,7 @@ pub fn push_value(out: &mut String, table: &Table, kind: u32, value: u32) -> Res
     ensures { OnOk result (string_bytes out.new ≡ string_bytes out.old ++ value_text table.now kind value) }
 {
     match table.enumerant(kind, value) {
-        Some(enumerant) => out.push_str(enumerant.name.as_str()),
+        Some(enumerant) => out.push_str(enumerant.name()),
         None => push_number(out, value),
     }
 }
@@ -106,7 +106,7 @@ pub fn push_opcode(out: &mut String, table: &Table, opcode: u16) -> Result<(), A
     match table.entry(opcode) {
         Some(entry) => {
             out.push_str(" ")?;
-            out.push_str(entry.name.as_str())
+            out.push_str(entry.name())
         }
         None => Ok(()),
     }

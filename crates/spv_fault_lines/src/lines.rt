@@ -30,7 +30,7 @@ use spv_lines::{push_hex, push_plain};
 use spv_module::{Inst, Operand};
 use spv_names::function_name;
 use spv_printer::push_quoted;
-use spv_table::{NameList, Table};
+use spv_table::{NameListRef, Table};
 use std::alloc::AllocError;
 
 /// Adds a space and a text.
@@ -150,14 +150,14 @@ pub fn push_due(out: &mut String, table: &Table, kind: Option<u32>) -> Result<()
         return out.push_str("nothing");
     };
     match table.kind(number) {
-        Some(kind) => out.push_str(kind.name.as_str()),
+        Some(kind) => out.push_str(kind.name()),
         None => push_number(out, number),
     }
 }
 
 /// The capabilities that the enumerant of an operand's value lists.
-fn value_lists<'t>(table: &'t Table, operand: Option<&Operand<'_>>) -> Option<&'t NameList>
-    ensures { option_map (λ n. n.now) result ≡ lines.value_lists table.now (option_map
+fn value_lists<'t>(table: &'t Table, operand: Option<&Operand<'_>>) -> Option<NameListRef<'t>>
+    ensures { result ≡ lines.value_lists table.now (option_map
         (λ o. plain_operand o.now) operand.entry) }
 {
     match operand {
@@ -167,8 +167,8 @@ fn value_lists<'t>(table: &'t Table, operand: Option<&Operand<'_>>) -> Option<&'
 }
 
 /// The capabilities that a bit of an operand that is a mask lists.
-fn bit_lists<'t>(table: &'t Table, operand: Option<&Operand<'_>>, bit: u32) -> Option<&'t NameList>
-    ensures { option_map (λ n. n.now) result ≡ lines.bit_lists table.now (option_map
+fn bit_lists<'t>(table: &'t Table, operand: Option<&Operand<'_>>, bit: u32) -> Option<NameListRef<'t>>
+    ensures { result ≡ lines.bit_lists table.now (option_map
         (λ o. plain_operand o.now) operand.entry) bit }
 {
     match operand {
@@ -178,28 +178,28 @@ fn bit_lists<'t>(table: &'t Table, operand: Option<&Operand<'_>>, bit: u32) -> O
 }
 
 /// The capabilities that the enumerant of a kind lists, the first with the value.
-fn listed_by(table: &Table, kind: u32, value: u32) -> Option<&NameList>
-    ensures { option_map (λ n. n.now) result ≡ lines.listed_by table.now kind value }
+fn listed_by(table: &Table, kind: u32, value: u32) -> Option<NameListRef<'_>>
+    ensures { result ≡ lines.listed_by table.now kind value }
 {
     match table.enumerant(kind, value) {
-        Some(enumerant) => Some(&enumerant.capabilities),
+        Some(enumerant) => Some(enumerant.capabilities()),
         None => None,
     }
 }
 
 /// The capabilities that an instruction's opcode lists.
-fn entry_lists(table: &Table, opcode: u16) -> Option<&NameList>
-    ensures { option_map (λ n. n.now) result ≡ option_map (λ e. e.capabilities) (entry_of table.now opcode) }
+fn entry_lists(table: &Table, opcode: u16) -> Option<NameListRef<'_>>
+    ensures { result ≡ option_map (λ e. e.capabilities) (entry_of table.now opcode) }
 {
     match table.entry(opcode) {
-        Some(entry) => Some(&entry.capabilities),
+        Some(entry) => Some(entry.capabilities()),
         None => None,
     }
 }
 
 /// The names that are listed: those of an entry, a value or a bit. What a type needs has no such list.
-pub fn listed_names<'t>(table: &'t Table, inst: &Inst<'_>, lister: Lister) -> Option<&'t NameList>
-    ensures { option_map (λ n. n.now) result ≡ lines.listed_names table.now (plain_inst inst.now) lister }
+pub fn listed_names<'t>(table: &'t Table, inst: &Inst<'_>, lister: Lister) -> Option<NameListRef<'t>>
+    ensures { result ≡ lines.listed_names table.now (plain_inst inst.now) lister }
 {
     let operands = inst.operands.as_slice();
     match lister {
@@ -316,7 +316,7 @@ impl<'m, 'a> About<'m, 'a> {
             return Ok(());
         };
         match listed_names(self.table, inst, lister) {
-            Some(names) => push_names(out, names),
+            Some(names) => push_names(out, &names),
             None => push_capabilities(
                 out,
                 self.table,

@@ -53,7 +53,7 @@ fn evidence_at(alloc: Global, scene: &Scene<'_, '_, '_>, at: u32) -> Result<Evid
         first: at + 1,
         end: at + count,
     };
-    let Some(Failed { operand, kind }) = failed_operand(alloc, scene, entry, place)? else {
+    let Some(Failed { operand, kind }) = failed_operand(alloc, scene, &entry, place)? else {
         unreachable!();
     };
     Ok(Evidence::Due {

@@ -26,7 +26,7 @@ pub fn value_kinds<'t>(table: &'t Table, kind: u32, value: u32) -> Option<&'t [u
     ensures { option_map (λ ks. ks.now) result ≡ parameters_of (enumerants_at (kind_of table.now kind)) value }
 {
     match table.enumerant(kind, value) {
-        Some(enumerant) => Some(enumerant.parameters.as_slice()),
+        Some(enumerant) => Some(enumerant.parameters()),
         None => None,
     }
 }

@@ -26,7 +26,7 @@ use crate::repeated::read_run;
 use crate::singles::{read_parameters, read_singles};
 use crate::words::read_words;
 use spv_module::{Fault, Operand, Rule, Stop};
-use spv_table::Entry;
+use spv_table::EntryRef;
 use spv_words::word;
 
 /// An instruction that was read.
@@ -177,7 +177,7 @@ fn read_operands<'t, 'a>(
     scene: &Scene<'t, '_, 'a>,
     pending: &mut Pending<'t>,
     operands: &mut Vec<Operand<'a>>,
-    entry: &'t Entry,
+    entry: &EntryRef<'t>,
     place: Place,
 ) -> Result<(), Stop>
     requires forms { scene.now.forms.now ≡ map form_of scene.now.table.now.kinds }
@@ -200,7 +200,7 @@ fn read_operands<'t, 'a>(
 {
     let begin = operands.len();
     operands.reserve((place.end - place.first) as usize)?;
-    let items = DueItems::of(&entry.operands);
+    let items = DueItems::of(entry.operands());
     let rest = read_singles(scene, operands, place, begin, items);
     if is_read(place, rest) {
         return Ok(());
@@ -269,7 +269,7 @@ fn read_by_pattern<'t, 'a>(
         end: at + count,
     };
     let first = operands.len();
-    read_operands(scene, pending, operands, entry, place)?;
+    read_operands(scene, pending, operands, &entry, place)?;
     Ok(Read {
         opcode,
         first,

@@ -6,7 +6,7 @@ ghost use Rattle.spv_module.specs.Shape.{alone};
 ghost use Rattle.spv_inst.specs.Flat.{OneOf, due};
 ghost use Rattle.spv_inst.specs.inner.Items.{items_of, settled};
 
-use spv_table::{Item, Pattern, Quantifier};
+use spv_table::{Item, PatternRef, Quantifier};
 
 /// The items of a pattern that are due, from one of them on.
 #[derive(Clone, Copy)]
@@ -30,7 +30,7 @@ impl<'t> DueItems<'t> {
 
     /// All items of a pattern.
     #[inline(always)]
-    pub fn of(pattern: &'t Pattern) -> DueItems<'t>
+    pub fn of(pattern: &PatternRef<'t>) -> DueItems<'t>
         ensures { result.left.now ≡ pattern.now }
     {
         DueItems {

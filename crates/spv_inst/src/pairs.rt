@@ -134,7 +134,7 @@ fn pair_due(scene: &Scene<'_, '_, '_>, rest: Rest<'_>) -> Option<Pair>
     let Some(composite) = scene.table.kind(kind) else {
         return None;
     };
-    let [first, second] = composite.bases.as_slice() else {
+    let [first, second] = composite.bases() else {
         return None;
     };
     let Form::Leaf(Leaf::Id) = form_in(scene.forms, *second) else {

@@ -16,7 +16,7 @@ ghost use Rattle.spv_inst.specs.inner.Pending.{due_first, pending_due, settled, 
 use crate::items::DueItems;
 use crate::reader::Slot;
 use spv_module::Operand;
-use spv_table::{Form, Leaf, Pattern, Table, form_in};
+use spv_table::{Form, Leaf, PatternRef, Table, form_in};
 use std::alloc::{AllocError, Global};
 
 /// A place in an open list of parameters.
@@ -84,7 +84,7 @@ fn parameters_in<'t>(table: &'t Table, kind: u32, value: u32) -> &'t [u32]
     ensures { result.now ≡ unwrap_or (parameters_of (enumerants_at (kind_of table.now kind)) value) [] }
 {
     match table.enumerant(kind, value) {
-        Some(enumerant) => enumerant.parameters.as_slice(),
+        Some(enumerant) => enumerant.parameters(),
         None => &[],
     }
 }
@@ -178,7 +178,7 @@ impl<'t> Pending<'t> {
     }
 
     /// Begins an instruction: the items of its pattern are due, and nothing else is.
-    pub fn start(&mut self, pattern: &'t Pattern)
+    pub fn start(&mut self, pattern: &PatternRef<'t>)
         ensures { (G : Table) → pending_due G self.new ≡ map due (items_of pattern.now) }
     {
         self.frames.clear();
@@ -241,7 +241,7 @@ impl<'t> Pending<'t> {
                 let Some(kind) = table.kind(slot.kind) else {
                     unreachable!();
                 };
-                let Some(first) = take_first(&mut self.frames, kind.bases.as_slice(), paired)?
+                let Some(first) = take_first(&mut self.frames, kind.bases(), paired)?
                 else {
                     unreachable!();
                 };

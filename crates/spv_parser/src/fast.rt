@@ -29,7 +29,7 @@ use spv_lines::{
     Cell, Quotation, behind, is_narrow, read_behind, read_front, read_unescaped, split_token,
 };
 use spv_module::{Operand, opcode};
-use spv_table::{Pattern, Table};
+use spv_table::{PatternRef, Table};
 use std::alloc::AllocError;
 
 /// What is left of a line behind an operand that is neither a result nor a result type.
@@ -234,7 +234,7 @@ fn begin_result<'t, 'a>(
     words: &mut Vec<u32>,
     opcode: u16,
     id: u32,
-    pattern: &'t Pattern,
+    pattern: &PatternRef<'t>,
     next: Next<'t>,
     operands: &'a str,
 ) -> Result<Option<Start<'t, 'a>>, AllocError>
@@ -269,7 +269,7 @@ fn begin_typed<'t, 'a>(
     words: &mut Vec<u32>,
     opcode: u16,
     id: u32,
-    pattern: &'t Pattern,
+    pattern: &PatternRef<'t>,
     next: Next<'t>,
     operands: &'a str,
 ) -> Result<Option<Start<'t, 'a>>, AllocError>
@@ -313,7 +313,7 @@ fn begin<'t, 'a>(
     words: &mut Vec<u32>,
     opcode: u16,
     front: Option<&str>,
-    pattern: &'t Pattern,
+    pattern: &PatternRef<'t>,
     operands: &'a str,
 ) -> Result<Option<Start<'t, 'a>>, AllocError>
     requires forms { setting.now.forms.now ≡ map form_of setting.now.table.now.kinds }
@@ -359,7 +359,7 @@ fn take_operands<'t, 'a>(
     seen: &mut Option<Seen<'t, 'a>>,
     words: &mut Vec<u32>,
     opcode: u16,
-    pattern: &'t Pattern,
+    pattern: &PatternRef<'t>,
     operands: &'a str,
     start: Start<'t, 'a>,
 ) -> Result<bool, AllocError>
@@ -409,7 +409,7 @@ pub fn fast_operands<'t, 'a>(
     words: &mut Vec<u32>,
     opcode: u16,
     front: Option<&str>,
-    pattern: &'t Pattern,
+    pattern: &PatternRef<'t>,
     operands: &'a str,
 ) -> Result<Option<Line>, AllocError>
     requires forms { setting.now.forms.now ≡ map form_of setting.now.table.now.kinds }

@@ -21,13 +21,26 @@ use crate::fast::fast_operands;
 use crate::operands::{Buffers, Line, Setting, is_break, read_operands};
 use crate::seen::Seen;
 use spv_lines::{AsmCode, Misread, behind, is_plain, read_behind, split_token};
-use spv_table::{Entry, Table};
+use spv_table::{EntryRef, Table};
 
 /// An instruction of the table.
-#[derive(Clone, Copy)]
+#[derive(Drop)]
 pub struct Named<'t> {
     pub opcode: u16,
-    pub entry: &'t Entry,
+    pub entry: EntryRef<'t>,
+}
+
+impl<'t> Named<'t> {
+    /// The same instruction once more.
+    #[inline(always)]
+    fn again(&self) -> Named<'t>
+        ensures { result ≡ self.now }
+    {
+        Named {
+            opcode: self.opcode,
+            entry: self.entry.again(),
+        }
+    }
 }
 
 /// Cuts off what stands in front of ` = `, where a line begins with `%`. None where it does and has no ` = `.
@@ -77,7 +90,7 @@ fn opcode_of(table: &Table, name: &str) -> Option<u16>
 /// The instruction that a name stands for. None where the table has none.
 pub fn look_up<'t>(table: &'t Table, name: &str) -> Option<Named<'t>>
     ensures { MatchOption result ((opcode : ℕ) (entry : code.Entry) → IsInstName table.now name.now opcode entry
-        → ⊥) (λ n. IsInstName table.now name.now n.opcode n.entry.now) }
+        → ⊥) (λ n. IsInstName table.now name.now n.opcode n.entry) }
 {
     let Some(opcode) = opcode_of(table, name) else {
         return None;
@@ -91,19 +104,19 @@ pub fn look_up<'t>(table: &'t Table, name: &str) -> Option<Named<'t>>
 /// The instruction of the last line that bore its own name, if a text begins with that too and then ends or has a
 /// space, and what stands from there on.
 #[inline(always)]
-fn named_again<'t, 'a>(last: Option<Named<'t>>, text: &'a str) -> Option<(Named<'t>, &'a str)>
-    ensures { (G : grammar.Table) → IsKnown G last.entry
-        → IfSome result (λ p. IsInstName G (before_space text.now) p.0.opcode p.0.entry.now
+fn named_again<'t, 'a>(last: &Option<Named<'t>>, text: &'a str) -> Option<(Named<'t>, &'a str)>
+    ensures { (G : grammar.Table) → IsKnown G last.now
+        → IfSome result (λ p. IsInstName G (before_space text.now) p.0.opcode p.0.entry
         × (p.1.now ≡ from_space text.now)) }
 {
     let Some(named) = last else {
         return None;
     };
-    let Some(rest) = text.strip_prefix(named.entry.name.as_str()) else {
+    let Some(rest) = text.strip_prefix(named.entry.name()) else {
         return None;
     };
     if is_break(rest) {
-        return Some((named, rest));
+        return Some((named.again(), rest));
     }
     None
 }
@@ -118,19 +131,19 @@ fn name_in<'t, 'a>(
     requires { IsKnown table.now last.old }
     ensures named { MatchOption result ((opcode : ℕ) (entry : code.Entry)
         → IsInstName table.now (before_space text.now) opcode entry → ⊥)
-        (λ p. IsInstName table.now (before_space text.now) p.0.opcode p.0.entry.now
+        (λ p. IsInstName table.now (before_space text.now) p.0.opcode p.0.entry
         × (p.1.now ≡ from_space text.now)) }
     ensures last { IsKnown table.now last.new }
 {
-    if let Some((named, operands)) = named_again(*last, text) {
+    if let Some((named, operands)) = named_again(&*last, text) {
         return Some((named, operands));
     }
     let (name, operands) = split_token(text);
     let Some(named) = look_up(table, name) else {
         return None;
     };
-    if named.entry.name.as_str() == name {
-        *last = Some(named);
+    if named.entry.name() == name {
+        *last = Some(named.again());
     }
     Some((named, operands))
 }
@@ -192,7 +205,7 @@ pub fn read_line<'t, 'a>(
         return Err(AsmCode::S2);
     };
     let opcode = named.opcode;
-    let pattern = &named.entry.operands;
+    let pattern = named.entry.operands();
     let words = &mut buffers.words;
     let fast = fast_operands(setting, seen, words, opcode, front, pattern, operands)?;
     if let Some(line) = fast {

@@ -26,7 +26,7 @@ use crate::token::read_token;
 use spv_inst::due::{Asked, Definitions, Form, Leaf, Pending, push_operand, read_text};
 use spv_lines::{AsmCode, Misread, behind, read_quoted, split_token};
 use spv_module::{Operand, opcode, result_in, type_in};
-use spv_table::{Pattern, Table};
+use spv_table::{PatternRef, Table};
 use std::alloc::AllocError;
 
 /// What does not change while a line is read.
@@ -392,7 +392,7 @@ pub fn read_operands<'t>(
     buffers: &mut Buffers<'t>,
     opcode: u16,
     result_id: Option<u32>,
-    pattern: &'t Pattern,
+    pattern: &PatternRef<'t>,
     operands: &str,
 ) -> Result<Line, AsmCode>
     requires forms { setting.now.forms.now ≡ map form_of setting.now.table.now.kinds }

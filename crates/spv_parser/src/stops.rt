@@ -24,7 +24,7 @@ use crate::token::{type_of_first, width_of};
 use spv_inst::due::{Asked, Definitions, Leaf};
 use spv_lines::{AsmCode, Misread, behind, read_behind, split_token};
 use spv_module::opcode;
-use spv_table::{Pattern, Table};
+use spv_table::{PatternRef, Table};
 use std::alloc::AllocError;
 
 /// Where the reading of a line stopped.
@@ -177,7 +177,7 @@ fn operands_or_stop<'t, 'a>(
     buffers: &mut Buffers<'t>,
     opcode: u16,
     result_id: Option<u32>,
-    pattern: &'t Pattern,
+    pattern: &PatternRef<'t>,
     operands: &'a str,
 ) -> Result<Outcome<'a>, AllocError>
     requires forms { setting.now.forms.now ≡ map form_of setting.now.table.now.kinds }
@@ -280,7 +280,7 @@ pub fn read_or_stop<'t, 'a>(
     let opcode = named.opcode;
     match result_or_lack(setting.table, opcode, front) {
         Ok(result_id) => {
-            let pattern = &named.entry.operands;
+            let pattern = named.entry.operands();
             let outcome = operands_or_stop(setting, buffers, opcode, result_id, pattern, operands)?;
             Ok(outcome)
         }

@@ -20,7 +20,7 @@ use crate::encode_error::{EncodeCode, EncodeError};
 use crate::fit::fits;
 use spv_inst::due::{Definitions, Form, Known, Pending, known_after, push_operand, read_text};
 use spv_module::{Inst, Module, Operand};
-use spv_table::{Pattern, Table};
+use spv_table::{PatternRef, Table};
 use spv_words::{Draft, GREATEST_BOUND, GREATEST_LENGTH, Header, Image, MAGIC_NUMBER, VERSION};
 use std::alloc::{AllocError, Global};
 
@@ -69,7 +69,7 @@ fn write_operands<'t>(
     setting: &Setting<'t, '_>,
     pending: &mut Pending<'t>,
     words: &mut Vec<u32>,
-    pattern: &'t Pattern,
+    pattern: &PatternRef<'t>,
     inst: &Inst,
 ) -> Result<bool, AllocError>
     requires { setting.now.forms.now ≡ map form_of setting.now.table.now.kinds }
@@ -124,7 +124,7 @@ fn put_instruction<'t>(
     let Some(entry) = setting.table.entry(inst.opcode) else {
         return Err(EncodeCode::N2);
     };
-    if !write_operands(setting, pending, words, &entry.operands, inst)? {
+    if !write_operands(setting, pending, words, entry.operands(), inst)? {
         return Err(EncodeCode::N2);
     }
     let count = words.len() + 1;

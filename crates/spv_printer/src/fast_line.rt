@@ -18,7 +18,7 @@ use crate::named::Named;
 use crate::printer::Printer;
 use spv_inst::due::{DueItems, joined, next_kind};
 use spv_module::opcode;
-use spv_table::{Entry, Pattern, Table};
+use spv_table::{EntryRef, PatternRef, Table};
 use spv_words::{Image, word};
 use std::alloc::AllocError;
 use std::str::from_utf8_unchecked;
@@ -50,7 +50,7 @@ fn add_operands<'t>(
     table: &'t Table,
     image: &Image,
     printer: &Printer<'t>,
-    pattern: &'t Pattern,
+    pattern: &PatternRef<'t>,
     first: u32,
     end: u32,
 ) -> Option<Draft>
@@ -85,14 +85,14 @@ fn add_operands<'t>(
 
 /// The line of an instruction whose operands are in the buffer, with its line feed. None where there is no room for it.
 #[inline(always)]
-pub fn whole_line<'b>(buffer: &'b mut [u8], entry: &Entry, draft: Draft) -> Option<&'b str>
+pub fn whole_line<'b>(buffer: &'b mut [u8], entry: &EntryRef<'_>, draft: Draft) -> Option<&'b str>
     requires { AreCharacters draft buffer.old }
     ensures { (G : grammar.Table) (d : Definitions) (before : List PlainInst) (i : PlainInst) (further line : List ℕ)
         → Knows d before → IsLineOf G d i draft buffer.old → entry_of G i.opcode ≡ Some entry.now
         → shown_name G i.opcode entry.now ≡ entry.now.name → IsShownLine G before i further line
         → IfSome result (λ t. t.now ≡ line ++ 10 ∷ []) }
 {
-    let name = entry.name.as_str();
+    let name = entry.name();
     if draft.at >= buffer.len() || name.len() > LONGEST_NAME {
         return None;
     }
@@ -139,11 +139,11 @@ pub fn fast_line<'t>(
         return Ok(None);
     };
     let end = at + count;
-    let pattern = &entry.operands;
+    let pattern = entry.operands();
     let Some(draft) = add_operands(buffer, table, image, printer, pattern, at + 1, end) else {
         return Ok(None);
     };
-    let Some(line) = whole_line(buffer, entry, draft) else {
+    let Some(line) = whole_line(buffer, &entry, draft) else {
         return Ok(None);
     };
     out.push_str(line)?;

@@ -159,8 +159,8 @@ fn enumerant_label<'t>(table: &'t Table, kind: u32, word: u32) -> Option<Label<'
 {
     let enumerant = table.enumerant(kind, word)?;
     Some(Label {
-        name: enumerant.name.as_str(),
-        kinds: enumerant.parameters.as_slice(),
+        name: enumerant.name(),
+        kinds: enumerant.parameters(),
     })
 }
 

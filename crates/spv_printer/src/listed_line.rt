@@ -179,7 +179,7 @@ fn listed_line<'t>(
     let Some(draft) = add_all_listed(buffer, table, printer, operands) else {
         return Ok(None);
     };
-    let Some(line) = whole_line(buffer, entry, draft) else {
+    let Some(line) = whole_line(buffer, &entry, draft) else {
         return Ok(None);
     };
     out.push_str(line)?;

@@ -12,15 +12,15 @@ use crate::named::Named;
 use crate::names::Names;
 use crate::number::push_marked;
 use spv_lines::is_plain;
-use spv_table::{Entry, Table};
+use spv_table::{EntryRef, Table};
 use std::alloc::AllocError;
 
 /// Whether the name of an opcode's entry is plain and looks up the opcode.
-fn is_name_of(table: &Table, opcode: u16, entry: &Entry) -> bool
+fn is_name_of(table: &Table, opcode: u16, entry: &EntryRef<'_>) -> bool
     ensures named { result ≡ true → shown_name table.now opcode entry.now ≡ entry.now.name }
     ensures nameless { result ≡ false → shown_name table.now opcode entry.now ≡ by_number opcode }
 {
-    let name = entry.name.as_str();
+    let name = entry.name();
     is_plain(name) && table.named(name) == Some(opcode)
 }
 
@@ -29,7 +29,7 @@ fn is_opcode_named(
     table: &Table,
     names: &mut Names,
     opcode: u16,
-    entry: &Entry,
+    entry: &EntryRef<'_>,
 ) -> Result<bool, AllocError>
     requires entry { entry_of table.now opcode ≡ Some entry.now }
     requires names { AreNames table.now names.old }
@@ -53,7 +53,7 @@ pub fn push_name(
     table: &Table,
     names: &mut Names,
     opcode: u16,
-    entry: &Entry,
+    entry: &EntryRef<'_>,
 ) -> Result<(), AllocError>
     requires entry { entry_of table.now opcode ≡ Some entry.now }
     requires names { AreNames table.now names.old }
@@ -62,7 +62,7 @@ pub fn push_name(
     ensures names { AreNames table.now names.new }
 {
     if is_opcode_named(table, names, opcode, entry)? {
-        out.push_str(entry.name.as_str())
+        out.push_str(entry.name())
     } else {
         push_marked(out, '#', u32::from(opcode))
     }
@@ -74,7 +74,7 @@ fn has_plain_name(table: &Table, kind: u32, value: u32) -> bool
 {
     match table.enumerant(kind, value) {
         Some(enumerant) => {
-            let name = enumerant.name.as_str();
+            let name = enumerant.name();
             is_plain(name) && table.enumerant_named(kind, name) == Some(value)
         }
         None => false,
@@ -118,7 +118,7 @@ pub fn push_value(
         return push_marked(out, '#', value);
     }
     match table.enumerant(kind, value) {
-        Some(enumerant) => out.push_str(enumerant.name.as_str()),
+        Some(enumerant) => out.push_str(enumerant.name()),
         None => push_marked(out, '#', value),
     }
 }

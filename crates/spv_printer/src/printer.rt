@@ -19,7 +19,7 @@ use crate::number::push_marked;
 use crate::operand::push_piece;
 use spv_inst::due::{Definitions, Form, Known, Pending, known_after};
 use spv_module::{Operand, result_in};
-use spv_table::{Pattern, Table};
+use spv_table::{PatternRef, Table};
 use std::alloc::{AllocError, Global};
 
 /// What is kept from one instruction of a module to the next.
@@ -78,7 +78,7 @@ impl<'t> Printer<'t> {
         &mut self,
         out: &mut String,
         table: &'t Table,
-        pattern: &'t Pattern,
+        pattern: &PatternRef<'t>,
         opcode: u16,
         operands: &[Operand],
     ) -> Result<(), AllocError>
@@ -140,8 +140,8 @@ impl<'t> Printer<'t> {
             return Ok(());
         };
         push_result(out, result_in(operands))?;
-        push_name(out, table, &mut self.names, opcode, entry)?;
-        self.push_operands(out, table, &entry.operands, opcode, operands)
+        push_name(out, table, &mut self.names, opcode, &entry)?;
+        self.push_operands(out, table, entry.operands(), opcode, operands)
     }
 
     /// Adds the line of an instruction, with its line feed, by its opcode and operands, and keeps what the instruction

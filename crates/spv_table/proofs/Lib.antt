@@ -7,3 +7,4 @@ pub mod Lookup
 pub mod Joined
 pub mod Ordered
 pub mod Fronted
+pub mod Told

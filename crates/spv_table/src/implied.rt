@@ -9,7 +9,7 @@ ghost use Rattle.spv_table.specs.Implied.{Implied, enumerants_of};
 ghost use Rattle.spv_table.specs.inner.Reached.{Adds, AddsAll, is_reached, listed_by};
 
 use crate::error::Memory;
-use crate::listed::NameList;
+use crate::name_list_ref::NameListRef;
 use crate::table::Table;
 use std::alloc::Global;
 use std::collections::BTreeSet;
@@ -54,7 +54,7 @@ impl Reached {
     }
 
     /// Reaches the enumerants of a kind that bear some names.
-    fn add_named(&mut self, table: &Table, kind: u32, names: &NameList) -> Result<(), Memory>
+    fn add_named(&mut self, table: &Table, kind: u32, names: &NameListRef<'_>) -> Result<(), Memory>
         ensures { OnOk result (AddsAll (filter_map (value_named (enumerants_of (kind_of table.now kind))) names.now)
             self.old self.new) }
     {
@@ -74,7 +74,7 @@ impl Reached {
         let Some(enumerant) = table.enumerant(kind, capability) else {
             return Ok(());
         };
-        self.add_named(table, kind, &enumerant.capabilities)
+        self.add_named(table, kind, &enumerant.capabilities())
     }
 }
 

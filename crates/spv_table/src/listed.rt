@@ -1,10 +1,7 @@
 ghost use Rattle.std.specs.Prelude.{◌≡◌, ◌<◌, ◌↔◌, [], IsTrue, Some, length, map, slice_get, string_bytes, IfOk};
-ghost use Rattle.std.specs.Str.{IsAscii};
 ghost use Rattle.spv_table.specs.inner.Joined.{IsJoined};
-ghost use Rattle.spv_table.specs.Span.{spanned};
 
 use crate::named::Named;
-use crate::span::Span;
 use std::alloc::{AllocError, Global};
 use std::marker::Model;
 use std::sync::Arc;
@@ -71,13 +68,15 @@ struct Joined {
     ends: Vec<u32>,
 }
 
-/// Names that several lists may share. Contracts see them as the list of the names.
+/// A list of names that several elements may share. Contracts see it as the list of the names.
+///
+/// It takes the octets of the names, four octets for each, and what one allocation of each takes.
 #[derive(Drop)]
-struct Shared {
+pub struct NameList {
     joined: Arc<Joined>,
 }
 
-impl Model for Shared {
+impl Model for NameList {
     ghost use Rattle.std.specs.Prelude.{◌≡◌, List, ℕ, length, string_bytes};
 
     ghost Value = { List (List ℕ) };
@@ -87,49 +86,6 @@ impl Model for Shared {
     ghost view = { λ l. names_in 0 (string_bytes l.joined.value.text) l.joined.value.ends.items };
 
     ghost invariant = { λ l. AreEnds 0 (string_bytes l.joined.value.text) l.joined.value.ends.items };
-}
-
-/// Names that lie in the program, each a part of one text. Contracts see them as the list of the names.
-#[derive(Drop)]
-struct Lent {
-    text: &'static str,
-    spans: &'static [Span],
-}
-
-impl Model for Lent {
-    ghost use Rattle.std.specs.Prelude.{List, ℕ, map};
-    ghost use Rattle.std.specs.Str.{IsAscii};
-    ghost use Rattle.spv_table.specs.Span.{spanned};
-
-    ghost Value = { List (List ℕ) };
-
-    ghost view = { λ l. map (spanned l.text.now) l.spans.now };
-
-    ghost invariant = { λ l. IsAscii l.text.now };
-}
-
-/// Where a list has its names.
-#[derive(Drop)]
-enum Kept {
-    Shared(Shared),
-    Lent(Lent),
-}
-
-/// A list of names that several elements may share. Contracts see it as the list of the names.
-///
-/// It takes the octets of the names, four octets for each, and what one allocation of each takes.
-#[derive(Drop)]
-pub struct NameList {
-    names: Kept,
-}
-
-impl Model for NameList {
-    ghost use Rattle.std.specs.Prelude.{List, ℕ};
-    ghost use Rattle.spv_table.specs.inner.NameList.{names_kept};
-
-    ghost Value = { List (List ℕ) };
-
-    ghost view = { λ l. names_kept l.names };
 }
 
 /// How many octets the names of some elements have together, or as many as there can be.
@@ -164,52 +120,6 @@ fn join<T: Named>(alloc: Global, elements: &[T]) -> Result<Joined, AllocError>
     Ok(Joined { text, ends })
 }
 
-impl Shared {
-    /// How many names there are.
-    fn len(&self) -> usize
-        ensures { result ≡ length self.now }
-    {
-        Arc::as_ref(&self.joined).ends.len()
-    }
-
-    /// The name at a place, from 0.
-    fn name(&self, place: usize) -> &str
-        requires { place < length self.now }
-        ensures { slice_get self.now place ≡ Some result.now }
-    {
-        let joined = Arc::as_ref(&self.joined);
-        let end = joined.ends[place] as usize;
-        let begin = if place == 0 {
-            0
-        } else {
-            joined.ends[place - 1] as usize
-        };
-        &joined.text.as_str()[begin..end]
-    }
-
-    /// The same names once more. The error is that there are too many of them.
-    fn share(&self) -> Result<Shared, AllocError>
-        ensures { IfOk result (λ l. l ≡ self.now) }
-    {
-        Ok(Shared {
-            joined: self.joined.clone()?,
-        })
-    }
-}
-
-impl Lent {
-    /// The name at a place, from 0.
-    fn name(&self, place: usize) -> &str
-        requires { place < length self.now }
-        ensures { slice_get self.now place ≡ Some result.now }
-    {
-        match self.spans.get(place) {
-            Some(span) => span.of(self.text),
-            None => "",
-        }
-    }
-}
-
 impl NameList {
     /// The list of the names of some elements. The error is that memory ran out, or places: the names may have
     /// 4,294,967,295 octets together.
@@ -217,22 +127,8 @@ impl NameList {
         ensures { IfOk result (λ l. l ≡ map T.name elements.now) }
     {
         match Arc::new(alloc, join(alloc, elements)?) {
-            Ok(joined) => Ok(NameList {
-                names: Kept::Shared(Shared { joined }),
-            }),
+            Ok(joined) => Ok(NameList { joined }),
             Err(_) => Err(AllocError),
-        }
-    }
-
-    /// The list of names that lie in the program, each a part of a text in ASCII: of a span that goes past the end of
-    /// the text, what there is. It takes no memory.
-    #[inline(always)]
-    pub fn lent(text: &'static str, spans: &'static [Span]) -> NameList
-        requires { IsAscii text.now }
-        ensures { result ≡ map (spanned text.now) spans.now }
-    {
-        NameList {
-            names: Kept::Lent(Lent { text, spans }),
         }
     }
 
@@ -240,24 +136,16 @@ impl NameList {
     pub fn share(&self) -> Result<NameList, AllocError>
         ensures { IfOk result (λ l. l ≡ self.now) }
     {
-        let names = match &self.names {
-            Kept::Shared(names) => Kept::Shared(names.share()?),
-            Kept::Lent(names) => Kept::Lent(Lent {
-                text: names.text,
-                spans: names.spans,
-            }),
-        };
-        Ok(NameList { names })
+        Ok(NameList {
+            joined: self.joined.clone()?,
+        })
     }
 
     /// How many names there are.
     pub fn len(&self) -> usize
         ensures { result ≡ length self.now }
     {
-        match &self.names {
-            Kept::Shared(names) => names.len(),
-            Kept::Lent(names) => names.spans.len(),
-        }
+        Arc::as_ref(&self.joined).ends.len()
     }
 
     /// Whether there is no name.
@@ -272,9 +160,13 @@ impl NameList {
         requires { place < length self.now }
         ensures { slice_get self.now place ≡ Some result.now }
     {
-        match &self.names {
-            Kept::Shared(names) => names.name(place),
-            Kept::Lent(names) => names.name(place),
-        }
+        let joined = Arc::as_ref(&self.joined);
+        let end = joined.ends[place] as usize;
+        let begin = if place == 0 {
+            0
+        } else {
+            joined.ends[place - 1] as usize
+        };
+        &joined.text.as_str()[begin..end]
     }
 }

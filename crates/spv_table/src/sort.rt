@@ -1,171 +1,32 @@
-ghost use Rattle.std.specs.Prelude.{◌≡◌, ◌<◌, ◌≤◌, ◌^◌, ℕ, List, length, option_map};
-ghost use Rattle.std.specs.Prelude.{option_and_then, position, slice_get, slice_index_or, IfOk, IsTrue, MatchOption};
-ghost use Rattle.std.specs.List.Sorted.{IsNonDecreasingBy};
-ghost use Rattle.std.specs.Str.{bytes_eq};
-ghost use Rattle.std.specs.BTreeMap as tree;
-ghost use Rattle.std.specs.Ordering.{nat_cmp};
-ghost use Rattle.spv_table.specs.Table.{enumerant_of};
-ghost use Rattle.spv_table.specs.Lookups.{value_named};
-ghost use Rattle.spv_table.specs.inner.Named.{FindsAny};
+ghost use Rattle.std.specs.Prelude.{◌≡◌, IfOk};
+ghost use Rattle.std.specs.Str.{IsAscii};
+ghost use Rattle.spv_table.specs.Rows.{sort_in};
+ghost use Rattle.spv_table.specs.Span.{spanned};
+ghost use Rattle.spv_table.specs.inner.Rows.{AreEnumerants};
 
-use crate::named::{Named, Names};
-use crate::places::widen;
-use crate::table::{Enumerant, Kind};
+use crate::constants::Constants;
+use crate::enumerant_list::EnumerantList;
+use crate::enumerant_rows::EnumerantRows;
+use crate::enumerants::EnumerantsRef;
+use crate::named::Named;
+use crate::row::KindRow;
+use crate::table::{Category, Enumerant, Kind};
 use std::alloc::{AllocError, Global};
-use std::collections::BTreeMap;
 use std::marker::Model;
 
 /// A kind with its enumerants. Contracts see the two.
 #[derive(Drop)]
 pub struct Sort {
     kind: Kind,
-    enumerants: Vec<Enumerant>,
-    /// For each value below `SMALL` the place of the first enumerant that has it. 4,294,967,295 stands where none has
-    /// it, and the list may end before.
-    near: Vec<u32>,
-    /// The place of the first enumerant with a greater value; nothing where the values of the list never go down.
-    far: Option<BTreeMap<u32, usize>>,
-    /// Where the names of the enumerants are; nothing where there are fewer than `FEW`.
-    names: Option<Names>,
+    enumerants: EnumerantList,
 }
 
 impl Model for Sort {
-    ghost use Rattle.std.specs.Prelude.{◌≡◌, ◌<◌, ◌≤◌, ℕ, List, option_and_then, slice_get};
-    ghost use Rattle.std.specs.Prelude.{slice_index_or, MatchOption};
-    ghost use Rattle.std.specs.List.Sorted.{IsNonDecreasingBy};
-    ghost use Rattle.std.specs.BTreeMap as tree;
-    ghost use Rattle.std.specs.Ordering.{nat_cmp};
     ghost use Rattle.spv_table.specs.Table.{Sort};
 
     ghost Value = { Sort };
 
-    ghost use Rattle.spv_table.specs.Table.{enumerant_of};
-    ghost use Rattle.spv_table.specs.inner.Named.{FindsAny};
-
-    ghost view = { λ s. record { kind = s.kind; enumerants = s.enumerants.items } };
-
-    ghost invariant = { λ s. ((v : ℕ) → v < 64
-        → slice_get s.enumerants.items (slice_index_or s.near.items v 4294967295)
-        ≡ enumerant_of s.enumerants.items v)
-        × MatchOption s.far (IsNonDecreasingBy (λ e. e.value) s.enumerants.items) (λ places. (v : ℕ) → 64 ≤ v
-        → option_and_then (slice_get s.enumerants.items) (tree.get nat_cmp places v)
-        ≡ enumerant_of s.enumerants.items v)
-        × FindsAny (λ e. e.name) s.enumerants.items s.names };
-}
-
-/// Below which number a value has a place in a list of its own.
-const SMALL: u32 = 64;
-
-/// Of fewer enumerants than this the names are gone through.
-const FEW: usize = 8;
-
-/// For each value below `SMALL` the place of the first enumerant that has it.
-fn near_places(alloc: Global, enumerants: &[Enumerant]) -> Result<Vec<u32>, AllocError>
-    requires { length enumerants.now < 2 ^ 32 }
-    ensures { IfOk result (λ places. (v : ℕ) → v < 64
-        → slice_get enumerants.now (slice_index_or places.items v 4294967295) ≡ enumerant_of enumerants.now v) }
-{
-    let mut places = Vec::new(alloc);
-    for i in (0..enumerants.len()).rev() {
-        let value = enumerants[i].value;
-        if value < SMALL {
-            widen(&mut places, value)?;
-            places[value as usize] = i as u32;
-        }
-    }
-    Ok(places)
-}
-
-/// Whether the values never go down.
-fn are_ordered(enumerants: &[Enumerant]) -> bool
-    ensures { IsTrue result → IsNonDecreasingBy (λ e. e.value) enumerants.now }
-{
-    let mut last = 0;
-    for enumerant in enumerants {
-        if enumerant.value < last {
-            return false;
-        }
-        last = enumerant.value;
-    }
-    true
-}
-
-/// The first enumerant with a value, where the values never go down.
-fn ordered(enumerants: &[Enumerant], value: u32) -> Option<&Enumerant>
-    requires { IsNonDecreasingBy (λ e. e.value) enumerants.now }
-    ensures { option_map (λ e. e.now) result ≡ enumerant_of enumerants.now value }
-{
-    let place = enumerants.partition_point(|e| e.value < value);
-    match enumerants.get(place) {
-        Some(enumerant) => {
-            if enumerant.value == value {
-                Some(enumerant)
-            } else {
-                None
-            }
-        }
-        None => None,
-    }
-}
-
-/// For each value from `SMALL` on the place of the first enumerant that has it.
-fn far_map(alloc: Global, enumerants: &[Enumerant]) -> Result<BTreeMap<u32, usize>, AllocError>
-    ensures { IfOk result (λ places. (v : ℕ) → 64 ≤ v
-        → option_and_then (slice_get enumerants.now) (tree.get nat_cmp places v) ≡ enumerant_of enumerants.now v) }
-{
-    let mut places = BTreeMap::new(alloc);
-    for i in (0..enumerants.len()).rev() {
-        let value = enumerants[i].value;
-        if value >= SMALL {
-            places.insert(value, i)?;
-        }
-    }
-    Ok(places)
-}
-
-/// The same, but nothing where the values never go down.
-fn far_places(
-    alloc: Global,
-    enumerants: &[Enumerant],
-) -> Result<Option<BTreeMap<u32, usize>>, AllocError>
-    ensures { IfOk result (λ far. MatchOption far (IsNonDecreasingBy (λ e. e.value) enumerants.now)
-        (λ places. (v : ℕ) → 64 ≤ v
-        → option_and_then (slice_get enumerants.now) (tree.get nat_cmp places v) ≡ enumerant_of enumerants.now v)) }
-{
-    if are_ordered(enumerants) {
-        return Ok(None);
-    }
-    Ok(Some(far_map(alloc, enumerants)?))
-}
-
-/// Where the names of enumerants are; nothing where they are few.
-fn names_of(alloc: Global, enumerants: &[Enumerant]) -> Result<Option<Names>, AllocError>
-    requires { length enumerants.now < 2 ^ 32 }
-    ensures { IfOk result (FindsAny (λ e. e.name) enumerants.now) }
-{
-    if enumerants.len() < FEW {
-        return Ok(None);
-    }
-    Ok(Some(Names::of(alloc, enumerants)?))
-}
-
-/// The place of the first enumerant with a name.
-fn place_of(names: &Option<Names>, enumerants: &[Enumerant], name: &str) -> Option<usize>
-    requires { FindsAny (λ e. e.name) enumerants.now names.now }
-    ensures { result ≡ position (λ e. bytes_eq name.now e.name) enumerants.now }
-{
-    match names {
-        Some(names) => names.place(enumerants, name),
-        None => enumerants.iter().position(|e| e.name.as_str() == name),
-    }
-}
-
-impl Named for Enumerant {
-    ghost name = { λ e. e.name };
-
-    fn name(&self) -> &str {
-        self.name.as_str()
-    }
+    ghost view = { λ s. record { kind = s.kind; enumerants = s.enumerants } };
 }
 
 impl Named for Sort {
@@ -181,83 +42,143 @@ impl Sort {
     pub fn new(alloc: Global, kind: Kind, enumerants: Vec<Enumerant>) -> Result<Sort, AllocError>
         ensures { IfOk result (λ s. s ≡ record { kind = kind; enumerants = enumerants.items }) }
     {
-        if enumerants.len() > 0xffff_ffff {
-            return Err(AllocError);
-        }
-        let near = near_places(alloc, enumerants.as_slice())?;
-        let far = far_places(alloc, enumerants.as_slice())?;
-        let names = names_of(alloc, enumerants.as_slice())?;
-        Ok(Sort {
-            kind,
-            enumerants,
-            near,
-            far,
-            names,
-        })
-    }
-
-    /// A kind with these enumerants, whose values never go down, and with the places of their names. The error is that
-    /// memory ran out.
-    pub fn found(
-        alloc: Global,
-        kind: Kind,
-        enumerants: Vec<Enumerant>,
-        names: Option<Names>,
-    ) -> Result<Sort, AllocError>
-        requires few { length enumerants.items < 2 ^ 32 }
-        requires ordered { IsNonDecreasingBy (λ e. e.value) enumerants.items }
-        requires finds { FindsAny (λ e. e.name) enumerants.items names }
-        ensures { IfOk result (λ s. s ≡ record { kind = kind; enumerants = enumerants.items }) }
-    {
-        let near = near_places(alloc, enumerants.as_slice())?;
-        Ok(Sort {
-            kind,
-            enumerants,
-            near,
-            far: None,
-            names,
-        })
+        let enumerants = EnumerantList::new(alloc, enumerants)?;
+        Ok(Sort { kind, enumerants })
     }
 
     /// The kind.
-    pub fn kind(&self) -> &Kind
+    pub(crate) fn kind(&self) -> &Kind
+        ensures { result.now ≡ self.now.kind }
+    {
+        &self.kind
+    }
+
+    /// The kind and its enumerants, looked at.
+    #[inline(always)]
+    pub(crate) fn seen(&self) -> SortRef<'_>
+        ensures { result ≡ self.now }
+    {
+        SortRef {
+            kind: KindRef {
+                name: self.kind.name.as_str(),
+                category: self.kind.category,
+                bases: self.kind.bases.as_slice(),
+            },
+            enumerants: EnumerantsRef::made(&self.enumerants),
+        }
+    }
+}
+
+/// A kind of a table, looked at where it lies. Contracts see it as the kind.
+#[derive(Drop)]
+pub struct KindRef<'t> {
+    name: &'t str,
+    category: Category,
+    bases: &'t [u32],
+}
+
+impl<'t> Model for KindRef<'t> {
+    ghost use Rattle.spv_table.specs.declared.table.Kind as declared;
+
+    ghost Value = { declared.Kind };
+
+    ghost view = { λ k. record { name = k.name.now; category = k.category; bases = k.bases.now } };
+}
+
+impl<'t> KindRef<'t> {
+    /// Its name.
+    #[inline(always)]
+    pub fn name(&self) -> &'t str
+        ensures { result.now ≡ self.now.name }
+    {
+        self.name
+    }
+
+    /// What sort of operands it has.
+    #[inline(always)]
+    pub fn category(&self) -> Category
+        ensures { result ≡ self.now.category }
+    {
+        self.category
+    }
+
+    /// The numbers of the kinds that a Composite is made of, in order; none for others.
+    #[inline(always)]
+    pub fn bases(&self) -> &'t [u32]
+        ensures { result.now ≡ self.now.bases }
+    {
+        self.bases
+    }
+
+    /// The same kind once more.
+    #[inline(always)]
+    pub fn again(&self) -> KindRef<'t>
+        ensures { result ≡ self.now }
+    {
+        KindRef {
+            name: self.name,
+            category: self.category,
+            bases: self.bases,
+        }
+    }
+}
+
+/// A kind of a table with its enumerants, looked at where they lie. Contracts see the two.
+#[derive(Drop)]
+pub struct SortRef<'t> {
+    kind: KindRef<'t>,
+    enumerants: EnumerantsRef<'t>,
+}
+
+impl<'t> Model for SortRef<'t> {
+    ghost use Rattle.spv_table.specs.Table.{Sort};
+
+    ghost Value = { Sort };
+
+    ghost view = { λ s. record { kind = s.kind; enumerants = s.enumerants } };
+}
+
+impl<'t> SortRef<'t> {
+    /// The kind of a row with its enumerants.
+    #[inline(always)]
+    pub(crate) fn told(lies: &Constants, row: &KindRow) -> SortRef<'t>
+        requires ascii { IsAscii lies.now.text.now }
+        requires are { AreEnumerants lies.now.text.now (spanned lies.now.enumerants.now row.now.3)
+            (spanned lies.now.slots.now row.now.4) (spanned lies.now.near.now row.now.5) }
+        ensures { result ≡ sort_in lies.now.text.now lies.now.numbers.now lies.now.names.now
+            lies.now.enumerants.now row.now }
+    {
+        let rows = EnumerantRows::new(
+            lies.text,
+            lies.numbers,
+            lies.names,
+            row.3.among(lies.enumerants),
+            row.4.among(lies.slots),
+            row.5.among(lies.near),
+        );
+        SortRef {
+            kind: KindRef {
+                name: row.1.of(lies.text),
+                category: row.0,
+                bases: row.2.among(lies.numbers),
+            },
+            enumerants: EnumerantsRef::told(rows),
+        }
+    }
+
+    /// The kind.
+    #[inline(always)]
+    pub fn kind(&self) -> &KindRef<'t>
         ensures { result.now ≡ self.now.kind }
     {
         &self.kind
     }
 
     /// The enumerants, in the order of the file.
-    pub fn enumerants(&self) -> &[Enumerant]
+    #[inline(always)]
+    pub fn enumerants(&self) -> &EnumerantsRef<'t>
         ensures { result.now ≡ self.now.enumerants }
     {
-        self.enumerants.as_slice()
-    }
-
-    /// The first enumerant with a value: in constant time where the value is below `SMALL`.
-    pub fn enumerant(&self, value: u32) -> Option<&Enumerant>
-        ensures { option_map (λ e. e.now) result ≡ enumerant_of self.now.enumerants value }
-    {
-        if value < SMALL {
-            let place = match self.near.get(value as usize) {
-                Some(place) => *place,
-                None => u32::MAX,
-            };
-            return self.enumerants.get(place as usize);
-        }
-        match &self.far {
-            Some(far) => self.enumerants.get(*far.get(&value)?),
-            None => ordered(self.enumerants.as_slice(), value),
-        }
-    }
-
-    /// The value of the first enumerant with a name.
-    pub fn value(&self, name: &str) -> Option<u32>
-        ensures { result ≡ value_named self.now.enumerants name.now }
-    {
-        let place = place_of(&self.names, self.enumerants.as_slice(), name)?;
-        match self.enumerants.get(place) {
-            Some(enumerant) => Some(enumerant.value),
-            None => None,
-        }
+        &self.enumerants
     }
 }

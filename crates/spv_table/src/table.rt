@@ -1,21 +1,29 @@
-ghost use Rattle.std.specs.Prelude.{◌≡◌, ◌<◌, ◌^◌, ℕ, List, length, slice_get, slice_index_or};
+ghost use Rattle.std.specs.Prelude.{◌≡◌, ◌<◌, ◌^◌, ℕ, List, [], length, slice_get, slice_index_or};
 ghost use Rattle.std.specs.Prelude.{min, take, map, option_map, option_and_then, IfOk};
 ghost use Rattle.spv_table.specs.Table.{entry_of, kind_of, enumerant_of, first_with, IsWhole};
 ghost use Rattle.spv_table.specs.Lookups.{opcode_named, value_named, number_named};
+ghost use Rattle.std.specs.Str.{IsAscii};
+ghost use Rattle.spv_table.specs.inner.Constants.{table_in};
 ghost use Rattle.spv_table.specs.inner.Form.{form_of};
 ghost use Rattle.spv_table.specs.inner.Front.{front_at, AreFronts};
 ghost use Rattle.spv_table.specs.inner.Named.{Finds};
+ghost use Rattle.spv_table.specs.inner.Places.{ArePlacesOf};
 ghost use Rattle.spv_table.specs.inner.Results.{entry_has_result, results_of};
+ghost use Rattle.spv_table.specs.inner.Rows.{told, AreCounted, AreKinds};
 
+use crate::constants::Constants;
+use crate::entries::{Entries, EntryRef};
+use crate::enumerants::EnumerantRef;
 use crate::form::{Form, forms_of};
 use crate::front::{Front, front_in, fronts_of};
 use crate::listed::{Listed, NameList};
 use crate::name::Name;
-use crate::named::{Named, Names};
+use crate::named::Named;
 use crate::pattern::Pattern;
 use crate::places::widen;
 use crate::results::{Results, results_of_entries};
-use crate::sort::Sort;
+use crate::sort::{KindRef, Sort};
+use crate::sorts::Sorts;
 use std::alloc::{AllocError, Global};
 use std::marker::Model;
 
@@ -81,46 +89,39 @@ pub struct Enumerant {
 /// What a grammar file says. Contracts see its kinds and its entries, as lists.
 #[derive(Drop)]
 pub struct Table {
-    sorts: Vec<Sort>,
-    entries: Vec<(u16, Entry)>,
+    sorts: Sorts,
+    entries: Entries,
     /// For each opcode the place of its first entry. 4,294,967,295 stands where it has none, and the list ends with the
     /// greatest opcode that has one.
-    places: Vec<u32>,
-    /// Where the names of the entries are.
-    names: Names,
-    /// Where the names of the kinds are.
-    kind_names: Names,
+    places: Listed<u32>,
     /// The form of each kind.
-    forms: Vec<Form>,
+    forms: Listed<Form>,
     /// Of each entry whether its pattern has a result.
-    results: Vec<Results>,
+    results: Listed<Results>,
     /// For each opcode below `FRONTED` the front of its pattern, as far as `places` goes.
-    fronts: Vec<Front>,
+    fronts: Listed<Front>,
 }
 
 impl Model for Table {
-    ghost use Rattle.std.specs.Prelude.{◌≡◌, ℕ, List, map, slice_get, slice_index_or};
+    ghost use Rattle.std.specs.Prelude.{◌≡◌, map};
     ghost use Rattle.spv_table.specs.Table.{Table};
 
     ghost Value = { Table };
 
-    ghost use Rattle.spv_table.specs.Table.{IsWhole, first_with};
+    ghost use Rattle.spv_table.specs.Table.{IsWhole};
+    ghost use Rattle.spv_table.specs.inner.Places.{ArePlacesOf};
     ghost use Rattle.spv_table.specs.inner.Form.{form_of};
     ghost use Rattle.spv_table.specs.inner.Front.{AreFronts};
-    ghost use Rattle.spv_table.specs.inner.Named.{Finds};
     ghost use Rattle.spv_table.specs.inner.Results.{results_of};
 
-    ghost view = { λ t. record { kinds = t.sorts.items; entries = t.entries.items } };
+    ghost view = { λ t. record { kinds = t.sorts; entries = t.entries } };
 
-    ghost invariant = { λ t. IsWhole (record { kinds = t.sorts.items; entries = t.entries.items })
-        × ((n : ℕ) → slice_get t.entries.items (slice_index_or t.places.items n 4294967295)
-        ≡ first_with (λ e. e.0) n t.entries.items)
-        × Finds (λ e. e.1.name) t.entries.items t.names
-        × Finds (λ s. s.kind.name) t.sorts.items t.kind_names
-        × (t.forms.items ≡ map form_of t.sorts.items)
-        × (t.results.items ≡ map
-        (λ e. results_of (record { kinds = t.sorts.items; entries = t.entries.items }) e.1) t.entries.items)
-        × AreFronts (record { kinds = t.sorts.items; entries = t.entries.items }) t.fronts.items };
+    ghost invariant = { λ t. IsWhole (record { kinds = t.sorts; entries = t.entries })
+        × ArePlacesOf t.places t.entries
+        × (t.forms ≡ map form_of t.sorts)
+        × (t.results ≡ map
+        (λ e. results_of (record { kinds = t.sorts; entries = t.entries }) e.1) t.entries)
+        × AreFronts (record { kinds = t.sorts; entries = t.entries }) t.fronts };
 }
 
 /// Below which opcodes the fronts of patterns are kept: those of the profile.
@@ -129,8 +130,7 @@ const FRONTED: usize = 331;
 /// For each opcode the place of its first entry.
 fn opcode_places(alloc: Global, entries: &[(u16, Entry)]) -> Result<Vec<u32>, AllocError>
     requires { length entries.now < 2 ^ 32 }
-    ensures { IfOk result (λ places. (n : ℕ) → slice_get entries.now (slice_index_or places.items n 4294967295)
-        ≡ first_with (λ e. e.0) n entries.now) }
+    ensures { IfOk result (λ places. ArePlacesOf places.items entries.now) }
 {
     let mut places = Vec::new(alloc);
     for i in (0..entries.len()).rev() {
@@ -159,17 +159,6 @@ fn place_in(places: &[u32], opcode: u16) -> u32
     }
 }
 
-/// A copy of a list.
-fn copied<T: Copy + Drop>(alloc: Global, items: &[T]) -> Result<Vec<T>, AllocError>
-    ensures { IfOk result (λ v. v.items ≡ items.now) }
-{
-    let mut copies = Vec::with_capacity(alloc, items.len())?;
-    for item in items {
-        copies.push(*item)?;
-    }
-    Ok(copies)
-}
-
 impl Named for (u16, Entry) {
     ghost name = { λ e. e.1.name };
 
@@ -193,101 +182,93 @@ impl Table {
             return Err(AllocError);
         }
         let places = opcode_places(alloc, entries.as_slice())?;
-        let names = Names::of(alloc, entries.as_slice())?;
-        let kind_names = Names::of(alloc, sorts.as_slice())?;
         let forms = forms_of(alloc, sorts.as_slice())?;
         let results = results_of_entries(alloc, forms.as_slice(), entries.as_slice())?;
         let fronted = fronted_of(places.as_slice());
         let fronts = fronts_of(alloc, forms.as_slice(), fronted, entries.as_slice())?;
+        let sorts = Sorts::made(alloc, sorts)?;
+        let entries = Entries::made(alloc, entries)?;
         Ok(Table {
             sorts,
             entries,
-            places,
-            names,
-            kind_names,
-            forms,
-            results,
-            fronts,
+            places: Listed::from_vec(places),
+            forms: Listed::from_vec(forms),
+            results: Listed::from_vec(results),
+            fronts: Listed::from_vec(fronts),
         })
     }
 
-    /// The table of these kinds and entries, with the places of their names; of each entry whether its pattern has a
-    /// result; and the fronts of the opcodes of the profile. The error is that memory ran out.
-    pub fn found(
-        alloc: Global,
-        sorts: Vec<Sort>,
-        entries: Vec<(u16, Entry)>,
-        names: Names,
-        kind_names: Names,
-        results: &[Results],
-        fronts: &[Front],
-    ) -> Result<Table, AllocError>
-        requires whole { IsWhole (record { kinds = sorts.items; entries = entries.items }) }
-        requires names { Finds (λ e. e.1.name) entries.items names }
-        requires kind_names { Finds (λ s. s.kind.name) sorts.items kind_names }
-        requires results { results.now
-            ≡ map (λ e. results_of (record { kinds = sorts.items; entries = entries.items }) e.1) entries.items }
-        requires fronts { AreFronts (record { kinds = sorts.items; entries = entries.items }) fronts.now }
-        ensures { IfOk result (λ G. G ≡ record { kinds = sorts.items; entries = entries.items }) }
+    /// The table that constants tell, where what they tell beside the rows is right. It takes no memory.
+    pub fn told(lies: Constants) -> Table
+        requires ascii { IsAscii lies.text.now }
+        requires kinds { AreKinds lies.text.now lies.enumerants.now lies.slots.now lies.near.now lies.kinds.now }
+        requires kind_names { Finds (told lies.text.now (λ r. r.1)) lies.kinds.now
+            (record { slots = lies.kind_slots.now; others = [] }) }
+        requires counted { AreCounted lies.items.now lies.entries.now }
+        requires entry_names { Finds (told lies.text.now (λ r. r.1)) lies.entries.now
+            (record { slots = lies.entry_slots.now; others = [] }) }
+        requires whole { IsWhole (table_in lies) }
+        requires places { ArePlacesOf lies.places.now (table_in lies).entries }
+        requires forms { lies.forms.now ≡ map form_of (table_in lies).kinds }
+        requires results { lies.results.now ≡ map (λ e. results_of (table_in lies) e.1) (table_in lies).entries }
+        requires fronts { AreFronts (table_in lies) lies.fronts.now }
+        ensures { result ≡ table_in lies }
     {
-        let places = opcode_places(alloc, entries.as_slice())?;
-        let forms = forms_of(alloc, sorts.as_slice())?;
-        let results = copied(alloc, results)?;
-        let fronts = copied(alloc, fronts)?;
-        Ok(Table {
+        let sorts = Sorts::told(lies);
+        let entries = Entries::told(lies);
+        Table {
             sorts,
             entries,
-            places,
-            names,
-            kind_names,
-            forms,
-            results,
-            fronts,
-        })
+            places: Listed::lent(lies.places),
+            forms: Listed::lent(lies.forms),
+            results: Listed::lent(lies.results),
+            fronts: Listed::lent(lies.fronts),
+        }
     }
 
     /// The kind of a number.
-    pub fn kind(&self, number: u32) -> Option<&Kind>
-        ensures kind { option_map (λ k. k.now) result ≡ option_map (λ s. s.kind) (kind_of self.now number) }
+    #[inline(always)]
+    pub fn kind(&self, number: u32) -> Option<KindRef<'_>>
+        ensures kind { result ≡ option_map (λ s. s.kind) (kind_of self.now number) }
         ensures whole { IsWhole self.now }
     {
         match self.sorts.get(number as usize) {
-            Some(sort) => Some(sort.kind()),
+            Some(sort) => Some(sort.kind().again()),
             None => None,
         }
     }
 
     /// The kinds with their enumerants, in the order of their numbers.
-    pub fn sorts(&self) -> &[Sort]
+    pub fn sorts(&self) -> &Sorts
         ensures { result.now ≡ self.now.kinds }
     {
-        self.sorts.as_slice()
+        &self.sorts
     }
 
     /// The entries with their opcodes, in the order of the file.
-    pub fn entries(&self) -> &[(u16, Entry)]
+    pub fn entries(&self) -> &Entries
         ensures { result.now ≡ self.now.entries }
     {
-        self.entries.as_slice()
+        &self.entries
     }
 
     /// The number of the kind of a name.
     pub fn kind_named(&self, name: &str) -> Option<u32>
         ensures { result ≡ number_named self.now name.now }
     {
-        let place = self.kind_names.place(self.sorts.as_slice(), name)?;
+        let place = self.sorts.place(name)?;
         Some(place as u32)
     }
 
     /// The enumerant of a kind's value or bit: the first of the file that is not dropped.
-    pub fn enumerant(&self, kind: u32, value: u32) -> Option<&Enumerant>
-        ensures { option_map (λ e. e.now) result ≡ option_and_then (λ s. enumerant_of s.enumerants value)
-            (kind_of self.now kind) }
+    #[inline(always)]
+    pub fn enumerant(&self, kind: u32, value: u32) -> Option<EnumerantRef<'_>>
+        ensures { result ≡ option_and_then (λ s. enumerant_of s.enumerants value) (kind_of self.now kind) }
     {
         let Some(sort) = self.sorts.get(kind as usize) else {
             return None;
         };
-        sort.enumerant(value)
+        sort.enumerants().enumerant(value)
     }
 
     /// The value of the enumerant of a kind that bears a name: of the first that is not dropped.
@@ -297,12 +278,13 @@ impl Table {
         let Some(sort) = self.sorts.get(kind as usize) else {
             return None;
         };
-        sort.value(name)
+        sort.enumerants().value(name)
     }
 
     /// The entry of an opcode: the first of the file.
-    pub fn entry(&self, opcode: u16) -> Option<&Entry>
-        ensures { option_map (λ e. e.now) result ≡ entry_of self.now opcode }
+    #[inline(always)]
+    pub fn entry(&self, opcode: u16) -> Option<EntryRef<'_>>
+        ensures { result ≡ entry_of self.now opcode }
     {
         let place = place_in(self.places.as_slice(), opcode);
         match self.entries.get(place as usize) {
@@ -325,7 +307,7 @@ impl Table {
         ensures { result ≡ entry_has_result may self.now (entry_of self.now opcode) }
     {
         let place = place_in(self.places.as_slice(), opcode);
-        match self.results.get(place as usize) {
+        match self.results.as_slice().get(place as usize) {
             Some(results) => { if may { results.ever } else { results.always } }
             None => false,
         }
@@ -343,9 +325,9 @@ impl Table {
     pub fn named(&self, name: &str) -> Option<u16>
         ensures { result ≡ opcode_named self.now.entries name.now }
     {
-        let place = self.names.place(self.entries.as_slice(), name)?;
+        let place = self.entries.place(name)?;
         match self.entries.get(place) {
-            Some((opcode, _)) => Some(*opcode),
+            Some((opcode, _)) => Some(opcode),
             None => None,
         }
     }

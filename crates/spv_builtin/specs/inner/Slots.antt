@@ -1,13 +1,13 @@
 -- Tests of rows: that slots find the names, and that the values of enumerants never go down. (For the code alone.)
-use Rattle.std.specs.Prelude.{ℕ, zero, suc, ◌-◌, List, [], ◌∷◌, Option, Some, None, Bool, true, false, ◌&&◌}
+use Rattle.std.specs.Prelude.{ℕ, zero, suc, ◌-◌, List, [], ◌∷◌, Bool, true, false, ◌&&◌}
 use Rattle.std.specs.Prelude.{nat_eq, nat_le, nat_lt, if◌then◌else◌, length, map, take, drop}
 use Rattle.std.specs.List.{list_all}
-use Rattle.spv_table.specs.declared.named.Names.{Names}
 use Rattle.spv_table.specs.declared.span.Span.{Span}
 use Rattle.spv_table.specs.Span.{spanned}
 use Rattle.spv_table.specs.inner.Named.{slot_in}
-use Rattle.spv_builtin.specs.declared.row.EnumerantRow.{EnumerantRow}
-use Rattle.spv_builtin.specs.declared.row.KindRow.{KindRow}
+use Rattle.spv_table.specs.declared.row.EnumerantRow.{EnumerantRow}
+use Rattle.spv_table.specs.declared.row.KindRow.{KindRow}
+use Rattle.spv_builtin.specs.inner.Places.{are_near}
 
 -- is a text ASCII
 unfoldable pub is_ascii : List ℕ → Bool
@@ -45,28 +45,15 @@ find text slots spans =
     nat_lt 8 (length slots) && (nat_lt (length spans) 4294967296 && (follow (begin_of spans) spans
     && are_held (length slots - 8) slots 0 (cut (begin_of spans) (drop (begin_of spans) text) spans)))
 
--- the same; where there is no slot nothing is found by them
-abbrev pub find_any : List ℕ → List ℕ → List Span → Bool
-find_any text [] spans = true
-find_any text (s ∷ ss) spans = find text (s ∷ ss) spans
-
-abbrev pub names_by : List ℕ → Option Names
-names_by [] = None
-names_by (s ∷ ss) = Some (record { slots = s ∷ ss; others = [] })
-
--- where the names of the enumerants of a kind are
-abbrev pub names_in : List ℕ → KindRow → Option Names
-names_in slots r = names_by (spanned slots r.4)
-
 -- do the values never go down, from one on
 unfoldable pub never_down : ℕ → List EnumerantRow → Bool
 never_down last [] = true
 never_down last (r ∷ rs) = nat_le last r.0 && never_down r.0 rs
 
--- do enumerants and slots pass all tests; do those of a kind
-abbrev pub all_pass : List ℕ → List EnumerantRow → List ℕ → Bool
-all_pass text rows slots =
-    never_down 0 rows && (nat_lt (length rows) 4294967296 && find_any text slots (map (λ r. r.1) rows))
+-- do enumerants, slots and near places pass all tests; do those of a kind
+abbrev pub all_pass : List ℕ → List EnumerantRow → List ℕ → List ℕ → Bool
+all_pass text rows slots near =
+    never_down 0 rows && (find text slots (map (λ r. r.1) rows) && are_near near rows)
 
-unfoldable pub passes : List ℕ → List EnumerantRow → List ℕ → KindRow → Bool
-passes text enumerants slots r = all_pass text (spanned enumerants r.3) (spanned slots r.4)
+unfoldable pub passes : List ℕ → List EnumerantRow → List ℕ → List ℕ → KindRow → Bool
+passes text enumerants slots near r = all_pass text (spanned enumerants r.3) (spanned slots r.4) (spanned near r.5)

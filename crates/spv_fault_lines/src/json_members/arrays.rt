@@ -12,7 +12,7 @@ use crate::owners::Owners;
 use crate::{About, Thing, listed_names, needs_of, push_capability};
 use spv_evidence::Lister;
 use spv_module::Inst;
-use spv_table::{NameList, Table};
+use spv_table::{NameListRef, Table};
 use std::alloc::AllocError;
 
 /// Adds the result of an instruction, if it has one.
@@ -142,7 +142,7 @@ fn push_opcode(out: &mut Output, table: &Table, opcode: u16) -> Result<(), Alloc
     ensures { OnOk result (out.new ≡ out.old ++ members.opcode_token table.now opcode) }
 {
     match table.entry(opcode) {
-        Some(entry) => out.text(entry.name.as_str()),
+        Some(entry) => out.text(entry.name()),
         None => Ok(()),
     }
 }
@@ -169,7 +169,7 @@ pub fn push_opcodes(out: &mut Output, table: &Table, opcodes: &[u32]) -> Result<
 }
 
 /// Adds names.
-fn push_names(out: &mut Output, names: &NameList) -> Result<(), AllocError>
+fn push_names(out: &mut Output, names: &NameListRef<'_>) -> Result<(), AllocError>
     ensures { OnOk result (out.new ≡ out.old ++ flat_map members.name_token names.now) }
 {
     for place in 0..names.len() {
@@ -220,7 +220,7 @@ fn push_needed(
         return Ok(());
     };
     match listed_names(about.table, inst, lister) {
-        Some(names) => push_names(out, names),
+        Some(names) => push_names(out, &names),
         None => push_capabilities(
             out,
             about,

@@ -216,7 +216,7 @@ fn push_opcode_name(out: &mut Output, table: &Table, opcode: u16) -> Result<(), 
     ensures { OnOk result (out.new ≡ out.old ++ members.opcode_name table.now opcode) }
 {
     match table.entry(opcode) {
-        Some(entry) => out.text_member("name", entry.name.as_str()),
+        Some(entry) => out.text_member("name", entry.name()),
         None => Ok(()),
     }
 }

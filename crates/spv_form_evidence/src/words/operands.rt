@@ -10,7 +10,7 @@ ghost use Rattle.spv_inst.specs.inner.Reading.{between};
 ghost use Rattle.spv_form_evidence.specs.words.inner.Failed.{Fails};
 
 use spv_inst::due::{Known, Pending, Scene, known_after, take_operand};
-use spv_table::Entry;
+use spv_table::EntryRef;
 use std::alloc::{AllocError, Global};
 
 /// Where the further words of an instruction lie.
@@ -37,7 +37,7 @@ pub struct Failed {
 pub fn failed_operand<'t>(
     alloc: Global,
     scene: &Scene<'t, '_, '_>,
-    entry: &'t Entry,
+    entry: &EntryRef<'t>,
     place: Place,
 ) -> Result<Option<Failed>, AllocError>
     requires forms { scene.now.forms.now ≡ map form_of scene.now.table.now.kinds }
@@ -54,7 +54,7 @@ pub fn failed_operand<'t>(
     let mut operands = Vec::new(alloc);
     let mut known = Known::new(place.opcode);
     let mut at = place.first;
-    pending.start(&entry.operands);
+    pending.start(entry.operands());
     'turns: loop {
         let asked = pending.next_leaf(scene.table, scene.forms, at < place.end)?;
         let operand = operands.len() as u32;

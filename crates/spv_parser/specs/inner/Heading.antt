@@ -15,7 +15,7 @@ IsOpcodeText lookup t None = (x : ℕ) → x < 65536 → Names lookup x t → �
 
 -- The name of the entry that is kept, if one is, stands for it.
 abbrev pub IsKnown : Table → Option Named → Type 0
-IsKnown G last = IfSome last (λ n. IsInstName G n.entry.now.name n.opcode n.entry.now)
+IsKnown G last = IfSome last (λ n. IsInstName G n.entry.name n.opcode n.entry)
 
 -- the result that stands in front of ` = `, or that nothing does; or the code of a fault there
 abbrev pub IsFront : Table → Context → List Item → Option (List ℕ) → Result (Option ℕ) AsmCode → Type 0

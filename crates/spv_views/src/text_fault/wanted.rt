@@ -39,7 +39,7 @@ fn name_of(table: &Table, number: u32) -> &str
     ensures { result.now ≡ unwrap_or (option_map (λ s. s.kind.name) (kind_of table.now number)) [] }
 {
     match table.kind(number) {
-        Some(kind) => kind.name.as_str(),
+        Some(kind) => kind.name(),
         None => "",
     }
 }

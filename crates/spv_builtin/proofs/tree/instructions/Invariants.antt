@@ -3,5 +3,5 @@ use Rattle.serde_json.specs.View.{view}
 use Rattle.spv_grammar.specs.Tree.{instruction_tree}
 use Rattle.spv_builtin.proofs.tree.instructions.Given as goal
 
-abbrev pub invariant-loop-entry : goal.invariant-loop-entry
-invariant-loop-entry l = map view l.found.items ≡ map (instruction_tree l.table) (take l.entry-index l.entries)
+abbrev pub invariant-loop-place : goal.invariant-loop-place
+invariant-loop-place l = map view l.found.items ≡ map (instruction_tree l.table) (take l.place l.entries)

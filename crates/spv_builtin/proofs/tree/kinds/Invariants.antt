@@ -3,5 +3,5 @@ use Rattle.serde_json.specs.View.{view}
 use Rattle.spv_grammar.specs.Tree.{kind_tree}
 use Rattle.spv_builtin.proofs.tree.kinds.Given as goal
 
-abbrev pub invariant-loop-sort : goal.invariant-loop-sort
-invariant-loop-sort l = map view l.found.items ≡ map (kind_tree l.table) (take l.sort-index l.sorts)
+abbrev pub invariant-loop-place : goal.invariant-loop-place
+invariant-loop-place l = map view l.found.items ≡ map (kind_tree l.table) (take l.place l.sorts)

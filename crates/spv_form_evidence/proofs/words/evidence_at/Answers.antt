@@ -31,7 +31,7 @@ unreachable-requires c =
     let w = c.word-head.type_inv in
     let l : c.word-head.result / 65536 < 65536 = omega arith in
     let m = rw c.in_default-2.is at (c.in_ok-operand.ensures d.0 d.3) in
-    not_matched c.args.scene.now.table.now d.0 c.args.scene.now.image.now c.args.at _ _ c.in-Some.entry.now m.0 d.1
+    not_matched c.args.scene.now.table.now d.0 c.args.scene.now.image.now c.args.at _ _ c.in-Some.entry m.0 d.1
     d.2 f h l c.in-Some.ensures m.1 d.4
 
 pub returns : goal.returns
@@ -40,5 +40,5 @@ returns c = λ b r n know dead.
     c.word-head.ensures c.len.ensures.words c.if-count-eq0.false c.if-count-len.false in
     let h : c.word-head.result % 65536 < 65536 = omega arith in
     let m = rw c.in-Some-2.is at (c.in_ok-operand.ensures b know) in
-    shown_failed c.args.scene.now.table.now b c.args.scene.now.image.now c.args.at _ _ c.in-Some.entry.now r n
+    shown_failed c.args.scene.now.table.now b c.args.scene.now.image.now c.args.at _ _ c.in-Some.entry r n
     c.in-Some-2.field-0 f h c.in-Some.ensures m dead

@@ -41,7 +41,7 @@ returns-in_err-read_operands-clause-dead c = λ b know.
     let n : c.word-head.result % 65536 < 65536 = omega arith in
     let r = err_from_is_err_and c.from_residual.result c.from_residual.ensures.1 in
     rw (r.1, r.2)
-    (dies_misfit c.args.scene.now.table.now b c.args.scene.now.image.now c.args.at _ _ c.in-Some.entry.now c.args.number
+    (dies_misfit c.args.scene.now.table.now b c.args.scene.now.image.now c.args.at _ _ c.in-Some.entry c.args.number
     _ f n c.in-Some.ensures (c.in_err-read_operands.ensures.misfit b know))
 
 pub returns-clause-read : goal.returns-clause-read
@@ -52,6 +52,6 @@ returns-clause-read c = λ b know.
     let w = c.word-head.type_inv in
     let l : c.word-head.result / 65536 < 65536 = omega arith in
     let n2 : c.len-first.result ≡ length c.args.operands.now.items = omega arith in
-    is_instruction c.args.scene.now.table.now b c.args.scene.now.image.now c.args.at _ _ c.in-Some.entry.now
+    is_instruction c.args.scene.now.table.now b c.args.scene.now.image.now c.args.at _ _ c.in-Some.entry
     (plain_operands (drop c.len-first.result c.read_operands.new.operands.items)) f n l c.in-Some.ensures
     (rw n2 (c.in_ok-read_operands.ensures.read b know))

@@ -13,10 +13,10 @@ use Rattle.spv_inst.proofs.pairs.pair_due.Goals as goal
 pub returns-in-Leaf-clause-due : goal.returns-in-Leaf-clause-due
 returns-in-Leaf-clause-due c =
     let G = c.args.scene.now.table.now in
-    let ks = c.as_slice.result.now in
+    let ks = c.bases.result.now in
     let p = c.in-Parts.paired in
-    let k = composed G c.in-Some-kind.ensures.whole c.in-Some.kind p c.in-Some-kind.composite.now ks
-    (c.in-Parts.ensures G c.requires.forms) c.in-Some-kind.ensures.kind c.as_slice.ensures in
+    let k = composed G c.in-Some-kind.ensures.whole c.in-Some.kind p c.in-Some-kind.composite ks
+    (c.in-Parts.ensures G c.requires.forms) c.in-Some-kind.ensures.kind c.bases.ensures in
     let least = c.in-len2.len_at_least in
     let most = c.in-len2.len_below in
     let e = two_of ks (omega (arith, least)) (omega (arith, most)) in

@@ -21,8 +21,8 @@ returns-in_err-result_id-clause-failed c =
     λ before written k.
     let G = c.args.setting.now.table.now in
     let n = c.in-Some-name_in.named in
-    let h = c.in_err-result_id.ensures (start before n.opcode) n.entry.now c.in-Some-name_in.ensures.named.0.known in
-    rw (q.1, q.2) (line_result_failed G before written c.args.line.now _ n.opcode n.entry.now _
+    let h = c.in_err-result_id.ensures (start before n.opcode) n.entry c.in-Some-name_in.ensures.named.0.known in
+    rw (q.1, q.2) (line_result_failed G before written c.args.line.now _ n.opcode n.entry _
     (sym c.in-Some.ensures) c.in-Some-name_in.ensures.named.0 h)
 
 pub fast_operands-requires-clause-broken : goal.fast_operands-requires-clause-broken
@@ -40,7 +40,7 @@ returns-in-Some-fast-clause-read c = λ before k.
     let a = rw c.in-Some-fast.is at (c.in_ok-fast.ensures.read before k) in
     let a' = rw c.in-Some-name_in.ensures.named.1 at a in
     let f = rw c.in-Some-fast.is at c.in_ok-fast.ensures.front in
-    line_read G before c.args.line.now _ _ n.opcode n.entry.now c.in-Some-fast.line.result c.in-Some-fast.line
+    line_read G before c.args.line.now _ _ n.opcode n.entry c.in-Some-fast.line.result c.in-Some-fast.line
     (sym c.in-Some.ensures) c.in-Some-name_in.ensures.named.0 f a'
 
 pub returns-in_err-line-clause-failed : goal.returns-in_err-line-clause-failed
@@ -49,16 +49,16 @@ returns-in_err-line-clause-failed c =
     λ before written k.
     let G = c.args.setting.now.table.now in
     let n = c.in-Some-name_in.named in
-    let h = c.in_ok-result_id.ensures (start before n.opcode) n.entry.now c.in-Some-name_in.ensures.named.0.known in
+    let h = c.in_ok-result_id.ensures (start before n.opcode) n.entry c.in-Some-name_in.ensures.named.0.known in
     let f = rw c.in-Some-name_in.ensures.named.1 at (c.in_err-line.ensures.failed before k) in
-    rw (q.1, q.2) (line_operands_failed G before written c.args.line.now _ n.opcode n.entry.now
+    rw (q.1, q.2) (line_operands_failed G before written c.args.line.now _ n.opcode n.entry
     c.in_ok-result_id.result_id _ (sym c.in-Some.ensures) c.in-Some-name_in.ensures.named.0 h f)
 
 pub returns-clause-read : goal.returns-clause-read
 returns-clause-read c = λ before k.
     let G = c.args.setting.now.table.now in
     let n = c.in-Some-name_in.named in
-    let h = c.in_ok-result_id.ensures (start before n.opcode) n.entry.now c.in-Some-name_in.ensures.named.0.known in
+    let h = c.in_ok-result_id.ensures (start before n.opcode) n.entry c.in-Some-name_in.ensures.named.0.known in
     let f = rw c.in-Some-name_in.ensures.named.1 at (c.in_ok-line.ensures.read before k) in
-    line_read G before c.args.line.now _ _ n.opcode n.entry.now c.in_ok-result_id.result_id c.in_ok-line.line
+    line_read G before c.args.line.now _ _ n.opcode n.entry c.in_ok-result_id.result_id c.in_ok-line.line
     (sym c.in-Some.ensures) c.in-Some-name_in.ensures.named.0 (result_text _ _ h.0) f

@@ -27,9 +27,9 @@ returns-in_ok-outcome-in-Ok c = λ before written k.
     let G = c.args.setting.now.table.now in
     let n = c.in-Some-look_up.named in
     let i = rw c.split_token-2.ensures.token at c.in-Some-look_up.ensures in
-    let h = c.in-Ok.ensures (start before n.opcode) n.entry.now i.known in
+    let h = c.in-Ok.ensures (start before n.opcode) n.entry i.known in
     let f = rw c.split_token-2.ensures.rest at (c.in_ok-outcome-in-Ok.ensures before k) in
-    outcome_of G before written c.args.line.now _ _ n.opcode n.entry.now c.in-Ok.result_id _
+    outcome_of G before written c.args.line.now _ _ n.opcode n.entry c.in-Ok.result_id _
     (sym c.in-Some.ensures) i h f
 
 pub returns-in-Err : goal.returns-in-Err
@@ -37,6 +37,6 @@ returns-in-Err c = λ before written k.
     let G = c.args.setting.now.table.now in
     let n = c.in-Some-look_up.named in
     let i = rw c.split_token-2.ensures.token at c.in-Some-look_up.ensures in
-    let h = c.in-Err.ensures (start before n.opcode) n.entry.now i.known in
-    rw c.stopped-in-Err.ensures (line_result_stops G before written c.args.line.now _ n.opcode n.entry.now
+    let h = c.in-Err.ensures (start before n.opcode) n.entry i.known in
+    rw c.stopped-in-Err.ensures (line_result_stops G before written c.args.line.now _ n.opcode n.entry
     c.in-Err.lack.code c.in-Err.lack.wanted (sym c.in-Some.ensures) i h)

@@ -23,12 +23,12 @@ returns c =
       some = omega (arith, c.if-count-eq0.false);
       within = omega (arith, c.if-count-len.false, c.len.ensures.words, c.requires.fits);
       read = λ before k. is_instruction G before words c.args.at (head / 65536)
-          (head % 65536) c.in-Some.entry.now w.operands f n l e (w.matches before (head % 65536) k);
+          (head % 65536) c.in-Some.entry w.operands f n l e (w.matches before (head % 65536) k);
       text = λ before further line k s.
           c.in_ok-push_str.ensures.bytes
           ∙ ap (λ z. string_bytes c.args.out.now ++ z)
           (c.in-Some-whole_line.ensures G _ before i further line k li (sym e)
-          (c.has.ensures G c.requires.ready.names c.if-not-has.false c.in-Some.entry.now (sym e)) s);
+          (c.has.ensures G c.requires.ready.names c.if-not-has.false c.in-Some.entry (sym e)) s);
       told = record {
         opcode = refl;
         result = li.result;

@@ -21,7 +21,7 @@ from_utf8_unchecked-requires c =
     let t = rw c.as_bytes.ensures.value at c.put_octets-at.ensures.text in
     rw (r, c.put_result-start.ensures.text, t)
     (IsUtf8-append _ _ c.put_result-start.ensures.utf8
-    (IsUtf8-append _ _ c.as_str-name.utf8 (ended_utf8 d c.args.buffer.now c.requires h)))
+    (IsUtf8-append _ _ c.name-name.utf8 (ended_utf8 d c.args.buffer.now c.requires h)))
 
 pub returns : goal.returns
 returns c = λ G q before i further line y l k s w.
@@ -37,9 +37,9 @@ returns c = λ G q before i further line y l k s w.
     let r = rest_of c.put_result-start.new.buffer c.put_result-start.result (length c.put_result-start.new.buffer) refl
     (omega arith) in
     let t = rw c.as_bytes.ensures.value at c.put_octets-at.ensures.text in
-    let n = c.as_str-name.result.now in
+    let n = c.name-name.result.now in
     let e = r ∙ (c.put_result-start.ensures.text
     ∙ ap (λ z. shown_result d.result ++ z)
     (t ∙ ap (λ z. n ++ z) (characters_ended d c.args.buffer.now c.requires h))) in
     c.from_utf8_unchecked.ensures ∙ line_whole G before i further line n _ c.args.entry.now q d c.args.buffer.now y w l
-    k s c.as_str-name.ensures e
+    k s c.name-name.ensures e

@@ -16,7 +16,7 @@ returns c =
           c.in_ok-push_str.ensures.bytes
           ∙ ap (λ z. string_bytes c.args.out.now ++ z)
           (c.in-Some-whole_line.ensures G _ before i further line k li (sym e)
-          (c.has.ensures G c.requires.ready.names c.if-not-has.false c.in-Some.entry.now (sym e)) s);
+          (c.has.ensures G c.requires.ready.names c.if-not-has.false c.in-Some.entry (sym e)) s);
       result = li.result;
       type_id = li.type_id;
       width = other_width i c.if-opcode-eq-TYPE_INT.false c.if-opcode-eq-TYPE_FLOAT.false;

@@ -19,6 +19,6 @@ pub returns : goal.returns
 returns c =
     let es = enumerants_of (kind_of c.args.table.now c.args.kind) in
     let some = c.in-Some.ensures ∙ enumerant_in (kind_of c.args.table.now c.args.kind) c.args.capability in
-    let names : c.in-Some.enumerant.now.capabilities ≡ names_of (enumerant_of es c.args.capability) = ap names_of some in
+    let names : c.in-Some.enumerant.capabilities ≡ names_of (enumerant_of es c.args.capability) = ap names_of some in
     let P : List (List ℕ) → Type 0 = λ found. OnOk c.add_named.result (AddsAll (filter_map (value_named es) found) c.args.self.now c.add_named.new.self) in
-    subst P names c.add_named.ensures
+    subst P names (rw c.capabilities.ensures at c.add_named.ensures)

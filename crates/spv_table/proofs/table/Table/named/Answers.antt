@@ -1,5 +1,4 @@
-use Rattle.std.proofs.Common.{◌≡◌, ℕ, Some, option_map, slice_get, length, refl, sym, ap, ◌∙◌}
-use Rattle.std.proofs.lemmas.Option.{slice_get_read}
+use Rattle.std.proofs.Common.{◌≡◌, ℕ, option_map, sym, ap, ◌∙◌}
 use Rattle.std.specs.Str.{bytes_eq}
 use Rattle.spv_table.specs.declared.table.Entry.{Entry}
 use Rattle.spv_table.specs.Table.{Table}
@@ -10,15 +9,17 @@ use Rattle.spv_table.proofs.table.Table.named.Goals as goal
 pub returns-in_err-place : goal.returns-in_err-place
 returns-in_err-place c =
     let q = c.args.name.now in
-    let found = found_at (λ (e : ℕ × Entry). bytes_eq q e.1.name) c.as_slice.result.now _ c.in_err-place.ensures in
-    rw c.from_residual.ensures (sym (ap (option_map (λ (e : ℕ × Entry). e.0)) found) ∙ ap (λ es. opcode_named es q) (c.as_slice.ensures.value ∙ ap (λ (t : Table). t.entries) c.self.view_is))
+    let found = found_at (λ (e : ℕ × Entry). bytes_eq q e.1.name) c.self.inside.entries _ c.in_err-place.ensures in
+    rw c.from_residual.ensures (sym (ap (option_map (λ (e : ℕ × Entry). e.0)) found) ∙ ap (λ (t : Table). opcode_named t.entries q) c.self.view_is)
 
 pub returns-in-Some : goal.returns-in-Some
 returns-in-Some c =
     let q = c.args.name.now in
-    let found = found_at (λ (e : ℕ × Entry). bytes_eq q e.1.name) c.as_slice.result.now _ c.in_ok-place.ensures in
-    let at : slice_get c.as_slice.result.now c.in_ok-place.place ≡ Some c.in-Some.field-0.now = ap (λ es. slice_get es c.in_ok-place.place) (c.as_slice.ensures.value ∙ sym c.deref.ensures.value) ∙ slice_get_read c.deref.result.now (length c.deref.result.now) c.in_ok-place.place _ refl c.in-Some.ensures.lookup.3.0 c.in-Some.ensures.lookup.1 in
-    sym (ap (option_map (λ (e : ℕ × Entry). e.0)) (found ∙ at)) ∙ ap (λ es. opcode_named es q) (c.as_slice.ensures.value ∙ ap (λ (t : Table). t.entries) c.self.view_is)
+    let found = found_at (λ (e : ℕ × Entry). bytes_eq q e.1.name) c.self.inside.entries _ c.in_ok-place.ensures in
+    sym (ap (option_map (λ (e : ℕ × Entry). e.0)) (found ∙ sym c.in-Some.ensures)) ∙ ap (λ (t : Table). opcode_named t.entries q) c.self.view_is
 
-pub place-requires : goal.place-requires
-place-requires c = rw c.as_slice.ensures.value c.self.invariant.2
+pub returns-in-None : goal.returns-in-None
+returns-in-None c =
+    let q = c.args.name.now in
+    let found = found_at (λ (e : ℕ × Entry). bytes_eq q e.1.name) c.self.inside.entries _ c.in_ok-place.ensures in
+    sym (ap (option_map (λ (e : ℕ × Entry). e.0)) (found ∙ sym c.in-None.ensures)) ∙ ap (λ (t : Table). opcode_named t.entries q) c.self.view_is
