@@ -95,6 +95,7 @@ typedef enum spvk_code {
     SPVK_Y1 = 501, SPVK_Y2 = 502, SPVK_Y3 = 503, SPVK_Y4 = 504,
     SPVK_Y5 = 505, SPVK_Y6 = 506, SPVK_Y7 = 507, SPVK_Y8 = 508,
     SPVK_Y9 = 509, /* with SPVK_EXTENDED or SPVK_OPENCL alone */
+    SPVK_Y10 = 510, /* with SPVK_OPENCL alone */
     SPVK_C1 = 601, SPVK_C2 = 602,
     SPVK_M1 = 701,
     SPVK_E1 = 801, SPVK_E2 = 802,

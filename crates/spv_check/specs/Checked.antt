@@ -7,6 +7,7 @@ use Rattle.spv_module.specs.declared.fault.Rule.{Rule}
 use Rattle.spv_module.specs.declared.module.Module.{Module}
 use Rattle.spv_extended.specs.declared.reach.Reach.{Reach}
 use Rattle.spv_extended.specs.Broken as extended_rules
+use Rattle.spv_std_types.specs.Broken as std_rules
 use Rattle.spv_extended.specs.Reach.{profile_of}
 use Rattle.spv_layout.specs.First.{IsUnbroken}
 use Rattle.spv_layout.specs.Place.{IsShort}
@@ -51,6 +52,8 @@ pub record IsKept (G : Table) (reach : Reach) (p : Program) : Type 0 where
   pub calls : IsUnbroken (call_rules.Broken p.insts) of_calls
   -- Y9
   pub extended : (r : Rule) (n : ℕ) → ¬ (extended_rules.Broken reach p.insts r n)
+  -- Y10
+  pub std_types : (r : Rule) (n : ℕ) → ¬ (std_rules.Broken reach p.insts r n)
 
 -- The module is that one, and the places, ids and flow are its own.
 pub record AreParts (G : Table) (reach : Reach) (p : Program) (m : Module) (places : List Place) (ids : Ids)

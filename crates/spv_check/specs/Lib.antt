@@ -15,4 +15,5 @@ pub mod Verdict
 pub mod types
 pub mod flow
 pub mod extended
+pub mod std_types
 pub mod inner

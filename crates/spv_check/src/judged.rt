@@ -9,6 +9,7 @@ use crate::checked::Checked;
 use crate::extended::extended_check;
 use crate::flow::flow_check;
 use crate::fork::fork_of;
+use crate::std_types::std_types_check;
 use crate::types::type_check;
 use spv_extended::{Reach, profile_of};
 use spv_ids::{Ids, number};
@@ -47,6 +48,8 @@ pub enum Reached {
     Typed(Plan, Ids),
     /// It breaks no rule of the profile, and Y9 was asked.
     Sound,
+    /// It breaks no rule up to Y9, and Y10 was asked.
+    Called(Plan, Ids),
 }
 
 /// What the refusal of a stage comes to.
@@ -66,7 +69,8 @@ fn refused<'a>(stop: Stop, module: Module<'a>, reached: Reached) -> Result<Judge
 /// Looks for the first rule that a module breaks, stage by stage: the shapes and the layout, the ids, their roles, then
 /// capabilities, entry points and types, where branches lead, values on every walk, and cycles of calls (own). Where
 /// one is broken, the module comes back with what the stages before made. `reach` is how far the module is looked at,
-/// as `read` answered it; where its extended instructions are looked at, what they take is asked last (Y9).
+/// as `read` answered it; where its extended instructions are looked at, what they take is asked after that (Y9), and of a
+/// kernel of OpenCL at last the types of its calls of OpenCL.std (Y10).
 ///
 /// `Memory` comes only where a growth of memory was refused.
 pub fn judge<'a>(
@@ -97,8 +101,11 @@ pub fn judge<'a>(
         Ok(flow) => flow,
         Err(stop) => return refused(stop, module, Reached::Typed(plan, ids)),
     };
-    match extended_check(alloc, reach, &module, &plan) {
+    if let Err(stop) = extended_check(alloc, reach, &module, &plan) {
+        return refused(stop, module, Reached::Sound);
+    }
+    match std_types_check(reach, &module, &plan, &ids) {
         Ok(()) => Ok(Judged::Valid(Checked::new(module, plan, ids, flow))),
-        Err(stop) => refused(stop, module, Reached::Sound),
+        Err(stop) => refused(stop, module, Reached::Called(plan, ids)),
     }
 }

@@ -26,8 +26,10 @@ use spv_ids::Ids;
 use spv_layout::Plan;
 use spv_module::{Fault, Module};
 use spv_operation_evidence::operation_evidence;
+use spv_std_types::{mistyping_at, operand_of};
 use spv_table::{Memory, Table};
 use spv_type_evidence::type_evidence;
+use spv_type_forms::Definitions;
 use std::alloc::Global;
 
 /// What shows that a rule on roles, capabilities, entry points or types is broken at an instruction.
@@ -84,6 +86,16 @@ fn flow_evidence(
     Ok(branch_evidence(alloc, module, plan, ids, fault.rule, fault.inst)?)
 }
 
+/// What shows that Y10 is broken at an instruction: the operand that fails.
+fn std_evidence(module: &Module<'_>, plan: &Plan, ids: &Ids, fault: Fault) -> Evidence {
+    let definitions = Definitions::new(module.insts.as_slice(), plan, ids);
+    let operand = match mistyping_at(&definitions, fault.inst) {
+        Some(condition) => operand_of(condition),
+        None => 0,
+    };
+    Evidence::Operand { operand }
+}
+
 /// What shows that a fault's rule is broken at its instruction, of a module that is looked at as far as `reach` says.
 /// `reached` is how far `judge` came with the module, and the instruction at which the fault is told is looked at
 /// again, by the stage that found it.
@@ -115,5 +127,6 @@ pub fn evidence_of(
         Reached::Numbered(plan, ids) => typing_evidence(alloc, table, module, plan, ids, fault),
         Reached::Typed(plan, ids) => flow_evidence(alloc, module, plan, ids, fault),
         Reached::Sound => Ok(extended_evidence(alloc, module, fault.inst)?),
+        Reached::Called(plan, ids) => Ok(std_evidence(module, plan, ids, fault)),
     }
 }

@@ -40,3 +40,7 @@ of_calls = 8
 -- what extended instructions take: Y9
 abbrev pub of_extended : ℕ
 of_extended = 9
+
+-- which types instructions of OpenCL.std take and return: Y10
+abbrev pub of_std_types : ℕ
+of_std_types = 10

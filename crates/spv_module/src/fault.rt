@@ -90,6 +90,9 @@ pub enum Rule {
     /// An extended instruction that its set does not have, or with fewer or more operands than it takes. It is asked
     /// only where a module is looked at with its extended instructions.
     Y9,
+    /// The types that an instruction of OpenCL.std takes or returns. It is asked only where a module is looked at as a
+    /// kernel of OpenCL.
+    Y10,
 }
 
 /// The first broken rule of a module, and where.

@@ -453,6 +453,14 @@ pub static TYPE_ROWS: &[Row] = &[
         "OpExtInst of a set that OpExtInstImport names OpenCL.std: the set has no instruction with its number, or one \
         that takes fewer or more operands; checked only with --extended (own)"
     ),
+    rule!(
+        Y10,
+        510,
+        "OpExtInst with the set OpenCL.std has the types and the numbers that its instruction asks.",
+        "OpenCL Extended Instruction Set",
+        "OpExtInst of a set that OpExtInstImport names OpenCL.std: its result type, the type of an operand or a number \
+        among the operands is not what the instruction of that number asks; checked only with --opencl (own)"
+    ),
 ];
 
 /// The rows of the codes on words.

@@ -1,0 +1,5 @@
+pub mod Listing
+pub mod Importing
+pub mod Calling
+pub mod Telling
+pub mod Worked

@@ -1,0 +1,16 @@
+//! The types of the instructions of the set OpenCL.std (OpenCL Extended Instruction Set Specification 1.00): what each
+//! asks of its result type and of its operands (Y10).
+#![tactic(auto)]
+
+mod asked;
+mod condition;
+mod decide;
+mod first;
+pub mod laws;
+mod mistyped;
+mod table;
+
+pub use asked::asks_types;
+pub use condition::{Among, Classes, Condition, Number, Relation, Subject, Wanted, operand_of};
+pub use mistyped::{first_mistyped, mistyping_at};
+pub use table::conditions_of;
