@@ -19,8 +19,8 @@
  * What a valid module may still hold. No rule of the profile looks at the operands of OpExtInst after its number: there
  * a valid module may name ids that are over the bound or defined nowhere. With the flag SPVK_EXTENDED these ids are
  * looked at, and what is asked of them is said there. A loader that follows them sets it, or tests them itself; and so
- * does SPVK_OPENCL, for what compilers make of OpenCL C. A check says nothing of what the module computes, nor of the
- * types that extended instructions take.
+ * does SPVK_OPENCL, for what compilers make of OpenCL C, which looks at the types of OpenCL.std too. A check says nothing
+ * of what the module computes, nor of the types that instructions of other sets take.
  *
  * Memory. All of it comes from malloc, realloc and free, which must be one allocator. No call keeps a pointer that
  * it is given after it has returned. Nothing is kept between calls but what grammars and buffers hold.
@@ -125,14 +125,17 @@ typedef enum spvk_text_code {
  *  SPVK_D5, SPVK_Y1 or SPVK_A1 where any other use of it would; and SPVK_Y9 is broken where that set has no instruction
  *  of that number, or has one that takes fewer or more operands. Of any other set, as of debug information, each id is
  *  below the bound and defined (SPVK_D1, SPVK_D3), and nothing else is asked, not even whether the set has the
- *  instruction. No type is looked at. Loaders that follow the ids of extended instructions should set it. */
+ *  instruction. No type is looked at without SPVK_OPENCL. Loaders that follow the ids of extended instructions should
+ *  set it. */
 #define SPVK_EXTENDED UINT32_C(2)
 
 /** A flag of the calls `.._with`: the module is taken for what a kernel of OpenCL can be, of version 1.0 to 1.6. Beside
  *  the instructions of the profile there are more, as those of images, events, pipes and groups, and OpExtInst may stand
  *  outside blocks, as debug information does (docs/PROFILE.md, "OpenCL"); extended instructions are looked at as with
- *  SPVK_EXTENDED, which may be set beside it and then changes nothing. A module of any other version still breaks W5. The
- *  rules are those of 1.6; SPVK_F4 is asked of a module of version 1.6 alone. It does not go with SPVK_AS_1_6. */
+ *  SPVK_EXTENDED, which may be set beside it and then changes nothing; and SPVK_Y10 is broken where an instruction of
+ *  `OpenCL.std` has a result type, an operand of a type or a number among its operands that it does not take. A module of
+ *  any other version still breaks W5. The rules are those of 1.6; SPVK_F4 is asked of a module of version 1.6 alone. It
+ *  does not go with SPVK_AS_1_6. */
 #define SPVK_OPENCL UINT32_C(4)
 
 /** Stands for no instruction and no word: in the verdict on a valid module, and in one of W2 to W8. */

@@ -32,7 +32,7 @@ PROMISES = (
         (("spv_run", "tracing.rt", "trace"),),
     ),
     (
-        "What is refused by the profile is refused with --extended, and what is valid with it is a kernel of OpenCL",
+        "What is refused by the profile is refused with --extended, and what is valid with it is a kernel of OpenCL, if it keeps Y10",
         "The laws `refused_too` and `wider_too` of spv_verdict.",
         (("spv_verdict", "laws.rt", "refused_too"), ("spv_verdict", "laws.rt", "wider_too")),
     ),
@@ -188,7 +188,7 @@ What is proved is no more than what the contracts of the calls say, and these ar
 How to read. By rule: begin with the rule's definition in the table below, and go on to what it names, which its file has or its `use` lines bring in (`as` renames). Or in the order of the list: first what a contract names, then what that is made of; for the rules Y begin with Form, Types, Parts and Values of spv_type_forms. Names stand for what their file says or imports: `Form`, `Shape`, `Row`, `Entry`, `Sort`, `Keeps`, `Broken`, `rows`, `row_of`, `row_in`, `class_in`, `constant_of`, `value_in`, `values_of`, `is_number` and `place_of` are said in several crates, of each crate's own things.
 
 - A path with `declared` in it is a type of the code: `Rattle.C.specs.declared.M.T` is `T` of `C/src/M.rt`, a struct with its fields or an enum with its variants (`T.TheVariants`). `tag_of the_type x` is the place of x among the variants, from 0, in the order in which the code declares them (`the_type` comes by the same path with `contracts` for `declared`). Three orders count: {orders}.
-- `opcode.NAME`, or NAME alone, is an opcode of spv_module/src/opcode.rt, by its name in the standard without `Op`; the two tables of the code are written in them too: {opcodes}.
+- `opcode.NAME`, or NAME alone, is an opcode of spv_module/src/opcode.rt, by its name in the standard without `Op`; the first two tables of the code are written in them too: {opcodes}.
 
 The words of the language, and those of the toolchain's library that stand in these definitions:
 
@@ -240,13 +240,13 @@ VALID = ("Rattle.spv_check.specs.Valid", "IsValid")
 BY_VALID = """What a valid module is, `IsValid` alone: {count}.
 """
 
-TABLES_HEAD = """Two tables are not said again in definitions: `rows` of spv_layout/specs/Rows and `lines` of spv_ops/specs/Table name the tables of the code, which stand there a row a line, in words and letters that the macros above them turn into values. These rows are to be read too, as definitions are; they are not among the lines that are counted here. Nor are the lists of what extended instructions take, which `facts_of` of spv_extended/specs/Facts names: how their numbers are read stands above them, and `tests/extended` compares them with Khronos' files:"""
+TABLES_HEAD = """Three tables are not said again in definitions: `rows` of spv_layout/specs/Rows, `lines` of spv_ops/specs/Table and `lines` of spv_std_types/specs/Table name the tables of the code, which stand there a row a line, in words and letters that the macros above them turn into values. These rows are to be read too, as definitions are; they are not among the lines that are counted here. Nor are the lists of what extended instructions take, which `facts_of` of spv_extended/specs/Facts names: how their numbers are read stands above them, and `tests/extended` compares them with Khronos' files:"""
 
 CONSTANTS_HEAD = """## Constants of the code
 
 Besides opcodes and the tables that are named above, definitions name these constants of the code. They are to be read where they stand:"""
 
-BY_RULE = """`check` takes the words of an image, which begin with a good header, and answers `IsAnswer` of them: the checked module (`IsChecked`) or its fault (`IsFault`). It answers the former exactly where the bytes of those words are a valid module (`IsValid`): they begin with a good header (`IsModule`: the rules W), the words behind it spell a list of instructions (`IsListing`: I), and the list breaks no other rule (`IsSound`: P to G). With `--extended` the list is looked at with the operands of extended instructions (`looked_at`), and must not break Y9 either; as a kernel of OpenCL too, whose rows and places are more (`profile_of`), and of which F4 is asked in version 1.6 alone (`fork_of`). Whoever reads for the profile may pass over what is said of OpenCL: where P1 is broken nowhere each instruction has a row of the profile, and where the layout is not either each OpExtInst stands in a block (proved, `own_profile` of spv_layout). So of the table of shapes the rows marked `opencl` never count for the profile, nor do the cases of their opcodes in the definitions of types, constants and operations. `check_stream` writes the line of the verdict on the bytes that it reads (`IsVerdict`). That words have one verdict, and bytes one line, is proved beside them (`one_answer`, `one_verdict` and `one_first` of spv_check). Which table a grammar file gives is said in a part of its own below, and in prose in PROFILE.md. [RULES.md](RULES.md) has a line for each code, with the code that answers it, its evidence and a case.
+BY_RULE = """`check` takes the words of an image, which begin with a good header, and answers `IsAnswer` of them: the checked module (`IsChecked`) or its fault (`IsFault`). It answers the former exactly where the bytes of those words are a valid module (`IsValid`): they begin with a good header (`IsModule`: the rules W), the words behind it spell a list of instructions (`IsListing`: I), and the list breaks no other rule (`IsSound`: P to G). With `--extended` the list is looked at with the operands of extended instructions (`looked_at`), and must not break Y9 either; as a kernel of OpenCL too, whose rows and places are more (`profile_of`), which must not break Y10 either (`asks_types`), and of which F4 is asked in version 1.6 alone (`fork_of`). Whoever reads for the profile may pass over what is said of OpenCL: where P1 is broken nowhere each instruction has a row of the profile, and where the layout is not either each OpExtInst stands in a block (proved, `own_profile` of spv_layout). So of the table of shapes the rows marked `opencl` never count for the profile, nor do the cases of their opcodes in the definitions of types, constants and operations. `check_stream` writes the line of the verdict on the bytes that it reads (`IsVerdict`). That words have one verdict, and bytes one line, is proved beside them (`one_answer`, `one_verdict` and `one_first` of spv_check). Which table a grammar file gives is said in a part of its own below, and in prose in PROFILE.md. [RULES.md](RULES.md) has a line for each code, with the code that answers it, its evidence and a case.
 
 The rules, and the definitions that say what is kept, or (broken) where a rule is broken:
 
@@ -350,6 +350,12 @@ RULES = (
     ("A2", "values of phis on every walk", [], [(READY, "IsPairMissing")]),
     ("G1", "cycles of calls", [], [("spv_flow/specs/calls/Broken.antt", "Broken")]),
     ("Y9", "calls of extended instructions", [], [("spv_extended/specs/Miscalled.antt", "IsMiscalled")]),
+    (
+        "Y10",
+        "the types of OpenCL.std",
+        [("spv_std_types/specs/Condition.antt", "Holds"), ("spv_std_types/specs/Table.antt", "conditions_of")],
+        [("spv_std_types/specs/Mistyped.antt", "IsMistyped")],
+    ),
 )
 
 
@@ -357,6 +363,7 @@ RULES = (
 TABLES = (
     ("spv_layout", "rows.rt", "the table of shapes (P1, L1, L2, Y1)", r"\$what! \{\n(.*?)\n *\}"),
     ("spv_ops", "table.rt", "the table of types (Y5)", r"\$what! \{\n(.*?)\n {8}\}\n"),
+    ("spv_std_types", "table.rt", "the table of OpenCL.std (Y10)", r"\$what! \{\n(.*?)\n {8}\}\n"),
 )
 
 # The lists of the code that definitions name: the crate, the file of its src/, and what they are.
@@ -619,7 +626,7 @@ def tables():
         found = re.search(pattern, path.read_text(encoding="utf-8"), re.S)
         if not found:
             raise NotFound(f"{crate}/src/{file} has no table")
-        rows = re.findall(r"(?m)^ +[A-Z]\w+.*?:", found[1])
+        rows = re.findall(r"(?m)^ +(?:[A-Z]\w+.*?:|\d[^:/]*:)", found[1])
         yield f"- `TABLE` of {crate}/src/{file}, {about}: {len(rows)} rows"
     crate, file, about = LISTS
     text = (CRATES / crate / "src" / file).read_text(encoding="utf-8")

@@ -6,6 +6,7 @@ from functools import cached_property
 from .decode import Broken, instructions, words_of
 from .extended import check_miscalls, opened
 from .flow import bodies, check_flow
+from .opencl_std import check_types_of_calls
 from .order import SHAPE_OF, Places, check_ids, check_layout, check_shapes, uses_by
 from .profiles import Profile
 from .text import Text, visible
@@ -64,6 +65,8 @@ class Facts:
         check_flow(self.insts, local, self.words[1])
         if self.profile >= Profile.EXTENDED:
             check_miscalls(self.insts)
+        if self.profile >= Profile.OPENCL:
+            check_types_of_calls(self.types)
 
     def decoded(self):
         """The instructions. Where one is refused those before it are kept."""

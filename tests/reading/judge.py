@@ -7,7 +7,7 @@ short), any of them will do.
 import re
 from collections import deque
 
-from . import conditions, extended, objects, owners
+from . import conditions, extended, objects, opencl_std, owners
 from .facts import FUNCTION, FUNCTION_END, LABEL, Facts, open_at
 from .flow import CALL, TOLD, ToldOfTargets
 from .forms import UNLIKE, VECTOR, VOID
@@ -41,7 +41,7 @@ FORMS = {
     "Y6": f"{PLACE}(place|parameter);(type;)?wanted;found;",
     "Y7": f"{PLACE}place;wanted;found;",
     "Y8": f"{PLACE}(place|argument);(type;)?wanted;found;",
-    **{codes: f"{PLACE}{form}" for codes, form in {**TOLD, **extended.TOLD}.items()},
+    **{codes: f"{PLACE}{form}" for codes, form in {**TOLD, **extended.TOLD, **opencl_std.TOLD}.items()},
     "A1 A2": f"{PLACE}operand;defined;walk;",
     "G1": f"{PLACE}calls;cycle;",
 }
@@ -69,7 +69,7 @@ def length(start, goal, following):
     return None
 
 
-class Judge(ToldOfTargets, extended.ToldOfCalls):
+class Judge(ToldOfTargets, extended.ToldOfCalls, opencl_std.ToldOfTypes):
     """The lines of one fault, in full or not. A method of the name of a key says whether a line with that key is
     true."""
 

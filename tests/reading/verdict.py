@@ -5,6 +5,7 @@ import json
 from .decode import Broken, Grammar, instructions, words_of
 from .extended import check_miscalls, opened
 from .flow import check_flow
+from .opencl_std import check_types_of_calls
 from .order import check_ids, check_layout, check_shapes
 from .profiles import Profile
 from .types import check_types
@@ -25,12 +26,13 @@ def verdict(grammar, content, has_types=True, has_flow=True, profile=Profile.OWN
         check_shapes(insts, profile)
         check_layout(insts, profile)
         definitions, places, local = check_ids(insts, words[3])
-        if has_types:
-            check_types(grammar, insts, definitions, places)
+        types = check_types(grammar, insts, definitions, places) if has_types else None
         if has_flow:
             check_flow(insts, local, words[1])
         if profile >= Profile.EXTENDED:
             check_miscalls(insts)
+        if profile >= Profile.OPENCL and types:
+            check_types_of_calls(types)
     except Broken as broken:
         return broken.line
     return "valid"
