@@ -13,7 +13,7 @@ turns-init c =
     let scene = c.args.scene.now in
     let G = scene.table.now in
     let e = c.new-operands.ensures.items in
-    let due = c.start.ensures G in
+    let due = rw c.operands.ensures at (c.start.ensures G) in
     record {
       from = omega arith;
       upto = c.requires.order;
