@@ -134,8 +134,9 @@ pub fn explained_of<'a>(
             module,
             reached,
         } => {
-            let (evidence, module) =
-                shown_and_spelled(alloc, table, reach, image, module, &reached, fault)?;
+            let (evidence, module) = shown_and_spelled(
+                alloc, table, reach, image, module, &reached, fault,
+            )?;
             Ok(Explained::Broken {
                 fault,
                 evidence,
