@@ -25,6 +25,7 @@ use crate::numbers::Numbers;
 use crate::outline::{function_in, is_in_asked, write_beginnings};
 use crate::page_pen::{ContentsPen, PagePen};
 use crate::style::{END, HEAD, LIST, MIDDLE, STYLE, TITLED};
+use crate::text::room_for;
 use crate::uses::Uses;
 use crate::walk::walk_of;
 use crate::writer::{first_line, write_text};
@@ -34,6 +35,9 @@ use spv_module::{Inst, Module};
 use spv_printer::show_listed;
 use spv_table::Table;
 use std::alloc::{AllocError, Global};
+
+/// For how many bytes of an instruction's line and comment room is made at first: most have fewer.
+const LINE_ROOM: usize = 160;
 
 /// Adds what stands before the list of contents, `told` below the title.
 fn push_front(out: &mut String, title: &str, told: &str) -> Result<(), AllocError>
@@ -90,13 +94,13 @@ fn notice_of(
     Ok(out)
 }
 
-/// The page up to the list of contents, `told` below the title.
-fn page_front(alloc: Global, title: &str, told: &str) -> Result<String, AllocError>
+/// The page up to the list of contents, `told` below the title, and room for so many bytes.
+fn page_front(alloc: Global, room: usize, title: &str, told: &str) -> Result<String, AllocError>
     ensures { IfOk result (λ t. string_bytes t ≡ specs.page_front title.now told.now) }
 {
     let mut plain = String::new(alloc);
     push_plain(&mut plain, title)?;
-    let mut out = String::new(alloc);
+    let mut out = String::with_capacity(alloc, room)?;
     push_front(&mut out, plain.as_str(), told)?;
     Ok(out)
 }
@@ -136,7 +140,8 @@ fn page_contents(
         ++ flat_map (contents_of (scene look.entry)) (beginnings (map plain_inst look.entry.insts.now) function)) }
 {
     let told = notice_of(look, finding, function)?;
-    let out = page_front(look.alloc, title, told.as_str())?;
+    let room = room_for(look.insts.len(), function, LINE_ROOM);
+    let out = page_front(look.alloc, room, title, told.as_str())?;
     let mut pen = ContentsPen { out, look };
     write_beginnings(&mut pen, look.insts, function)?;
     let ContentsPen { out, .. } = pen;

@@ -15,6 +15,17 @@ use spv_module::Module;
 use spv_table::Table;
 use std::alloc::{AllocError, Global};
 
+/// For how many bytes of an instruction's line and comment room is made at first: most have fewer.
+const LINE_ROOM: usize = 80;
+
+/// How many bytes room is made for at first: so many for each instruction, or none where a function is asked for.
+pub fn room_for(insts: usize, function: Option<u32>, each: usize) -> usize {
+    match function {
+        None => insts.saturating_mul(each),
+        Some(_) => 0,
+    }
+}
+
 /// The text for reading of a module that words spell, in colours of a terminal or without: what `annotate_with` writes
 /// by a `TextPen`.
 ///
@@ -34,8 +45,9 @@ pub fn annotate(
     ensures { IfOk result (λ t. (S : Subject) × IsSubject table.now reach «module».now finding.entry function S
         × (string_bytes t ≡ flat_map (text_of color) (document S))) }
 {
+    let room = room_for(module.insts.len(), function, LINE_ROOM);
     let mut pen = TextPen {
-        out: String::new(alloc),
+        out: String::with_capacity(alloc, room)?,
         color,
     };
     annotate_with(alloc, table, module, reach, finding, function, &mut pen)?;

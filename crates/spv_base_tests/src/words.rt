@@ -171,7 +171,8 @@ fn is_read(alloc: Global, bytes: &[u8], words: u32) -> Result<bool, Fail> {
     let mut writer = FromWrite::new(Shelf::new(Vec::new(alloc), 4096, Failures::none()));
     write_image(&image, Order::Big, &mut writer)?;
     let (again, order) = image_of(alloc, &writer.inner.kept)?;
-    Ok(image.len() == words && order == Order::Big && again.octets() == bytes)
+    let is_same = image.len() == words && order == Order::Big && again.octets() == bytes;
+    Ok(is_same && again.into_octets(Order::Big).as_slice() == writer.inner.kept.as_slice())
 }
 
 /// 16,777,216 bytes in pieces of 4,096 take 4,096 calls, and the last read finds the end: 40 calls fail.

@@ -8,6 +8,7 @@ use Rattle.spv_module.specs.Operand.{PlainInst}
 use Rattle.spv_extended.specs.declared.reach.Reach.{Reach}
 use Rattle.spv_extended.specs.Broken as extended_rules
 use Rattle.spv_extended.specs.Reach.{profile_of}
+use Rattle.spv_std_types.specs.Broken as std_rules
 use Rattle.spv_inst.specs.Outcome.{IsDecodeFault, IsHeaderOf}
 use Rattle.spv_module.specs.Module.{plain_insts}
 use Rattle.spv_module.specs.declared.fault.Stop.{Stop}
@@ -35,7 +36,7 @@ use Rattle.spv_type_rules.specs.Keeps as typing_rules
 use Rattle.spv_check.specs.flow.Outcome.{IsFlow}
 use Rattle.std.specs.Prelude.{Some, slice_get}
 use Rattle.spv_check.specs.Fork.{fork_of}
-use Rattle.spv_check.proofs.Firsts.{IsAllButLast, sound}
+use Rattle.spv_check.proofs.Firsts.{IsUpToCalls, sound}
 use Rattle.spv_module.specs.declared.fault.Fault as fault
 use Rattle.spv_check.specs.Verdict.{IsVerdict, fault_line, valid_line}
 use Rattle.spv_check.proofs.Verdicts.{Laws, fault_invalid, fault_verdict, valid_of, valid_verdict}
@@ -54,8 +55,9 @@ pub kept_of : (G : Table) (reach : Reach) (p : Program) (ids : Ids) (flow : Flow
     → typing_rules.Keeps (IsTyped G p.insts) p.insts r n i)
     → IsUnbroken (type_rules.Broken G p.insts) stages.of_roles
     × IsUnbroken (type_rules.Broken G p.insts) stages.of_types → IsFlow (fork_of reach) G p.insts flow
-    → ((r : Rule) (n : ℕ) → ¬ (extended_rules.Broken reach p.insts r n)) → IsKept G reach p
-kept_of G reach p ids flow w a b r c t u f x = record {
+    → ((r : Rule) (n : ℕ) → ¬ (extended_rules.Broken reach p.insts r n))
+    → ((r : Rule) (n : ℕ) → ¬ (std_rules.Broken reach p.insts r n)) → IsKept G reach p
+kept_of G reach p ids flow w a b r c t u f x y = record {
   few = w;
   laid_out = a;
   ids = b.unbroken;
@@ -67,6 +69,7 @@ kept_of G reach p ids flow w a b r c t u f x = record {
   values = f.values;
   calls = f.calls;
   extended = x;
+  std_types = y;
 }
 
 pub parts_of : (G : Table) (reach : Reach) (m : Module) (places : List Place) (ids : Ids) (flow : Flow)
@@ -76,12 +79,12 @@ pub parts_of : (G : Table) (reach : Reach) (m : Module) (places : List Place) (i
 parts_of G reach m places ids flow k a b f =
     record { bound = refl; insts = refl; kept = k; plan = a; numbered = b; flowing = f }
 
--- no rule is broken but, it may be, Y9
-pub last_of : (G : Table) (reach : Reach) (bound : ℕ) (is : List PlainInst) (ids : Ids) (flow : Flow)
+-- no rule is broken but, it may be, Y9 and Y10
+pub up_to_calls : (G : Table) (reach : Reach) (bound : ℕ) (is : List PlainInst) (ids : Ids) (flow : Flow)
     → ((q : Rule) (m : ℕ) → ¬ (layout_rules.Broken (profile_of reach) G is q m)) → AreIds G bound is ids
     → IsUnbroken (type_rules.Broken G is) stages.of_roles × IsUnbroken (type_rules.Broken G is) stages.of_types
-    → IsFlow (fork_of reach) G is flow → IsAllButLast G reach bound is
-last_of G reach bound is ids flow u a t f = record {
+    → IsFlow (fork_of reach) G is flow → IsUpToCalls G reach bound is
+up_to_calls G reach bound is ids flow u a t f = record {
   before = record { of_layout = u; of_ids = a.unbroken; of_roles = t.0; of_types = t.1 };
   branches = f.branches;
   values = f.values;
@@ -92,13 +95,13 @@ pub sound_of : (G : Table) (reach : Reach) (p : Program)
     → ((q : Rule) (m : ℕ) → ¬ (layout_rules.Broken (profile_of reach) G p.insts q m)) → IsKept G reach p
     → IsSound G reach p.bound p.insts
 sound_of G reach p u k =
-    let last : IsAllButLast G reach p.bound p.insts = record {
+    let most : IsUpToCalls G reach p.bound p.insts = record {
       before = record { of_layout = u; of_ids = k.ids; of_roles = k.types.0; of_types = k.types.1 };
       branches = k.branches;
       values = k.values;
       calls = k.calls;
     } in
-    sound G reach p.bound p.insts last k.extended
+    sound G reach p.bound p.insts most k.extended k.std_types
 
 pub checked_of : (G : Table) (reach : Reach) (words : List ℕ) (m : Module) (p : Program) → p ≡ program_of m
     → IsReading G reach (plain_insts m) (drop 5 words) → IsHeaderOf words m.header

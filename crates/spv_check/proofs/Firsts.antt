@@ -6,6 +6,7 @@ use Rattle.spv_module.specs.declared.fault.Rule.{Rule}
 use Rattle.spv_extended.specs.Broken as extended
 use Rattle.spv_extended.specs.declared.reach.Reach.{Reach}
 use Rattle.spv_extended.specs.Reach.{profile_of}
+use Rattle.spv_std_types.specs.Broken as std_types
 use Rattle.spv_layout.specs.declared.place.Place.{Place}
 use Rattle.spv_layout.specs.DeadPlace.{IsDeadPlace}
 use Rattle.spv_layout.specs.Layout.{IsLayout, seen_classes}
@@ -27,6 +28,7 @@ use Rattle.spv_flow.specs.branches.Broken as flow
 use Rattle.spv_flow.proofs.lemmas.walks.Staged.{IsStaged, staged}
 use Rattle.spv_flow.specs.calls.Broken as calls
 use Rattle.spv_check.specs.extended.Outcome as extended_outcome
+use Rattle.spv_check.specs.std_types.Outcome as std_types_outcome
 use Rattle.spv_check.specs.flow.Outcome as flow_outcome
 use Rattle.spv_check.specs.flow.Outcome.{IsFirstOfFlow}
 use Rattle.spv_check.specs.Fork.{fork_of}
@@ -63,6 +65,10 @@ pub extended_stage : (reach : Reach) (is : List PlainInst) (r : Rule) (n : ℕ) 
     → stage_of r ≡ stages.of_extended
 extended_stage reach is _ _ (extended.miscalled n e m) = refl
 
+pub std_types_stage : (reach : Reach) (is : List PlainInst) (r : Rule) (n : ℕ) → std_types.Broken reach is r n
+    → stage_of r ≡ stages.of_std_types
+std_types_stage reach is _ _ (std_types.mistyped n e m) = refl
+
 -- within a stage
 within : (r q : Rule) (n m : ℕ) → stage_of r ≡ stage_of q → (n < m) ⊎ ((n ≡ m) × (rank_of r ≤ rank_of q))
     → Precedes r n q m
@@ -92,6 +98,8 @@ profile_first G reach bound is r n f = record { broken = Broken.of_layout r n f.
   least _ _ (Broken.of_calls q m b) = let s = f.of_stage in let e = calls_stage is q m b in Precedes.stage (omega arith)
   least _ _ (Broken.of_extended q m b) = let s = f.of_stage in let e = extended_stage reach is q m b in
       Precedes.stage (omega arith)
+  least _ _ (Broken.of_std_types q m b) = let s = f.of_stage in let e = std_types_stage reach is q m b in
+      Precedes.stage (omega arith)
 
 -- a rule of the layout, where each instruction fits the profile
 pub layout_first : (G : Table) (reach : Reach) (bound : ℕ) (is : List PlainInst) (r : Rule) (n : ℕ)
@@ -118,6 +126,8 @@ layout_first G reach bound is r n u f = record { broken = Broken.of_layout r n f
   least _ _ (Broken.of_calls q m b) = let s = f.of_stage in let e = calls_stage is q m b in Precedes.stage (omega arith)
   least _ _ (Broken.of_extended q m b) = let s = f.of_stage in let e = extended_stage reach is q m b in
       Precedes.stage (omega arith)
+  least _ _ (Broken.of_std_types q m b) = let s = f.of_stage in let e = std_types_stage reach is q m b in
+      Precedes.stage (omega arith)
 
 -- a rule on ids, where no rule of the profile or the layout is broken
 pub ids_first : (G : Table) (reach : Reach) (bound : ℕ) (is : List PlainInst) (r : Rule) (n : ℕ)
@@ -137,6 +147,8 @@ ids_first G reach bound is r n u f = record { broken = Broken.of_ids r n f.broke
       elim (flow_stage reach G is q m b) [ inl e ↦ Precedes.stage (omega arith) | inr e ↦ Precedes.stage (omega arith) ]
   least _ _ (Broken.of_calls q m b) = let s = f.of_stage in let e = calls_stage is q m b in Precedes.stage (omega arith)
   least _ _ (Broken.of_extended q m b) = let s = f.of_stage in let e = extended_stage reach is q m b in
+      Precedes.stage (omega arith)
+  least _ _ (Broken.of_std_types q m b) = let s = f.of_stage in let e = std_types_stage reach is q m b in
       Precedes.stage (omega arith)
 
 -- a rule on roles, where no rule of the profile, the layout or on ids is broken
@@ -161,6 +173,8 @@ roles_first G reach bound is r n u v f = record { broken = Broken.of_types r n f
   least _ _ (Broken.of_calls q m b) = let s = f.of_stage in let e = calls_stage is q m b in Precedes.stage (omega arith)
   least _ _ (Broken.of_extended q m b) = let s = f.of_stage in let e = extended_stage reach is q m b in
       Precedes.stage (omega arith)
+  least _ _ (Broken.of_std_types q m b) = let s = f.of_stage in let e = std_types_stage reach is q m b in
+      Precedes.stage (omega arith)
 
 -- a rule on capabilities, entry points or types, where no rule on roles is broken either
 pub types_first : (G : Table) (reach : Reach) (bound : ℕ) (is : List PlainInst) (r : Rule) (n : ℕ)
@@ -184,6 +198,8 @@ types_first G reach bound is r n u v w f = record { broken = Broken.of_types r n
       elim (flow_stage reach G is q m b) [ inl e ↦ Precedes.stage (omega arith) | inr e ↦ Precedes.stage (omega arith) ]
   least _ _ (Broken.of_calls q m b) = let s = f.of_stage in let e = calls_stage is q m b in Precedes.stage (omega arith)
   least _ _ (Broken.of_extended q m b) = let s = f.of_stage in let e = extended_stage reach is q m b in
+      Precedes.stage (omega arith)
+  least _ _ (Broken.of_std_types q m b) = let s = f.of_stage in let e = std_types_stage reach is q m b in
       Precedes.stage (omega arith)
 
 -- no rule of the profile, the layout, on ids or on types is broken
@@ -218,6 +234,8 @@ branches_first G reach bound is r n u f = record { broken = Broken.of_flow r n f
   least _ _ (Broken.of_calls q m b) = let s = f.of_stage in let e = calls_stage is q m b in Precedes.stage (omega arith)
   least _ _ (Broken.of_extended q m b) = let s = f.of_stage in let e = extended_stage reach is q m b in
       Precedes.stage (omega arith)
+  least _ _ (Broken.of_std_types q m b) = let s = f.of_stage in let e = std_types_stage reach is q m b in
+      Precedes.stage (omega arith)
 
 -- a rule on values, where no rule on branches is broken either
 pub values_first : (G : Table) (reach : Reach) (bound : ℕ) (is : List PlainInst) (r : Rule) (n : ℕ)
@@ -239,6 +257,8 @@ values_first G reach bound is r n u v f = record { broken = Broken.of_flow r n f
   least _ _ (Broken.of_calls q m b) = let s = f.of_stage in let e = calls_stage is q m b in Precedes.stage (omega arith)
   least _ _ (Broken.of_extended q m b) = let s = f.of_stage in let e = extended_stage reach is q m b in
       Precedes.stage (omega arith)
+  least _ _ (Broken.of_std_types q m b) = let s = f.of_stage in let e = std_types_stage reach is q m b in
+      Precedes.stage (omega arith)
 
 -- the rule on calls, where no rule on values is broken either
 pub calls_first : (G : Table) (reach : Reach) (bound : ℕ) (is : List PlainInst) (r : Rule) (n : ℕ)
@@ -257,6 +277,8 @@ calls_first G reach bound is r n u v w f = record { broken = Broken.of_calls r n
       within r q n m (omega arith) (f.least q m e b)
   least _ _ (Broken.of_extended q m b) = let s = f.of_stage in let e = extended_stage reach is q m b in
       Precedes.stage (omega arith)
+  least _ _ (Broken.of_std_types q m b) = let s = f.of_stage in let e = std_types_stage reach is q m b in
+      Precedes.stage (omega arith)
 
 -- a module that is laid out breaks no rule of the profile or the layout
 pub planned : (reach : Reach) (G : Table) (is : List PlainInst)
@@ -267,28 +289,30 @@ pub planned : (reach : Reach) (G : Table) (is : List PlainInst)
 planned reach G is law laid _ _ (layout.misfit i n h f) = f (laid.fits n i h)
 planned reach G is law laid _ _ (layout.dead r n d) = law is r n laid.layout d
 
--- no rule of any stage but the last is broken
-pub record IsAllButLast (G : Table) (reach : Reach) (bound : ℕ) (is : List PlainInst) : Type 0 where
+-- no rule of the stages up to that of calls is broken
+pub record IsUpToCalls (G : Table) (reach : Reach) (bound : ℕ) (is : List PlainInst) : Type 0 where
   pub before : IsBefore G reach bound is
   pub branches : IsUnbroken (flow.Broken (fork_of reach) G is) stages.of_branches
   pub values : IsUnbroken (flow.Broken (fork_of reach) G is) stages.of_values
   pub calls : IsUnbroken (calls.Broken is) stages.of_calls
 
--- and no rule is, where Y9 is not
-pub sound : (G : Table) (reach : Reach) (bound : ℕ) (is : List PlainInst) → IsAllButLast G reach bound is
-    → ((r : Rule) (n : ℕ) → ¬ (extended.Broken reach is r n)) → IsSound G reach bound is
-sound G reach bound is u x _ _ (Broken.of_layout r n b) = u.before.of_layout r n b
-sound G reach bound is u x _ _ (Broken.of_ids r n b) = u.before.of_ids r n (ids_stage G bound is r n b) b
-sound G reach bound is u x _ _ (Broken.of_types r n b) =
+-- and no rule is, where Y9 and Y10 are not
+pub sound : (G : Table) (reach : Reach) (bound : ℕ) (is : List PlainInst) → IsUpToCalls G reach bound is
+    → ((r : Rule) (n : ℕ) → ¬ (extended.Broken reach is r n))
+    → ((r : Rule) (n : ℕ) → ¬ (std_types.Broken reach is r n)) → IsSound G reach bound is
+sound G reach bound is u x y _ _ (Broken.of_layout r n b) = u.before.of_layout r n b
+sound G reach bound is u x y _ _ (Broken.of_ids r n b) = u.before.of_ids r n (ids_stage G bound is r n b) b
+sound G reach bound is u x y _ _ (Broken.of_types r n b) =
     elim (types_stage G is r n b) [ inl e ↦ u.before.of_roles r n e b | inr e ↦ u.before.of_types r n e b ]
-sound G reach bound is u x _ _ (Broken.of_flow r n b) =
+sound G reach bound is u x y _ _ (Broken.of_flow r n b) =
     elim (flow_stage reach G is r n b) [ inl e ↦ u.branches r n e b | inr e ↦ u.values r n e b ]
-sound G reach bound is u x _ _ (Broken.of_calls r n b) = u.calls r n (calls_stage is r n b) b
-sound G reach bound is u x _ _ (Broken.of_extended r n b) = x r n b
+sound G reach bound is u x y _ _ (Broken.of_calls r n b) = u.calls r n (calls_stage is r n b) b
+sound G reach bound is u x y _ _ (Broken.of_extended r n b) = x r n b
+sound G reach bound is u x y _ _ (Broken.of_std_types r n b) = y r n b
 
--- Y9, where no other rule is broken
+-- Y9, where no rule of those stages is broken
 pub extended_first : (G : Table) (reach : Reach) (bound : ℕ) (is : List PlainInst) (r : Rule) (n : ℕ)
-    → IsAllButLast G reach bound is → stage.IsFirst (extended.Broken reach is) stages.of_extended r n
+    → IsUpToCalls G reach bound is → stage.IsFirst (extended.Broken reach is) stages.of_extended r n
     → IsFirstOfAll G reach bound is r n
 extended_first G reach bound is r n u f = record { broken = Broken.of_extended r n f.broken; least = least } where
   least : (q : Rule) (m : ℕ) → Broken G reach bound is q m → Precedes r n q m
@@ -299,6 +323,24 @@ extended_first G reach bound is r n u f = record { broken = Broken.of_extended r
       elim (flow_stage reach G is q m b) [ inl e ↦ absurd (u.branches q m e b) | inr e ↦ absurd (u.values q m e b) ]
   least _ _ (Broken.of_calls q m b) = absurd (u.calls q m (calls_stage is q m b) b)
   least _ _ (Broken.of_extended q m b) = let s = f.of_stage in let e = extended_stage reach is q m b in
+      within r q n m (omega arith) (f.least q m e b)
+  least _ _ (Broken.of_std_types q m b) = let s = f.of_stage in let e = std_types_stage reach is q m b in
+      Precedes.stage (omega arith)
+
+-- Y10, where no other rule is broken
+pub std_types_first : (G : Table) (reach : Reach) (bound : ℕ) (is : List PlainInst) (r : Rule) (n : ℕ)
+    → IsUpToCalls G reach bound is → ((q : Rule) (m : ℕ) → ¬ (extended.Broken reach is q m))
+    → stage.IsFirst (std_types.Broken reach is) stages.of_std_types r n → IsFirstOfAll G reach bound is r n
+std_types_first G reach bound is r n u x f = record { broken = Broken.of_std_types r n f.broken; least = least } where
+  least : (q : Rule) (m : ℕ) → Broken G reach bound is q m → Precedes r n q m
+  least _ _ (Broken.of_layout q m b) = absurd (u.before.of_layout q m b)
+  least _ _ (Broken.of_ids q m b) = absurd (u.before.of_ids q m (ids_stage G bound is q m b) b)
+  least _ _ (Broken.of_types q m b) = never_before reach G bound is r q n m u.before b
+  least _ _ (Broken.of_flow q m b) =
+      elim (flow_stage reach G is q m b) [ inl e ↦ absurd (u.branches q m e b) | inr e ↦ absurd (u.values q m e b) ]
+  least _ _ (Broken.of_calls q m b) = absurd (u.calls q m (calls_stage is q m b) b)
+  least _ _ (Broken.of_extended q m b) = absurd (x q m b)
+  least _ _ (Broken.of_std_types q m b) = let s = f.of_stage in let e = std_types_stage reach is q m b in
       within r q n m (omega arith) (f.least q m e b)
 
 -- what the layers refuse is told
@@ -348,9 +390,15 @@ told_flow G reach bound is Memory u h = tt
 told_flow G reach bound is (Fault f) u h = (first_of_flow G reach bound is f.rule f.inst u h.0, h.1)
 
 pub told_extended : (G : Table) (reach : Reach) (bound : ℕ) (is : List PlainInst) (s : Stop)
-    → IsAllButLast G reach bound is → extended_outcome.IsRefusal reach is s → IsTold G reach bound is s
+    → IsUpToCalls G reach bound is → extended_outcome.IsRefusal reach is s → IsTold G reach bound is s
 told_extended G reach bound is Memory u h = tt
 told_extended G reach bound is (Fault f) u h = (extended_first G reach bound is f.rule f.inst u h.0, h.1)
+
+pub told_std_types : (G : Table) (reach : Reach) (bound : ℕ) (is : List PlainInst) (s : Stop)
+    → IsUpToCalls G reach bound is → ((q : Rule) (m : ℕ) → ¬ (extended.Broken reach is q m))
+    → std_types_outcome.IsRefusal reach is s → IsTold G reach bound is s
+told_std_types G reach bound is Memory u x h = tt
+told_std_types G reach bound is (Fault f) u x h = (std_types_first G reach bound is f.rule f.inst u x h.0, h.1)
 
 -- two rules that are told
 pub record SameRule (q r : Rule) (m n : ℕ) : Type 0 where
@@ -387,6 +435,25 @@ of_calls_stage G reach bound is _ _ s (Broken.of_flow r n b) =
 of_calls_stage G reach bound is _ _ s (Broken.of_calls r n b) = b
 of_calls_stage G reach bound is _ _ s (Broken.of_extended r n b) = let e = extended_stage reach is r n b in
     absurd (omega (arith, s, e))
+of_calls_stage G reach bound is _ _ s (Broken.of_std_types r n b) = let e = std_types_stage reach is r n b in
+    absurd (omega (arith, s, e))
+
+-- a rule of the last stage is one on the types of calls of OpenCL.std
+pub of_last_stage : (G : Table) (reach : Reach) (bound : ℕ) (is : List PlainInst) (r : Rule) (n : ℕ)
+    → stage_of r ≡ stages.of_std_types → Broken G reach bound is r n → std_types.Broken reach is r n
+of_last_stage G reach bound is _ _ s (Broken.of_layout r n b) =
+    elim (layout_stage reach G is r n b) [ inl e ↦ absurd (omega (arith, s, e)) | inr e ↦ absurd (omega (arith, s, e)) ]
+of_last_stage G reach bound is _ _ s (Broken.of_ids r n b) = let e = ids_stage G bound is r n b in
+    absurd (omega (arith, s, e))
+of_last_stage G reach bound is _ _ s (Broken.of_types r n b) =
+    elim (types_stage G is r n b) [ inl e ↦ absurd (omega (arith, s, e)) | inr e ↦ absurd (omega (arith, s, e)) ]
+of_last_stage G reach bound is _ _ s (Broken.of_flow r n b) =
+    elim (flow_stage reach G is r n b) [ inl e ↦ absurd (omega (arith, s, e)) | inr e ↦ absurd (omega (arith, s, e)) ]
+of_last_stage G reach bound is _ _ s (Broken.of_calls r n b) = let e = calls_stage is r n b in
+    absurd (omega (arith, s, e))
+of_last_stage G reach bound is _ _ s (Broken.of_extended r n b) = let e = extended_stage reach is r n b in
+    absurd (omega (arith, s, e))
+of_last_stage G reach bound is _ _ s (Broken.of_std_types r n b) = b
 
 -- a rule of a later stage is not told before one of an earlier stage
 pub never_earlier : (r q : Rule) (n m : ℕ) → stage_of q < stage_of r → ¬ (Precedes r n q m)

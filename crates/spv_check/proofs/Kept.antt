@@ -74,6 +74,7 @@ kept law G reach p few s = record {
   values = λ r n e b. s r n (Broken.of_flow r n b);
   calls = λ r n e b. s r n (Broken.of_calls r n b);
   extended = λ r n b. s r n (Broken.of_extended r n b);
+  std_types = λ r n b. s r n (Broken.of_std_types r n b);
 }
 
 no_layout : LayoutLaw → (G : Table) (reach : Reach) (p : Program) → IsKept G reach p → (q : Rule) (m : ℕ)

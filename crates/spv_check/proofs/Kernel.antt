@@ -40,6 +40,7 @@ use Rattle.spv_check.specs.Valid.{IsValid}
 use Rattle.spv_check.specs.Example.{kernel_program, kernel_body, kernel_words, kernel_bytes}
 use Rattle.spv_check.proofs.Checks.{sound_of}
 use Rattle.spv_check.proofs.Miscalls.{not_asked}
+use Rattle.spv_check.proofs.Mistypings.{types_not_asked}
 use Rattle.spv_flow.specs.declared.branches.fork.Fork.TheVariants.{Distinct}
 
 -- Each use is in its role.
@@ -73,6 +74,7 @@ kept = record {
   values = λ r n s b. flow_kept Distinct r n b;
   calls = λ r n s b. calls_kept r n b;
   extended = not_asked Profile kernel refl;
+  std_types = types_not_asked Profile kernel refl;
 }
 
 pub sound : IsSound grammar Profile 5 kernel

@@ -3,6 +3,7 @@ pub mod Flowing
 pub mod Checks
 pub mod Judgments
 pub mod Miscalls
+pub mod Mistypings
 pub mod Firsts
 pub mod Elements
 pub mod KernelRules

@@ -6,7 +6,7 @@ ghost use Rattle.spv_module.specs.Operand.{PlainInst};
 ghost use Rattle.spv_module.specs.Module.{plain_insts};
 ghost use Rattle.spv_module.specs.declared.fault.Fault.{Fault};
 ghost use Rattle.spv_module.specs.declared.fault.Rule.{Rule};
-ghost use Rattle.spv_module.specs.declared.fault.Rule.TheVariants.{A1, G1, I7, L2, Y7};
+ghost use Rattle.spv_module.specs.declared.fault.Rule.TheVariants.{A1, G1, I7, L2, Y7, Y9, Y10};
 ghost use Rattle.spv_module.specs.declared.module.Module.{Module};
 ghost use Rattle.spv_extended.specs.declared.reach.Reach.{Reach};
 ghost use Rattle.spv_extended.specs.declared.reach.Reach.TheVariants.{Profile, Extended, OpenCl};
@@ -17,6 +17,7 @@ ghost use Rattle.spv_layout.specs.declared.place.Place.{Place};
 ghost use Rattle.spv_ids.specs.declared.ids.Ids.{Ids};
 ghost use Rattle.spv_ids.specs.Outcome.{IsDefinitionOf, definition_in};
 ghost use Rattle.spv_check.specs.declared.flow.Flow.{Flow};
+ghost use Rattle.spv_std_types.specs.Example.{unlike};
 ghost use Rattle.spv_flow.specs.calls.Example.{functions, looped};
 ghost use Rattle.spv_check.specs.Outcome.{HasFailed, IsUntouched, OfKnown};
 ghost use Rattle.spv_check.specs.Answer.{IsFault};
@@ -107,6 +108,11 @@ pub fn broken_examples()
     // A fault of types is told before one of values at a lower instruction.
     ensures earlier { Precedes Y7 9 A1 3 }
     ensures later { ¬ (Precedes A1 3 Y7 9) }
+    // A call of OpenCL.std whose operand has not the type of its result breaks a rule of kernels of OpenCL, which is
+    // told after all others.
+    ensures types { (G : Table) (minor bound : ℕ) → Broken G (OpenCl minor) bound unlike Y10 22 }
+    ensures no_types { (G : Table) (bound n : ℕ) → ¬ (Broken G Extended bound unlike Y10 n) }
+    ensures last { Precedes Y9 9 Y10 3 }
 {
     spv_flow::calls::laws::call_examples();
 }

@@ -32,7 +32,7 @@ use Rattle.spv_rules.specs.declared.errors.AnyCode.{AnyCode}
 use Rattle.spv_command_line.specs.declared.command_line.Command.TheVariants.{Judge, Show, Asm, Trace, Rules}
 use Rattle.spv_command_line.specs.declared.command_line.Command.TheVariants.{Grammar as GrammarOf, Annotate, Graph}
 use Rattle.spv_command_line.specs.declared.command_line.Task.TheVariants as tasks
-use Rattle.spv_words.specs.Streams.{HoldsBytes}
+use Rattle.spv_words.specs.Words.{StandFor}
 use Rattle.spv_commands.specs.Assemble.{Assembles, HoldsModule, IsFaultOf, IsImageOf, in_version, minor_asked, text_read}
 use Rattle.spv_commands.specs.Output.{is_done, made_of, out_of, status_of, written_err, written_made, written_out}
 use Rattle.spv_commands.specs.Show.{IsShowing, Shows}
@@ -40,7 +40,6 @@ use Rattle.spv_commands.specs.Task.{ReadsGrammar, IsAmbiguous, IsNoText, LacksAs
 use Rattle.spv_commands.specs.Task.{view_of}
 use Rattle.spv_scope.specs.Scope.{reach_of, taken}
 use Rattle.spv_scope.proofs.Lengths.{length_with_minor, long_taken}
-use Rattle.spv_commands.proofs.Carried.{held_by}
 use Rattle.spv_commands.specs.Trace.{IsTracing, Traces}
 use Rattle.spv_commands.specs.Trouble.{file_trouble, grammar_text, trouble_text}
 use Rattle.spv_commands.specs.inner.Answered.{Gives, IsAnswerBy, IsUnreadAnswer, WhyNot}
@@ -261,31 +260,26 @@ length_in_version (Some minor) bytes = length_with_minor minor bytes
 
 -- the bytes of an image, in another version
 pub held_in : (o : Order) (minor : Option ℕ) (words bytes written : List ℕ) → written ≡ in_version minor bytes
-    → HoldsBytes o words [] (Some bytes) (4 * length words) → HoldsModule o minor words [] (Some written) (4 * length words)
-held_in o minor words bytes written e h =
-    let size : length h.bytes ≡ 4 * length words = h.stands.whole in
-    let whole : take (4 * length words) h.bytes ≡ h.bytes = take_all (4 * length words) h.bytes (omega (arith, size)) in
-    let same : bytes ≡ h.bytes = ap held_by (h.front ∙ ap Some whole) in
-    let version : written ≡ in_version minor h.bytes = e ∙ ap (in_version minor) same in
-    let long : length written ≡ 4 * length words = ap length version ∙ length_in_version minor h.bytes ∙ size in
+    → StandFor o bytes words → HoldsModule o minor words [] (Some written) (4 * length words)
+held_in o minor words bytes written e s =
+    let size : length bytes ≡ 4 * length words = s.whole in
+    let long : length written ≡ 4 * length words = ap length e ∙ length_in_version minor bytes ∙ size in
     record {
-      plain = h.bytes;
-      stands = h.stands;
+      plain = bytes;
+      stands = s;
       bytes = written;
-      version = version;
+      version = e;
       fits = omega (arith, long);
       front = ap Some (sym (take_all (4 * length words) written (omega (arith, long))));
     }
 
 -- the module of a text, and what is written of its fault
 pub made_assembles : (G : Table) (o : Order) (explain opencl : Bool) (text words : List ℕ) (minor : Option ℕ)
-    (r : Result Reply Trouble) → minor ≡ minor_asked opencl text
+    (a : Reply) → minor ≡ minor_asked opencl text
     → IsImageOf G (text_read opencl text) words
-    → IfOk r (λ a. HoldsModule o minor words [] (Some (made_of a)) (4 * length words)) → IfOk r (λ a. out_of a ≡ [])
-    → IfOk r (λ a. is_done a ≡ true)
-    → IfOk r (λ a. Assembles G o explain opencl text (Some []) (Some (out_of a)) (Some []) (Some (made_of a)) (is_done a))
-made_assembles G o explain opencl text words minor (Ok a) v h m e d = rw (e, d) (Assembles.made words h refl (rw v at m))
-made_assembles G o explain opencl text words minor (Err t) v h m e d = tt
+    → HoldsModule o minor words [] (Some (made_of a)) (4 * length words) → out_of a ≡ [] → is_done a ≡ true
+    → Assembles G o explain opencl text (Some []) (Some (out_of a)) (Some []) (Some (made_of a)) (is_done a)
+made_assembles G o explain opencl text words minor a v h m e d = rw (e, d) (Assembles.made words h refl (rw v at m))
 
 pub failed_assembles : (G : Table) (o : Order) (explain opencl : Bool) (text written out : List ℕ) → out ≡ written
     → IsFaultOf G explain (text_read opencl text) written

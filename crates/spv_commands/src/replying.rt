@@ -2,7 +2,6 @@
 ghost use Rattle.std.specs.Prelude.{◌≡◌, ◌↔◌, ◌⊎◌, ◌*◌, ℕ, List, [], Some, IfErr, IfOk, IsTrue, IsUtf8, false, length};
 ghost use Rattle.std.specs.Prelude.{true};
 ghost use Rattle.spv_words.specs.Header.{IsFirstBroken, IsModule};
-ghost use Rattle.spv_words.specs.Streams.{HoldsBytes};
 ghost use Rattle.spv_words.specs.declared.words.WordError.TheVariants.{W8};
 ghost use Rattle.spv_table.specs.Table.{Table};
 ghost use Rattle.spv_extended.specs.declared.reach.Reach.{Reach};
@@ -41,7 +40,7 @@ use spv_scope::{put_minor, put_text_minor, text_minor};
 use spv_table::Table;
 use spv_verdict::{Judgment, Verdict, check, line_for};
 use spv_views::{View, ViewError, Viewed, view_image};
-use spv_words::{FromWrite, GREATEST_SIZE, Image, Order, WordError, image_from, write_image};
+use spv_words::{GREATEST_SIZE, Image, Order, WordError, image_from};
 use std::alloc::Global;
 
 /// What a command comes to.
@@ -260,19 +259,6 @@ fn viewed(
     }
 }
 
-/// The bytes of an image in an order.
-fn octets_of(alloc: Global, order: Order, image: &Image) -> Result<Vec<u8>, Trouble>
-    ensures made { IfOk result (λ v. HoldsBytes order image.now [] (Some v.items) (4 * length image.now)) }
-    ensures only { IfErr result (λ t. t ≡ Memory) }
-{
-    let mut bytes = FromWrite::new(Vec::new(alloc));
-    // They stand in memory, so it can only be its growth that fails.
-    match write_image(image, order, &mut bytes) {
-        Ok(()) => Ok(bytes.inner),
-        Err(_) => Err(Trouble::Memory),
-    }
-}
-
 /// Makes bytes those of a module of another version, if one is given.
 fn put_version(minor: Option<u8>, bytes: &mut Vec<u8>)
     ensures { bytes.new.items ≡ in_version minor bytes.old.items }
@@ -282,16 +268,15 @@ fn put_version(minor: Option<u8>, bytes: &mut Vec<u8>)
     }
 }
 
-/// The answer of the bytes of an image in an order, and in another version, if one is given.
-fn made(alloc: Global, order: Order, minor: Option<u8>, image: &Image) -> Result<Reply, Trouble>
-    ensures made { IfOk result (λ a. HoldsModule order minor image.now [] (Some (made_of a)) (4 * length image.now)) }
-    ensures out { IfOk result (λ a. out_of a ≡ []) }
-    ensures done { IfOk result (λ a. is_done a ≡ true) }
-    ensures only { IfErr result (λ t. t ≡ Memory) }
+/// The answer of the bytes of an image in an order, and in another version, if one is given. It takes no memory.
+fn made(order: Order, minor: Option<u8>, image: Image) -> Reply
+    ensures made { HoldsModule order minor image [] (Some (made_of result)) (4 * length image) }
+    ensures out { out_of result ≡ [] }
+    ensures done { is_done result ≡ true }
 {
-    let mut bytes = octets_of(alloc, order, image)?;
+    let mut bytes = image.into_octets(order);
     put_version(minor, &mut bytes);
-    Ok(Reply::Made(bytes))
+    Reply::Made(bytes)
 }
 
 /// The minor number of the version that a module of a text is to have, if that is not left to the text as it is.
@@ -344,7 +329,7 @@ pub fn assembled(
     let minor = minor_in(opencl, &bytes);
     put_read(opencl, &mut bytes);
     match assembly_in(alloc, table, explain, bytes) {
-        Ok(Assembly::Made(image)) => made(alloc, order, minor, &image),
+        Ok(Assembly::Made(image)) => Ok(made(order, minor, image)),
         Ok(Assembly::Fault(error)) => Ok(Reply::Fault(Output::Line(text_fault(error)))),
         Ok(Assembly::Told(lines)) => Ok(Reply::Fault(Output::Bytes(lines))),
         Err(trouble) => Err(trouble),

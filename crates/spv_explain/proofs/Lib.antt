@@ -6,4 +6,5 @@ mod Sufficing
 mod Tellings
 mod Worked
 mod WorkedExtended
+mod WorkedTypes
 mod WorkedJson

@@ -13,6 +13,9 @@ use Rattle.spv_extended.specs.Broken as extended_rule
 use Rattle.spv_extended.specs.Miscalled.{IsMiscalled}
 use Rattle.spv_extended.specs.declared.reach.Reach.{Reach}
 use Rattle.spv_extended.specs.Reach.{opens, profile_of}
+use Rattle.spv_std_types.specs.Broken as std_rule
+use Rattle.spv_std_types.specs.Broken.{asks_types}
+use Rattle.spv_std_types.specs.Mistyped.{IsMistyped}
 use Rattle.spv_check.specs.Fork.{fork_of}
 use Rattle.spv_layout.specs.Broken as broken
 use Rattle.spv_layout.specs.Plan as plan
@@ -28,6 +31,7 @@ use Rattle.spv_flow_evidence.specs.branches.Evidence as branches
 use Rattle.spv_flow_evidence.specs.walks.Evidence as walks
 use Rattle.spv_flow_evidence.specs.calls.Evidence as calls
 use Rattle.spv_explain.specs.Evidence.{IsEvidence}
+use Rattle.spv_explain.specs.Mistyped as mistyped
 use Rattle.spv_explain.specs.inner.Shown.{IsShownAt}
 
 pub role_shown : (G : Table) (reach : Reach) (bound : ℕ) (is : List PlainInst) (f : Fault) (e : Evidence)
@@ -89,3 +93,15 @@ pub extended_shown : (G : Table) (reach : Reach) (bound : ℕ) (is : List PlainI
 extended_shown G reach bound is f e b h =
     let m = the_miscall reach is f.rule f.inst b in
     λ s. IsEvidence.of_extended f.rule f.inst e m.1 (subst (λ r. extended.IsEvidence is r f.inst e) (sym m.0) h)
+
+-- a call of OpenCL.std that has not the types that are asked
+pub the_mistyping : (reach : Reach) (is : List PlainInst) (r : Rule) (n : ℕ) → std_rule.Broken reach is r n
+    → (r ≡ rule.Y10) × IsTrue (asks_types reach) × IsMistyped is n
+the_mistyping reach is _ _ (std_rule.mistyped n on m) = (refl, on, m)
+
+pub mistyping_shown : (G : Table) (reach : Reach) (bound : ℕ) (is : List PlainInst) (f : Fault) (e : Evidence)
+    → std_rule.Broken reach is f.rule f.inst → mistyped.IsEvidence is rule.Y10 f.inst e
+    → IsShownAt G reach bound is f e
+mistyping_shown G reach bound is f e b h =
+    let m = the_mistyping reach is f.rule f.inst b in
+    λ s. IsEvidence.of_std_types f.rule f.inst e m.1 (subst (λ r. mistyped.IsEvidence is r f.inst e) (sym m.0) h)

@@ -14,10 +14,12 @@ use Rattle.spv_extended.specs.declared.reach.Reach.{Reach}
 use Rattle.spv_extended.specs.Reach.{opens, profile_of}
 use Rattle.spv_check.specs.Fork.{fork_of}
 use Rattle.spv_extended.specs.Broken as extended
+use Rattle.spv_std_types.specs.Broken as std_types
+use Rattle.spv_std_types.specs.Broken.{asks_types}
 use Rattle.spv_form_evidence.specs.extended.Evidence as by_extended
 use Rattle.spv_layout.specs.First.{stage_of}
 use Rattle.spv_layout.specs.Stage as stages
-use Rattle.spv_check.proofs.Firsts.{calls_stage, extended_stage, flow_stage, ids_stage, layout_stage}
+use Rattle.spv_check.proofs.Firsts.{calls_stage, extended_stage, flow_stage, ids_stage, layout_stage, std_types_stage}
 use Rattle.spv_check.proofs.Stages.{types_stage}
 use Rattle.spv_form_evidence.specs.layout.Evidence as by_layout
 use Rattle.spv_form_evidence.specs.ids.Roles as roles
@@ -34,6 +36,7 @@ use Rattle.spv_flow_evidence.proofs.lemmas.branches.Rules as branches_law
 use Rattle.spv_flow_evidence.proofs.lemmas.walks.Sufficing as walks_law
 use Rattle.spv_flow_evidence.proofs.lemmas.calls.Walked.{sufficient}
 use Rattle.spv_explain.specs.Evidence.{IsEvidence}
+use Rattle.spv_explain.specs.Mistyped as by_std_types
 
 -- the instruction at which a rule on capabilities or entry points is shown to be broken
 record IsThere (is : List PlainInst) (n : ℕ) : Type 0 where
@@ -63,6 +66,10 @@ capabilities_broken G is r n e h =
 extended_broken : (reach : Reach) (is : List PlainInst) (r : Rule) (n : ℕ) (e : Evidence) → IsTrue (opens reach)
     → by_extended.IsEvidence is r n e → extended.Broken reach is r n
 extended_broken reach is r n e on h = extended_law.suffices reach is r n e on h
+
+std_types_broken : (reach : Reach) (is : List PlainInst) (r : Rule) (n : ℕ) (e : Evidence)
+    → IsTrue (asks_types reach) → by_std_types.IsEvidence is r n e → std_types.Broken reach is r n
+std_types_broken reach is _ _ _ on (by_std_types.IsEvidence.mistyped n a m) = std_types.mistyped n on (a, m)
 
 -- what is kept, but for what Y5 demands of operations
 unasked : (G : Table) (is : List PlainInst) (r : Rule) (n : ℕ) (i : PlainInst) → Keeps (IsTyped G is) is r n i
@@ -105,6 +112,8 @@ suffices G reach bound is _ _ _ (IsEvidence.of_walks r n e h) = Broken.of_flow r
 suffices G reach bound is _ _ _ (IsEvidence.of_calls r n e h) = Broken.of_calls r n (sufficient is r n e h)
 suffices G reach bound is _ _ _ (IsEvidence.of_extended r n e on h) =
     Broken.of_extended r n (extended_broken reach is r n e on h)
+suffices G reach bound is _ _ _ (IsEvidence.of_std_types r n e on h) =
+    Broken.of_std_types r n (std_types_broken reach is r n e on h)
 
 -- evidence of a stage before D is that of the shapes and the layout
 apart : (r : Rule) (a b : ℕ) → stage_of r < stages.of_ids → (stage_of r ≡ a) ⊎ (stage_of r ≡ b) → 3 ≤ a → 3 ≤ b → ⊥
@@ -136,8 +145,11 @@ of_layout_alone G reach bound is _ _ _ (IsEvidence.of_calls r n e h) s =
 of_layout_alone G reach bound is _ _ _ (IsEvidence.of_extended r n e on h) s =
     absurd (apart r 9 9 s (inl (extended_stage reach is r n (extended_broken reach is r n e on h))) (omega arith)
     (omega arith))
+of_layout_alone G reach bound is _ _ _ (IsEvidence.of_std_types r n e on h) s =
+    absurd (apart r 10 10 s (inl (std_types_stage reach is r n (std_types_broken reach is r n e on h))) (omega arith)
+    (omega arith))
 
--- evidence of the last stage is that of calls of extended instructions
+-- evidence of the stage of Y9 is that of calls of extended instructions
 below : (r : Rule) (a b : ℕ) → stage_of r ≡ stages.of_extended → (stage_of r ≡ a) ⊎ (stage_of r ≡ b) → a ≤ 8 → b ≤ 8 → ⊥
 below r a b s (inl e) l m = omega (arith, s, e, l)
 below r a b s (inr e) l m = omega (arith, s, e, m)
@@ -170,3 +182,43 @@ of_extended_alone G reach bound is _ _ _ (IsEvidence.of_walks r n e h) s =
 of_extended_alone G reach bound is _ _ _ (IsEvidence.of_calls r n e h) s =
     absurd (below r 8 8 s (inl (calls_stage is r n (sufficient is r n e h))) (omega arith) (omega arith))
 of_extended_alone G reach bound is _ _ _ (IsEvidence.of_extended r n e on h) s = record { on = on; shows = h }
+of_extended_alone G reach bound is _ _ _ (IsEvidence.of_std_types r n e on h) s =
+    let t = std_types_stage reach is r n (std_types_broken reach is r n e on h) in
+    absurd (omega (arith, s, t))
+
+-- evidence of the last stage is that of the types of calls of OpenCL.std
+past : (r : Rule) (a b : ℕ) → stage_of r ≡ stages.of_std_types → (stage_of r ≡ a) ⊎ (stage_of r ≡ b) → a ≤ 9 → b ≤ 9 → ⊥
+past r a b s (inl e) l m = omega (arith, s, e, l)
+past r a b s (inr e) l m = omega (arith, s, e, m)
+
+pub record IsOfStdTypes (reach : Reach) (is : List PlainInst) (r : Rule) (n : ℕ) (e : Evidence) : Type 0 where
+  pub on : IsTrue (asks_types reach)
+  pub shows : by_std_types.IsEvidence is r n e
+
+pub of_std_types_alone : (G : Table) (reach : Reach) (bound : ℕ) (is : List PlainInst) (r : Rule) (n : ℕ) (e : Evidence)
+    → IsEvidence G reach bound is r n e → stage_of r ≡ stages.of_std_types → IsOfStdTypes reach is r n e
+of_std_types_alone G reach bound is _ _ _ (IsEvidence.of_layout r n e h) s =
+    absurd (past r 1 2 s (layout_stage reach G is r n (layout_law.suffices (profile_of reach) G is r n e h))
+    (omega arith) (omega arith))
+of_std_types_alone G reach bound is _ _ _ (IsEvidence.of_ids r n e h) s =
+    absurd (past r 3 3 s (inl (ids_stage G bound is r n (ids_suffice G bound is r n e h))) (omega arith) (omega arith))
+of_std_types_alone G reach bound is _ _ _ (IsEvidence.of_roles r n e h) s =
+    absurd (past r 4 5 s (types_stage G is r n (roles_broken G is r n e h)) (omega arith) (omega arith))
+of_std_types_alone G reach bound is _ _ _ (IsEvidence.of_capabilities r n e h) s =
+    absurd (past r 4 5 s (types_stage G is r n (capabilities_broken G is r n e h)) (omega arith) (omega arith))
+of_std_types_alone G reach bound is _ _ _ (IsEvidence.of_types r n e h) s =
+    absurd (past r 4 5 s (types_stage G is r n (types_broken G is r n e h)) (omega arith) (omega arith))
+of_std_types_alone G reach bound is _ _ _ (IsEvidence.of_operations r n e h) s =
+    absurd (past r 4 5 s (types_stage G is r n (operations_broken G is r n e h)) (omega arith) (omega arith))
+of_std_types_alone G reach bound is _ _ _ (IsEvidence.of_branches r n e h) s =
+    absurd (past r 6 7 s (flow_stage reach G is r n (branches_law.suffices (fork_of reach) G is r n e h)) (omega arith)
+    (omega arith))
+of_std_types_alone G reach bound is _ _ _ (IsEvidence.of_walks r n e h) s =
+    absurd (past r 6 7 s (flow_stage reach G is r n (walks_law.suffices (fork_of reach) G is r n e h)) (omega arith)
+    (omega arith))
+of_std_types_alone G reach bound is _ _ _ (IsEvidence.of_calls r n e h) s =
+    absurd (past r 8 8 s (inl (calls_stage is r n (sufficient is r n e h))) (omega arith) (omega arith))
+of_std_types_alone G reach bound is _ _ _ (IsEvidence.of_extended r n e on h) s =
+    absurd (past r 9 9 s (inl (extended_stage reach is r n (extended_broken reach is r n e on h))) (omega arith)
+    (omega arith))
+of_std_types_alone G reach bound is _ _ _ (IsEvidence.of_std_types r n e on h) s = record { on = on; shows = h }

@@ -32,7 +32,7 @@ use Rattle.spv_inst.proofs.Lists.{listing_same}
 use Rattle.spv_inst.proofs.Worked.{string_listed}
 use Rattle.spv_check.specs.Broken.{Broken}
 use Rattle.spv_check.specs.Verdict.{line_end}
-use Rattle.spv_check.proofs.Firsts.{calls_stage, extended_stage, flow_stage, layout_stage}
+use Rattle.spv_check.proofs.Firsts.{calls_stage, extended_stage, flow_stage, layout_stage, std_types_stage}
 use Rattle.spv_check.proofs.Stages.{types_stage}
 use Rattle.spv_evidence.specs.declared.evidence.Evidence.{Evidence}
 use Rattle.spv_evidence.specs.declared.evidence.Evidence.TheVariants.{MayCome, NoEntry}
@@ -194,6 +194,10 @@ no_broken _ _ (Broken.of_calls r n b) e z =
 no_broken _ _ (Broken.of_extended r n b) e z =
     let s : stage_of r ≡ stages.of_ids = subst (λ q. stage_of q ≡ stages.of_ids) (sym e) refl in
     let t = extended_stage Profile twice_void r n b in
+    absurd (omega (arith, s, t))
+no_broken _ _ (Broken.of_std_types r n b) e z =
+    let s : stage_of r ≡ stages.of_ids = subst (λ q. stage_of q ≡ stages.of_ids) (sym e) refl in
+    let t = std_types_stage Profile twice_void r n b in
     absurd (omega (arith, s, t))
 
 pub no_first_lines : (lines : List ℕ) → ¬ (AreLinesOf Short small Profile 5 twice_void D2 0 lines)

@@ -17,6 +17,8 @@ use Rattle.spv_form_evidence.specs.capabilities.Evidence as capabilities
 use Rattle.spv_form_evidence.specs.extended.Evidence as extended
 use Rattle.spv_type_evidence.specs.types.Evidence as types
 use Rattle.spv_operation_evidence.specs.Evidence as operations
+use Rattle.spv_std_types.specs.Broken.{asks_types}
+use Rattle.spv_explain.specs.Mistyped as mistyped
 
 -- Of a list that is looked at so far, under the bound of ids, this shows that the rule is broken at the instruction of
 -- that number.
@@ -45,4 +47,7 @@ pub data IsEvidence (G : Table) (reach : Reach) (bound : ℕ) (is : List PlainIn
   of_calls : (r : Rule) (n : ℕ) (e : Evidence) → calls.IsEvidence is r n e → IsEvidence G reach bound is r n e
   -- Y9
   of_extended : (r : Rule) (n : ℕ) (e : Evidence) → IsTrue (opens reach) → extended.IsEvidence is r n e
+      → IsEvidence G reach bound is r n e
+  -- Y10
+  of_std_types : (r : Rule) (n : ℕ) (e : Evidence) → IsTrue (asks_types reach) → mistyped.IsEvidence is r n e
       → IsEvidence G reach bound is r n e

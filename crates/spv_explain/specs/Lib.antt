@@ -1,3 +1,4 @@
+pub mod Mistyped
 pub mod Evidence
 pub mod Example
 pub mod Explained

@@ -1,17 +1,20 @@
 //! What shows a module's fault, by the stage that found it.
-ghost use Rattle.std.specs.Prelude.{IfOk};
+ghost use Rattle.std.specs.Prelude.{ℕ, IfOk};
 ghost use Rattle.spv_table.specs.Table.{Table};
 ghost use Rattle.spv_module.specs.Module.{plain_insts};
+ghost use Rattle.spv_module.specs.declared.fault.Rule.TheVariants.{Y10};
 ghost use Rattle.spv_module.specs.declared.fault.Stop.TheVariants as stops;
 ghost use Rattle.spv_extended.specs.declared.reach.Reach.{Reach};
 ghost use Rattle.spv_flow.specs.declared.branches.fork.Fork.{Fork};
 ghost use Rattle.spv_layout.specs.Place.{IsShort};
 ghost use Rattle.spv_layout.specs.Plan.{IsPlan};
-ghost use Rattle.spv_ids.specs.Outcome.{AreIds};
+ghost use Rattle.spv_ids.specs.Outcome.{AreIds, IsDefinitionOf, definition_in};
+ghost use Rattle.spv_std_types.specs.Mistyped.{IsMistyped};
 ghost use Rattle.spv_check.specs.Fork.{fork_of};
 ghost use Rattle.spv_check.specs.Judged.{IsRefusedAt};
 ghost use Rattle.spv_check.specs.flow.Outcome as flow_outcome;
 ghost use Rattle.spv_check.specs.types.Outcome as type_outcome;
+ghost use Rattle.spv_explain.specs.Mistyped.{IsEvidence};
 ghost use Rattle.spv_explain.specs.inner.Shown.{IsShownAt};
 
 use crate::kinds::{is_of_calls, is_of_capabilities, is_of_operations, is_of_roles, is_of_values};
@@ -86,14 +89,20 @@ fn flow_evidence(
     Ok(branch_evidence(alloc, module, plan, ids, fault.rule, fault.inst)?)
 }
 
-/// What shows that Y10 is broken at an instruction: the operand that fails.
-fn std_evidence(module: &Module<'_>, plan: &Plan, ids: &Ids, fault: Fault) -> Evidence {
+/// What shows that Y10 is broken at the instruction of a number, from 0: the operand that fails.
+fn std_evidence(module: &Module<'_>, plan: &Plan, ids: &Ids, inst: u32) -> Evidence
+    requires plan { (G : Table) × IsPlan G (plain_insts «module».now) plan.now }
+    requires ids { (x : ℕ) → IsDefinitionOf (plain_insts «module».now) x (definition_in ids.now x) }
+    requires broken { IsMistyped (plain_insts «module».now) inst }
+    ensures { IsEvidence (plain_insts «module».now) Y10 inst result }
+{
     let definitions = Definitions::new(module.insts.as_slice(), plan, ids);
-    let operand = match mistyping_at(&definitions, fault.inst) {
-        Some(condition) => operand_of(condition),
-        None => 0,
+    let Some(condition) = mistyping_at(&definitions, inst) else {
+        unreachable!();
     };
-    Evidence::Operand { operand }
+    Evidence::Operand {
+        operand: operand_of(condition),
+    }
 }
 
 /// What shows that a fault's rule is broken at its instruction, of a module that is looked at as far as `reach` says.
@@ -127,6 +136,6 @@ pub fn evidence_of(
         Reached::Numbered(plan, ids) => typing_evidence(alloc, table, module, plan, ids, fault),
         Reached::Typed(plan, ids) => flow_evidence(alloc, module, plan, ids, fault),
         Reached::Sound => Ok(extended_evidence(alloc, module, fault.inst)?),
-        Reached::Called(plan, ids) => Ok(std_evidence(module, plan, ids, fault)),
+        Reached::Called(plan, ids) => Ok(std_evidence(module, plan, ids, fault.inst)),
     }
 }

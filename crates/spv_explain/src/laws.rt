@@ -15,18 +15,19 @@ ghost use Rattle.spv_module.specs.Module.{plain_insts};
 ghost use Rattle.spv_module.specs.Operand.{PlainInst};
 ghost use Rattle.spv_module.specs.declared.fault.Fault.{Fault};
 ghost use Rattle.spv_module.specs.declared.fault.Rule.{Rule as AnyRule};
-ghost use Rattle.spv_module.specs.declared.fault.Rule.TheVariants.{D2, L1, Y9};
+ghost use Rattle.spv_module.specs.declared.fault.Rule.TheVariants.{D2, L1, Y9, Y10};
 ghost use Rattle.spv_module.specs.declared.module.Module.{Module};
 ghost use Rattle.spv_module.specs.declared.opcode.TheConstants as opcode;
 ghost use Rattle.spv_extended.specs.declared.reach.Reach.{Reach};
 ghost use Rattle.spv_extended.specs.declared.reach.Reach.TheVariants.{Profile, Extended, OpenCl};
 ghost use Rattle.spv_extended.specs.Reach.{looked_at};
+ghost use Rattle.spv_std_types.specs.Example.{unlike};
 ghost use Rattle.spv_layout.specs.First.{stage_of};
 ghost use Rattle.spv_layout.specs.Stage.{of_profile};
 ghost use Rattle.spv_ids.specs.Example.{of_void};
 ghost use Rattle.spv_form_evidence.specs.words.Evidence as instructions;
 ghost use Rattle.spv_evidence.specs.declared.evidence.Evidence.{Evidence};
-ghost use Rattle.spv_evidence.specs.declared.evidence.Evidence.TheVariants.{MayCome, Miscalled, NoEntry, Walk};
+ghost use Rattle.spv_evidence.specs.declared.evidence.Evidence.TheVariants.{MayCome, Miscalled, NoEntry, Operand, Walk};
 ghost use Rattle.spv_inst.specs.Outcome.{IsHeaderOf};
 ghost use Rattle.spv_rules.specs.declared.errors.AnyCode.TheVariants.{Error};
 ghost use Rattle.spv_rules.specs.declared.errors.ErrorCode.TheVariants.{J5};
@@ -152,6 +153,15 @@ pub fn extended_examples()
         → ¬ (IsEvidence G Extended bound (looked_at Extended short_call) Y9 2 (Miscalled 171 1 (Some 3) (Some 3))) }
     ensures by_profile { (G : Table) (bound : ℕ) (e : Evidence)
         → ¬ (IsEvidence G Profile bound (looked_at Profile short_call) Y9 2 e) }
+{}
+
+/// A call of acos in OpenCL.std whose operand is a float, and whose result a vector.
+pub fn type_examples()
+    // In a kernel of OpenCL the operand shows it, and not the result type; nothing does where types are not asked.
+    ensures shown { (G : Table) (minor bound : ℕ) → IsEvidence G (OpenCl minor) bound unlike Y10 22 (Operand 4) }
+    ensures not_the_result { (G : Table) (minor bound : ℕ)
+        → ¬ (IsEvidence G (OpenCl minor) bound unlike Y10 22 (Operand 0)) }
+    ensures by_extended { (G : Table) (bound : ℕ) (e : Evidence) → ¬ (IsEvidence G Extended bound unlike Y10 22 e) }
 {}
 
 /// The objects of verdicts and of codes, as texts.

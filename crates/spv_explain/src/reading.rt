@@ -3,13 +3,16 @@ ghost use Rattle.std.specs.Prelude.{◌≡◌, IfOk, drop};
 ghost use Rattle.spv_inst.specs.Outcome.{IsHeaderOf};
 ghost use Rattle.spv_module.specs.Instruction.{IsListing};
 ghost use Rattle.spv_module.specs.Module.{plain_insts};
+ghost use Rattle.spv_module.specs.declared.fault.Stop.TheVariants as stops;
+ghost use Rattle.spv_layout.specs.Place.{IsShort};
 ghost use Rattle.spv_check.specs.Answer.{IsAnswer};
-ghost use Rattle.spv_check.specs.Judged.{AreWordsOf};
+ghost use Rattle.spv_check.specs.Judged.{AreWordsOf, IsRefusedAt};
 ghost use Rattle.spv_explain.specs.Explained.{IsShown, IsShownDead, IsSpelled, verdict_in};
 ghost use Rattle.spv_explain.specs.inner.Reading.{IsExplained};
+ghost use Rattle.spv_explain.specs.inner.Shown.{IsShownAt};
 
 use crate::evidence::evidence_of;
-use spv_check::{Checked, Judged, judge, read};
+use spv_check::{Checked, Judged, Reached, judge, read};
 use spv_evidence::Evidence;
 use spv_extended::{Reach, opens};
 use spv_form_evidence::word_evidence;
@@ -77,6 +80,32 @@ fn spelled<'a>(
     }
 }
 
+/// What shows that a rule is broken, and the module as its words spell it.
+///
+/// `Memory` comes only where a growth of memory was refused.
+fn shown_and_spelled<'a>(
+    alloc: Global,
+    table: &Table,
+    reach: Reach,
+    image: &'a Image,
+    module: Module<'a>,
+    reached: &Reached,
+    fault: Fault,
+) -> Result<(Evidence, Module<'a>), Memory>
+    requires words { IsShort (plain_insts «module») }
+    requires refused { IsRefusedAt table.now reach «module».header.bound (plain_insts «module») reached.now
+        (stops.Fault fault) }
+    requires read { AreWordsOf table.now reach «module» image.now }
+    ensures shown { IfOk result
+        (λ p. IsShownAt table.now reach «module».entry.header.bound (plain_insts «module».entry) fault p.0) }
+    ensures listing { IfOk result (λ p. IsListing table.now (plain_insts p.1) (drop 5 image.now)) }
+    ensures header { IfOk result (λ p. IsHeaderOf image.now p.1.header) }
+{
+    let evidence = evidence_of(alloc, table, reach, &module, reached, fault)?;
+    let module = spelled(alloc, table, reach, image, module)?;
+    Ok((evidence, module))
+}
+
 /// What `explain` answers, with all that is known of it.
 ///
 /// `Memory` comes only where a growth of memory was refused.
@@ -105,11 +134,12 @@ pub fn explained_of<'a>(
             module,
             reached,
         } => {
-            let evidence = evidence_of(alloc, table, reach, &module, &reached, fault)?;
+            let (evidence, module) =
+                shown_and_spelled(alloc, table, reach, image, module, &reached, fault)?;
             Ok(Explained::Broken {
                 fault,
                 evidence,
-                module: spelled(alloc, table, reach, image, module)?,
+                module,
             })
         }
     }

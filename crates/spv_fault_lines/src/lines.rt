@@ -167,7 +167,11 @@ fn value_lists<'t>(table: &'t Table, operand: Option<&Operand<'_>>) -> Option<Na
 }
 
 /// The capabilities that a bit of an operand that is a mask lists.
-fn bit_lists<'t>(table: &'t Table, operand: Option<&Operand<'_>>, bit: u32) -> Option<NameListRef<'t>>
+fn bit_lists<'t>(
+    table: &'t Table,
+    operand: Option<&Operand<'_>>,
+    bit: u32,
+) -> Option<NameListRef<'t>>
     ensures { result ≡ lines.bit_lists table.now (option_map
         (λ o. plain_operand o.now) operand.entry) bit }
 {
@@ -198,7 +202,11 @@ fn entry_lists(table: &Table, opcode: u16) -> Option<NameListRef<'_>>
 }
 
 /// The names that are listed: those of an entry, a value or a bit. What a type needs has no such list.
-pub fn listed_names<'t>(table: &'t Table, inst: &Inst<'_>, lister: Lister) -> Option<NameListRef<'t>>
+pub fn listed_names<'t>(
+    table: &'t Table,
+    inst: &Inst<'_>,
+    lister: Lister,
+) -> Option<NameListRef<'t>>
     ensures { result ≡ lines.listed_names table.now (plain_inst inst.now) lister }
 {
     let operands = inst.operands.as_slice();

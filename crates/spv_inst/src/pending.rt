@@ -241,8 +241,7 @@ impl<'t> Pending<'t> {
                 let Some(kind) = table.kind(slot.kind) else {
                     unreachable!();
                 };
-                let Some(first) = take_first(&mut self.frames, kind.bases(), paired)?
-                else {
+                let Some(first) = take_first(&mut self.frames, kind.bases(), paired)? else {
                     unreachable!();
                 };
                 match form_in(forms, first.kind) {

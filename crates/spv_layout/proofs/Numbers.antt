@@ -1,10 +1,11 @@
 -- The numbers of the rows are those of the first rows that have the opcodes.
-use Rattle.std.proofs.Common.{◌≡◌, ◌∙◌, ◌<◌, ◌≤◌, ◌+◌, ℕ, zero, suc, nat_le, nat_lt, List, [], ◌∷◌, refl, sym, ap, Bool, true, false, ◌&&◌, if◌then◌else◌, Option, Some, None, length, take, drop, arith}
+use Rattle.std.proofs.Common.{◌≡◌, ◌∙◌, ◌<◌, ◌≤◌, ◌+◌, ℕ, zero, suc, nat_le, nat_lt, List, [], ◌∷◌, refl, sym, ap, inl, inr, Bool, true, false, ◌&&◌, if◌then◌else◌, Option, Some, None, length, take, drop, arith}
 use Rattle.std.specs.Prelude.{slice_get}
 use Rattle.std.proofs.lemmas.Bool.{ltb-true, lt-leb}
+use Rattle.std.proofs.lemmas.Bool.Decides.{leb_tells}
 use Rattle.spv_layout.specs.Row.{PlainRow, row_in}
 use Rattle.spv_layout.specs.declared.rows.TheConstants.{NUMBERS, NUMBERED}
-use Rattle.spv_layout.specs.inner.Row.{numbered}
+use Rattle.spv_layout.specs.inner.Row.{listed, numbered}
 use Rattle.spv_layout.specs.Rows.{rows, row_of}
 use Rattle.spv_layout.proofs.Derivatives.{both_hold}
 
@@ -83,13 +84,19 @@ skipped (suc k) (r ∷ rs) m n h l =
     let f : nat_le n r.to ≡ false = lt-leb n r.to (omega arith) in
     passed (nat_le r.from n) (nat_le n r.to) r (row_in rs n) f ∙ skipped k rs m n p.1 l
 
--- an opcode that has a number, and one that has none
-pub numbered_row : (n : ℕ) → n < length NUMBERS → numbered rows (slice_get NUMBERS n) ≡ row_of n
+-- an opcode that has a number, one that has none, and each
+numbered_row : (n : ℕ) → n < length NUMBERS → numbered rows (slice_get NUMBERS n) ≡ row_of n
 unfolding count
 numbered_row n h =
     let z : 0 + n ≡ n = omega arith in
     ap (λ ns. numbered rows (slice_get ns n)) agree ∙ ap (numbered rows) (position_at rows 0 count n h) ∙ at_position rows rows 0 (0 + n) none_past same_places ∙ ap row_of z
 
-pub far_row : (n : ℕ) → length NUMBERS ≤ n → row_in (drop NUMBERED rows) n ≡ row_of n
+far_row : (n : ℕ) → length NUMBERS ≤ n → row_in (drop NUMBERED rows) n ≡ row_of n
 unfolding count
 far_row n h = sym (skipped NUMBERED rows count n all_below h)
+
+pub listed_row : (n : ℕ) → listed NUMBERS rows NUMBERED n ≡ row_of n
+listed_row n = elim (leb_tells (suc n) (length NUMBERS)) [
+  | inl t ↦ (let e : nat_lt n (length NUMBERS) ≡ true = t.0 in rw e (numbered_row n (omega (arith, t.1))))
+  | inr t ↦ (let e : nat_lt n (length NUMBERS) ≡ false = t.0 in rw e (far_row n (omega (arith, t.1))))
+]

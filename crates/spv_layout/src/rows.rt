@@ -1,10 +1,10 @@
-ghost use Rattle.std.specs.Prelude.{◌≡◌, IfSome, IsTrue, option_map, map, slice_get};
+ghost use Rattle.std.specs.Prelude.{◌≡◌, ◌≤◌, IfSome, IsTrue, length, option_map, map, slice_get};
 ghost use Rattle.spv_layout.specs.inner.Single.{is_single_row, front_of, are_flagged};
-ghost use Rattle.spv_layout.specs.inner.Row.{plain_row, numbered};
+ghost use Rattle.spv_layout.specs.inner.Row.{listed, plain_row, numbered};
 ghost use Rattle.spv_layout.specs.inner.Test.{HasSorts};
 ghost use Rattle.spv_layout.specs.Place.{section_of};
 ghost use Rattle.spv_layout.specs.Row.{row_in};
-ghost use Rattle.spv_layout.specs.Rows.{row_of};
+ghost use Rattle.spv_layout.specs.Rows.{row_of, rows};
 
 use crate::class::Class;
 use crate::form::{After, Ending, Form, Kinded, Named, Role, Row};
@@ -501,6 +501,40 @@ fn row_among(rows: &'static [Row], opcode: u16) -> Option<&'static Row>
     None
 }
 
+/// The row of an opcode in a table of which the first rows, so many, are found by such a list of numbers.
+#[inline(always)]
+fn row_listed(
+    numbers: &'static [u8],
+    rows: &'static [Row],
+    numbered: usize,
+    opcode: u16,
+) -> Option<&'static Row>
+    requires flagged { IsTrue (are_flagged rows.now) }
+    requires within { numbered ≤ length rows.now }
+    ensures row { option_map (λ r. plain_row r.now) result
+        ≡ listed numbers.now (map plain_row rows.now) numbered opcode }
+    ensures section { IfSome result (λ r. r.now.section ≡ section_of r.now.class) }
+    ensures single { IfSome result (λ r. r.now.single ≡ is_single_row (plain_row r.now)) }
+    ensures front { IfSome result (λ r. r.now.front ≡ front_of r.now.fixed.now) }
+    ensures sorts { IfSome result (λ r. HasSorts r.now.sorts r.now.kind r.now.fixed.now) }
+{
+    if usize::from(opcode) < numbers.len() {
+        row_at(numbers, rows, opcode)
+    } else {
+        row_among(&rows[numbered..], opcode)
+    }
+}
+
+/// The rows of the table.
+#[inline(always)]
+fn all_rows() -> &'static [Row]
+    ensures rows { map plain_row result.now ≡ rows }
+    ensures flagged { IsTrue (are_flagged result.now) }
+    ensures within { NUMBERED ≤ length result.now }
+{
+    &ROWS
+}
+
 /// The row of an opcode, and what it says of the sorts of its operands.
 #[inline(always)]
 pub fn sorted_row(opcode: u16) -> Option<&'static Row>
@@ -510,12 +544,7 @@ pub fn sorted_row(opcode: u16) -> Option<&'static Row>
     ensures front { IfSome result (λ r. r.now.front ≡ front_of r.now.fixed.now) }
     ensures sorts { IfSome result (λ r. HasSorts r.now.sorts r.now.kind r.now.fixed.now) }
 {
-    let has_number = usize::from(opcode) < NUMBERS.len();
-    if has_number {
-        row_at(&NUMBERS, &ROWS, opcode)
-    } else {
-        row_among(&ROWS[NUMBERED..], opcode)
-    }
+    row_listed(&NUMBERS, all_rows(), NUMBERED, opcode)
 }
 
 /// The row of an opcode.

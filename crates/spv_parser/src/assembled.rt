@@ -34,6 +34,10 @@ use std::alloc::{AllocError, Global};
 /// The greatest number of words of an instruction, its first one too. (2.3)
 const GREATEST_COUNT: usize = 65_535;
 
+/// How many bytes of a text make a word, or fewer: so much room, which is doubled where it is too little, has a growth
+/// of memory copy nothing that is large.
+const LETTERS_A_WORD: usize = 8;
+
 /// Adds words to a draft. Where memory runs out, nothing is said of what is left.
 pub fn put_words(draft: &mut Draft, words: &[u32]) -> Result<(), AllocError>
     ensures { OnOk result (draft.new ≡ draft.old ++ words.now) }
@@ -184,7 +188,7 @@ pub fn assemble(alloc: Global, table: &Table, text: &str) -> Result<Image, AsmEr
     // Of every table, and so of this one, no parameter and no base is of the kind of results.
     let _ = table.kind(0);
     let (header, rest) = read_header(text)?;
-    let mut draft = Draft::new(alloc);
+    let mut draft = Draft::with_room(alloc, text.len() / LETTERS_A_WORD)?;
     let words = [
         MAGIC_NUMBER,
         header.version,

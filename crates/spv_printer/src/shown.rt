@@ -17,6 +17,9 @@ use spv_table::Table;
 use spv_words::Header;
 use std::alloc::{AllocError, Global};
 
+/// For how many bytes of an instruction's line room is made at first: most have fewer.
+const LINE_ROOM: usize = 32;
+
 /// Adds the lines of a header, of version 1.6 and schema 0. Where memory runs out, nothing is said of what is left.
 pub fn push_header(out: &mut String, header: Header) -> Result<(), AllocError>
     ensures { OnOk result (string_bytes out.new ≡ string_bytes out.old ++ ended (header_lines header)) }
@@ -56,7 +59,8 @@ pub fn show_listed(alloc: Global, table: &Table, module: &Module<'_>) -> Result<
     ensures { IfOk result (λ t. IsShownText table.now «module».now.header (plain_insts «module».now)
         (string_bytes t)) }
 {
-    let mut out = String::new(alloc);
+    let room = module.insts.len().saturating_mul(LINE_ROOM);
+    let mut out = String::with_capacity(alloc, room)?;
     push_header(&mut out, module.header)?;
     push_lines(alloc, table, module, &mut out)?;
     Ok(out)

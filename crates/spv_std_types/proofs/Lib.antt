@@ -2,4 +2,5 @@ pub mod Listing
 pub mod Importing
 pub mod Calling
 pub mod Telling
+pub mod Brokens
 pub mod Worked

@@ -14,10 +14,13 @@ use Rattle.spv_extended.specs.declared.set.Set.TheVariants.{OpenClStd}
 use Rattle.spv_extended.specs.Sets.{set_in}
 use Rattle.spv_std_types.specs.declared.condition.Classes.{Classes}
 use Rattle.spv_std_types.specs.declared.condition.Condition.{Condition}
+use Rattle.spv_std_types.specs.declared.condition.Condition.TheVariants as condition
+use Rattle.spv_std_types.specs.declared.condition.Relation.TheVariants as relation
+use Rattle.spv_std_types.specs.declared.condition.Subject.TheVariants as subject
 use Rattle.spv_std_types.specs.Condition.{Holds, IsClass, IsPointerIn, IsStored}
-use Rattle.spv_std_types.specs.Table.{conditions_of}
+use Rattle.spv_std_types.specs.Table.{conditions_of, lines}
 use Rattle.spv_std_types.specs.Mistyped.{IsMistyped, IsMistypedBy, Mistypes}
-use Rattle.spv_std_types.specs.Example.{value}
+use Rattle.spv_std_types.specs.Example.{of, unlike, value}
 use Rattle.spv_std_types.proofs.Listing.{fails_at, not_all}
 
 -- where all conditions hold, none is broken
@@ -109,3 +112,13 @@ not_called is n a i t f b =
 pub none_first : (n : ℕ) → ¬ (IsMistyped (value 8 ∷ []) n)
 none_first zero m = not_called (value 8 ∷ []) 0 m.0 (value 8) refl refl m.1
 none_first (suc n) m = absurd (none-some m.1.inst m.1.there)
+
+-- the call of the small module that breaks a condition
+pub unlike_mistyped : IsMistypedBy unlike 22 (condition.Relation (subject.Value 0) relation.Same subject.Result)
+unfolding lines
+unlike_mistyped = record {
+  inst = _;
+  there = refl;
+  called = refl;
+  mistyped = broken unlike 9 99 1 0 (of 8 ∷ []) 1 _ refl refl (refl, tt) (apart 8 9 refl);
+}

@@ -54,3 +54,7 @@ Keeps r number os = (a : Condition) → ¬ (Mistypes small (call r number os) a)
 
 abbrev pub Breaks : ℕ → ℕ → List Plain → Condition → Type 0
 Breaks r number os a = Mistypes small (call r number os) a
+
+-- %99 = OpExtInst %9 %1 0 %108 behind the types: acos of a float that is to be a vector
+abbrev pub unlike : List PlainInst
+unlike = types ++ value 8 ∷ inst opcode.EXT_INST (call 9 0 (of 8 ∷ [])) ∷ []

@@ -6,9 +6,12 @@
 //! `%16` those of UniformConstant to `%8` and `%3`, `%17` and `%18` those of CrossWorkgroup to `%8` and `%7`. The
 //! values `of` types are named by these. A call is told by its result type, its number and the operands behind that.
 
-ghost use Rattle.std.specs.Prelude.{◌≡◌, ◌≢◌, ◌++◌, [], ◌∷◌, ℕ, List, Some, None, true, false};
+ghost use Rattle.std.specs.Prelude.{◌≡◌, ◌≢◌, [], ◌∷◌, ℕ, List, Some, None, true, false};
 ghost use Rattle.spv_module.specs.Operand.{PlainInst, OfType, Result, Id, Word};
+ghost use Rattle.spv_module.specs.declared.fault.Rule.{Rule};
+ghost use Rattle.spv_module.specs.declared.fault.Rule.TheVariants.{Y10};
 ghost use Rattle.spv_module.specs.declared.opcode.TheConstants as opcode;
+ghost use Rattle.spv_extended.specs.declared.reach.Reach.TheVariants.{Extended, OpenCl};
 ghost use Rattle.spv_type_forms.specs.Example.{inst};
 ghost use Rattle.spv_conditions.specs.declared.condition.Kind.TheVariants as kind;
 ghost use Rattle.spv_std_types.specs.declared.condition.Among.TheVariants as among;
@@ -19,10 +22,11 @@ ghost use Rattle.spv_std_types.specs.declared.condition.Number.TheVariants as nu
 ghost use Rattle.spv_std_types.specs.declared.condition.Relation.TheVariants as relation;
 ghost use Rattle.spv_std_types.specs.declared.condition.Subject.TheVariants as subject;
 ghost use Rattle.spv_std_types.specs.declared.condition.Wanted.TheVariants as wanted;
+ghost use Rattle.spv_std_types.specs.Broken.{Broken, asks_types};
 ghost use Rattle.spv_std_types.specs.Condition as spec;
 ghost use Rattle.spv_std_types.specs.Mistyped.{IsFirstMistyped, IsMistypedBy, Mistypes};
 ghost use Rattle.spv_std_types.specs.Table.{conditions_of, is_among};
-ghost use Rattle.spv_std_types.specs.Example.{Breaks, Keeps, call, of, small, types, value};
+ghost use Rattle.spv_std_types.specs.Example.{Breaks, Keeps, call, of, small, unlike, value};
 
 /// One condition is told of an instruction.
 pub fn one_condition()
@@ -174,10 +178,19 @@ pub fn module_examples()
     ensures other_set { (a : Condition)
         → ¬ (Mistypes small (OfType 5 ∷ Result 99 ∷ Id 20 ∷ Word 0 ∷ of 5 ∷ []) a) }
     ensures no_number { Keeps 5 111 (of 5 ∷ []) }
-    ensures mistyped { IsMistypedBy (types ++ value 8 ∷ inst opcode.EXT_INST (call 9 0 (of 8 ∷ [])) ∷ []) 22
-        (condition.Relation (subject.Value 0) relation.Same subject.Result) }
+    ensures mistyped { IsMistypedBy unlike 22 (condition.Relation (subject.Value 0) relation.Same subject.Result) }
     ensures no_call { (a : Condition)
         → ¬ (IsMistypedBy (value 8 ∷ inst opcode.F_NEGATE (call 9 0 (of 8 ∷ [])) ∷ []) 1 a) }
     ensures none { IsFirstMistyped (value 8 ∷ []) None }
     ensures not_first { ¬ (IsFirstMistyped (value 8 ∷ []) (Some 0)) }
+{}
+
+/// Y10 where it is asked, and where it is not.
+pub fn broken_examples()
+    ensures asked { (minor : ℕ) → asks_types (OpenCl minor) ≡ true }
+    ensures not_asked { asks_types Extended ≡ false }
+    ensures mistyped { (minor : ℕ) → Broken (OpenCl minor) unlike Y10 22 }
+    ensures not_looked_at { (r : Rule) → ¬ (Broken Extended unlike r 22) }
+    // No call.
+    ensures value { (minor : ℕ) (r : Rule) → ¬ (Broken (OpenCl minor) (value 8 ∷ []) r 0) }
 {}

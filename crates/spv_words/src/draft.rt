@@ -1,5 +1,5 @@
 ghost use Rattle.std.specs.Prelude.{◌≡◌, ◌≤◌, ◌<◌, ◌^◌, ◌++◌, ◌∷◌, [], length, All};
-ghost use Rattle.std.specs.Prelude.{OnErr, OnOk};
+ghost use Rattle.std.specs.Prelude.{IfOk, OnErr, OnOk};
 ghost use Rattle.spv_words.specs.Header.{IsHeader, greatest_length};
 
 use crate::image::Image;
@@ -41,6 +41,19 @@ impl Draft {
         Draft {
             bytes: Vec::new(alloc),
         }
+    }
+
+    /// No words, and room for so many.
+    ///
+    /// # Errors
+    ///
+    /// Where the memory was refused.
+    pub fn with_room(alloc: Global, words: usize) -> Result<Draft, AllocError>
+        ensures { IfOk result (λ d. d ≡ []) }
+    {
+        Ok(Draft {
+            bytes: Vec::with_capacity(alloc, words.saturating_mul(4))?,
+        })
     }
 
     /// The number of words so far.

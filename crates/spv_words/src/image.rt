@@ -3,7 +3,7 @@ ghost use Rattle.spv_words.specs.Words.{words_of, StandFor};
 ghost use Rattle.spv_words.specs.Header.{IsHeader, IsImage, greatest_length};
 ghost use Rattle.spv_words.specs.declared.words.Order.TheVariants.{Little};
 
-use crate::order::word_in;
+use crate::order::{turn, word_in};
 use crate::words::{Header, Order};
 use std::marker::Model;
 
@@ -75,6 +75,18 @@ impl Image {
         ensures stands { StandFor Little result.now self.now }
     {
         self.bytes.as_slice()
+    }
+
+    /// The bytes that stand for the words in an order. (2.3) It takes no memory.
+    pub fn into_octets(self, order: Order) -> Vec<u8>
+        ensures { StandFor order result.items self }
+    {
+        let mut octets = self.bytes;
+        match order {
+            Order::Little => {}
+            Order::Big => turn(octets.as_mut_slice()),
+        }
+        octets
     }
 }
 

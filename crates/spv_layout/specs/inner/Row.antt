@@ -1,5 +1,5 @@
 -- Rows of the table of shapes, by their letters. (Own.) (For the code alone.)
-use Rattle.std.specs.Prelude.{ℕ, List, Option, Some, None, slice_get}
+use Rattle.std.specs.Prelude.{ℕ, List, Option, Some, None, drop, if◌then◌else◌, length, nat_lt, slice_get}
 use Rattle.spv_module.specs.declared.profile.Profile.TheVariants.{Own}
 use Rattle.spv_layout.specs.declared.class.Class.{Class}
 use Rattle.spv_layout.specs.declared.form.Role.TheVariants as role
@@ -10,12 +10,17 @@ use Rattle.spv_layout.specs.declared.form.Ending as declared
 use Rattle.spv_layout.specs.declared.form.Ending.TheVariants as code
 use Rattle.spv_layout.specs.declared.form.Row as declared_row
 use Rattle.spv_layout.specs.Row.{RowEnding, PlainRow, closed, file_and_text, maybe, maybe_others}
-use Rattle.spv_layout.specs.Row.{maybe_repeated, others, repeated}
+use Rattle.spv_layout.specs.Row.{maybe_repeated, others, repeated, row_in}
 
 -- the row of a number, from 0, if there is a number and a row
 abbrev pub numbered : List PlainRow → Option ℕ → Option PlainRow
 numbered rows None = None
 numbered rows (Some k) = slice_get rows k
+
+-- the row of an opcode in a table: by its number, or, if it has none, the first behind the first k rows that has it
+abbrev pub listed : List ℕ → List PlainRow → ℕ → ℕ → Option PlainRow
+listed numbers rows k n =
+    if nat_lt n (length numbers) then numbered rows (slice_get numbers n) else row_in (drop k rows) n
 
 -- a row of the code
 abbrev pub plain_ending : declared.Ending → RowEnding

@@ -1,9 +1,9 @@
 use Rattle.spv_module.specs.Module.{plain_insts}
 use Rattle.spv_extended.specs.Reach.{profile_of}
 use Rattle.spv_check.specs.Checked.{program_of}
-use Rattle.spv_check.proofs.Checks.{kept_of, last_of, parts_of}
-use Rattle.spv_check.proofs.Firsts.{planned, sound, told_extended, told_flow, told_ids, told_layout, told_types}
-use Rattle.spv_check.proofs.Firsts.{IsBefore}
+use Rattle.spv_check.proofs.Checks.{kept_of, parts_of, up_to_calls}
+use Rattle.spv_check.proofs.Firsts.{IsBefore, planned, sound, told_extended, told_flow, told_ids, told_layout}
+use Rattle.spv_check.proofs.Firsts.{told_std_types, told_types}
 use Rattle.spv_check.proofs.Judgments.{refused_so}
 use Rattle.spv_check.proofs.judged.judge.Goals as goal
 
@@ -47,6 +47,12 @@ flow_check-requires-clause-known c =
 pub extended_check-requires : goal.extended_check-requires
 extended_check-requires c = record { plan = (c.args.table.now, c.in-Ok.ensures.plan) }
 
+pub std_types_check-requires-clause-plan : goal.std_types_check-requires-clause-plan
+std_types_check-requires-clause-plan c = (c.args.table.now, c.in-Ok.ensures.plan)
+
+pub std_types_check-requires-clause-ids : goal.std_types_check-requires-clause-ids
+std_types_check-requires-clause-ids c = (c.in-Ok-number.ensures.ids c.args.table.now c.in-Ok.ensures.plan).each
+
 pub new-requires : goal.new-requires
 new-requires c =
     let G = c.args.table.now in
@@ -58,10 +64,12 @@ new-requires c =
     let flow = rw c.fork_of.ensures at (c.in-Ok-flow_check.ensures.flow G plan ids) in
     let laid = rw c.profile_of.ensures at c.in-Ok.ensures.laid_out in
     let p = program_of c.args.module in
-    let y9 = c.in-Ok-extended_check.ensures.unbroken in
-    let kept = kept_of G reach p _ _ c.requires.short laid ids types.roles types.capabilities types.rules u flow y9 in
+    let y9 = c.in_default-extended_check.ensures.unbroken in
+    let y10 = c.in-Ok-std_types_check.ensures.unbroken in
+    let kept = kept_of G reach p _ _ c.requires.short laid ids types.roles types.capabilities types.rules u flow y9 y10 in
     let w = c.requires.words in
-    let none = planned reach G _ (c.member_or_dead.ensures.not_both (profile_of reach)) laid in (
+    let none = planned reach G _ (c.member_or_dead.ensures.not_both (profile_of reach)) laid in
+    let most = up_to_calls G reach p.bound p.insts _ _ none ids u flow in (
       G,
       record {
         reach = reach;
@@ -69,14 +77,14 @@ new-requires c =
         checked = record {
           reading = w.1.reading;
           bound = w.1.bound;
-          sound = sound G reach p.bound p.insts (last_of G reach p.bound p.insts _ _ none ids u flow) y9;
+          sound = sound G reach p.bound p.insts most y9 y10;
         };
         parts = parts_of G reach c.args.module _ _ _ kept plan ids flow;
       },
     )
 
-pub returns-in-Ok-extended_check : goal.returns-in-Ok-extended_check
-returns-in-Ok-extended_check c =
+pub returns-in-Ok-std_types_check : goal.returns-in-Ok-std_types_check
+returns-in-Ok-std_types_check c =
     let G = c.args.table.now in
     let reach = c.args.reach in
     let plan = c.in-Ok.ensures.plan in
@@ -86,17 +94,18 @@ returns-in-Ok-extended_check c =
     let flow = rw c.fork_of.ensures at (c.in-Ok-flow_check.ensures.flow G plan ids) in
     let laid = rw c.profile_of.ensures at c.in-Ok.ensures.laid_out in
     let p = program_of c.args.module in
-    let y9 = c.in-Ok-extended_check.ensures.unbroken in
-    let kept = kept_of G reach p _ _ c.requires.short laid ids types.roles types.capabilities types.rules u flow y9 in
+    let y9 = c.in_default-extended_check.ensures.unbroken in
+    let y10 = c.in-Ok-std_types_check.ensures.unbroken in
+    let kept = kept_of G reach p _ _ c.requires.short laid ids types.roles types.capabilities types.rules u flow y9 y10 in
     let none = planned reach G _ (c.member_or_dead.ensures.not_both (profile_of reach)) laid in
     record {
       whole = c.new.ensures;
       kept = rw c.new.ensures kept;
-      sound = sound G reach p.bound p.insts (last_of G reach p.bound p.insts _ _ none ids u flow) y9;
+      sound = sound G reach p.bound p.insts (up_to_calls G reach p.bound p.insts _ _ none ids u flow) y9 y10;
     }
 
-pub returns : goal.returns
-returns c =
+pub returns-in-Err-std_types_check : goal.returns-in-Err-std_types_check
+returns-in-Err-std_types_check c =
     let G = c.args.table.now in
     let reach = c.args.reach in
     let plan = c.in-Ok.ensures.plan in
@@ -106,10 +115,27 @@ returns c =
     let laid = rw c.profile_of.ensures at c.in-Ok.ensures.laid_out in
     let p = program_of c.args.module in
     let none = planned reach G _ (c.member_or_dead.ensures.not_both (profile_of reach)) laid in
-    let last = last_of G reach p.bound p.insts _ _ none ids u flow in
+    let most = up_to_calls G reach p.bound p.insts _ _ none ids u flow in
+    let y9 = c.in_default-extended_check.ensures.unbroken in
+    let h = c.in-Err-std_types_check.ensures.refused in
+    refused_so G reach c.args.module _ c.in-Err-std_types_check.stop _ c.refused-in-Err-std_types_check.ensures
+    (told_std_types G reach p.bound p.insts c.in-Err-std_types_check.stop most y9 h) (plan, ids, h)
+
+pub returns-in-Err-extended_check : goal.returns-in-Err-extended_check
+returns-in-Err-extended_check c =
+    let G = c.args.table.now in
+    let reach = c.args.reach in
+    let plan = c.in-Ok.ensures.plan in
+    let ids = c.in-Ok-number.ensures.ids G plan in
+    let u = c.in-Ok-type_check.ensures.unbroken in
+    let flow = rw c.fork_of.ensures at (c.in-Ok-flow_check.ensures.flow G plan ids) in
+    let laid = rw c.profile_of.ensures at c.in-Ok.ensures.laid_out in
+    let p = program_of c.args.module in
+    let none = planned reach G _ (c.member_or_dead.ensures.not_both (profile_of reach)) laid in
+    let most = up_to_calls G reach p.bound p.insts _ _ none ids u flow in
     let h = c.in-Err-extended_check.ensures.refused in
     refused_so G reach c.args.module _ c.in-Err-extended_check.stop _ c.refused-in-Err-extended_check.ensures
-    (told_extended G reach p.bound p.insts c.in-Err-extended_check.stop last h) h
+    (told_extended G reach p.bound p.insts c.in-Err-extended_check.stop most h) h
 
 pub returns-in-Err-flow_check : goal.returns-in-Err-flow_check
 returns-in-Err-flow_check c =

@@ -2,7 +2,8 @@ use Rattle.std.proofs.Common.{refl}
 use Rattle.spv_module.specs.Module.{plain_insts}
 use Rattle.spv_module.specs.declared.fault.Stop.TheVariants as stop
 use Rattle.spv_check.specs.Fork.{fork_of}
-use Rattle.spv_explain.proofs.Shown.{extended_shown, id_shown, layout_shown, refused_broken, the_miscall}
+use Rattle.spv_explain.proofs.Shown.{extended_shown, id_shown, layout_shown, mistyping_shown, refused_broken, the_miscall}
+use Rattle.spv_explain.proofs.Shown.{the_mistyping}
 use Rattle.spv_explain.proofs.evidence.evidence_of.Goals as goal
 
 pub layout_evidence-requires : goal.layout_evidence-requires
@@ -65,3 +66,21 @@ returns-in_ok-extended_evidence-in-Sound c =
     let r = rw c.in-Sound.is at c.requires.refused in
     extended_shown c.args.table.now c.args.reach _ is c.args.fault _ r.0.broken
     c.in_ok-extended_evidence-in-Sound.ensures
+
+pub std_evidence-requires-clause-plan : goal.std_evidence-requires-clause-plan
+std_evidence-requires-clause-plan c = let r = rw c.in-Called.is at c.requires.refused in (c.args.table.now, r.0)
+
+pub std_evidence-requires-clause-ids : goal.std_evidence-requires-clause-ids
+std_evidence-requires-clause-ids c = let r = rw c.in-Called.is at c.requires.refused in r.1.each
+
+pub std_evidence-requires-clause-broken : goal.std_evidence-requires-clause-broken
+std_evidence-requires-clause-broken c =
+    let is = plain_insts c.args.module.now in
+    let r = rw c.in-Called.is at c.requires.refused in
+    (the_mistyping c.args.reach is c.args.fault.rule c.args.fault.inst r.2.0.broken).2
+
+pub returns-in-Called : goal.returns-in-Called
+returns-in-Called c =
+    let is = plain_insts c.args.module.now in
+    let r = rw c.in-Called.is at c.requires.refused in
+    mistyping_shown c.args.table.now c.args.reach _ is c.args.fault _ r.2.0.broken c.std_evidence.ensures

@@ -18,24 +18,24 @@ returns-in-Valid c =
     let j = subst (λ j. IsJudged G reach m.header.bound (plain_insts m) j) c.in-Valid.is c.in_ok-checked.ensures in
     valid_answer G reach c.args.image.now m c.in-Valid.checked c.in-Ok.ensures.header c.in-Ok.ensures.found j
 
-pub evidence_of-requires-clause-words : goal.evidence_of-requires-clause-words
-evidence_of-requires-clause-words c =
+pub shown_and_spelled-requires-clause-words : goal.shown_and_spelled-requires-clause-words
+shown_and_spelled-requires-clause-words c =
     let G = c.args.table.now in
     let reach = c.args.reach in
     let m = c.in-Ok.module in
     let j = subst (λ j. IsJudged G reach m.header.bound (plain_insts m) j) c.in-Broken.is c.in_ok-checked.ensures in
     rw j.same_insts c.in-Ok.ensures.short
 
-pub evidence_of-requires-clause-refused : goal.evidence_of-requires-clause-refused
-evidence_of-requires-clause-refused c =
+pub shown_and_spelled-requires-clause-refused : goal.shown_and_spelled-requires-clause-refused
+shown_and_spelled-requires-clause-refused c =
     let G = c.args.table.now in
     let reach = c.args.reach in
     let m = c.in-Ok.module in
     let j = subst (λ j. IsJudged G reach m.header.bound (plain_insts m) j) c.in-Broken.is c.in_ok-checked.ensures in
     rw (j.same_bound, j.same_insts) j.refused
 
-pub spelled-requires : goal.spelled-requires
-spelled-requires c =
+pub shown_and_spelled-requires-clause-read : goal.shown_and_spelled-requires-clause-read
+shown_and_spelled-requires-clause-read c =
     let G = c.args.table.now in
     let reach = c.args.reach in
     let m = c.in-Ok.module in
@@ -47,13 +47,13 @@ spelled-requires c =
       };
     }
 
-pub returns-in_ok-spelled-in-Broken : goal.returns-in_ok-spelled-in-Broken
-returns-in_ok-spelled-in-Broken c =
+pub returns-in_ok-evidence-in-Broken : goal.returns-in_ok-evidence-in-Broken
+returns-in_ok-evidence-in-Broken c =
     let G = c.args.table.now in
     let reach = c.args.reach in
     let m = c.in-Ok.module in
     let j = subst (λ j. IsJudged G reach m.header.bound (plain_insts m) j) c.in-Broken.is c.in_ok-checked.ensures in
     broken_reading c.one_listing.ensures G reach c.args.image.now m c.in-Broken.module _ c.in-Broken.fault _ _
     c.in-Ok.ensures.header
-    c.in-Ok.ensures.found j c.in_ok-evidence-in-Broken.ensures
-    c.in_ok-spelled-in-Broken.ensures.listing c.in_ok-spelled-in-Broken.ensures.header
+    c.in-Ok.ensures.found j c.in_ok-evidence-in-Broken.ensures.shown
+    c.in_ok-evidence-in-Broken.ensures.listing c.in_ok-evidence-in-Broken.ensures.header

@@ -9,7 +9,7 @@ returns-then-is_read-clause-read c = λ b know.
     let G = c.args.scene.now.table.now in
     let e : c.len-begin.result ≡ length c.args.operands.now.items = omega arith in
     let s1 = c.read_singles-rest.ensures.sofar b (pattern_of c.args.entry.now) know
-    (rw (c.of-items.ensures, c.in_ok-reserve.ensures.items)
+    (rw (c.of-items.ensures, c.operands.ensures, c.in_ok-reserve.ensures.items)
     (at_begin G b c.args.place.opcode (pattern_of c.args.entry.now) c.args.scene.now.image.now c.args.place.first
     c.args.place.end c.len-begin.result c.args.operands.now.items e)) in
     let d = c.if-is_read.ensures refl in
@@ -20,7 +20,7 @@ returns-then-is_read-2-clause-read c = λ b know.
     let G = c.args.scene.now.table.now in
     let e : c.len-begin.result ≡ length c.args.operands.now.items = omega arith in
     let s1 = c.read_singles-rest.ensures.sofar b (pattern_of c.args.entry.now) know
-    (rw (c.of-items.ensures, c.in_ok-reserve.ensures.items)
+    (rw (c.of-items.ensures, c.operands.ensures, c.in_ok-reserve.ensures.items)
     (at_begin G b c.args.place.opcode (pattern_of c.args.entry.now) c.args.scene.now.image.now c.args.place.first
     c.args.place.end c.len-begin.result c.args.operands.now.items e)) in
     let s2 = c.read_parameters-rest.ensures.sofar b (pattern_of c.args.entry.now) know s1 in
@@ -32,7 +32,7 @@ returns-then-is_read-3-clause-read c = λ b know.
     let G = c.args.scene.now.table.now in
     let e : c.len-begin.result ≡ length c.args.operands.now.items = omega arith in
     let s1 = c.read_singles-rest.ensures.sofar b (pattern_of c.args.entry.now) know
-    (rw (c.of-items.ensures, c.in_ok-reserve.ensures.items)
+    (rw (c.of-items.ensures, c.operands.ensures, c.in_ok-reserve.ensures.items)
     (at_begin G b c.args.place.opcode (pattern_of c.args.entry.now) c.args.scene.now.image.now c.args.place.first
     c.args.place.end c.len-begin.result c.args.operands.now.items e)) in
     let s2 = c.read_parameters-rest.ensures.sofar b (pattern_of c.args.entry.now) know s1 in
@@ -45,7 +45,7 @@ returns-clause-read c = λ b know.
     let G = c.args.scene.now.table.now in
     let e : c.len-begin.result ≡ length c.args.operands.now.items = omega arith in
     let s1 = c.read_singles-rest.ensures.sofar b (pattern_of c.args.entry.now) know
-    (rw (c.of-items.ensures, c.in_ok-reserve.ensures.items)
+    (rw (c.of-items.ensures, c.operands.ensures, c.in_ok-reserve.ensures.items)
     (at_begin G b c.args.place.opcode (pattern_of c.args.entry.now) c.args.scene.now.image.now c.args.place.first
     c.args.place.end c.len-begin.result c.args.operands.now.items e)) in
     let s2 = c.read_parameters-rest.ensures.sofar b (pattern_of c.args.entry.now) know s1 in
@@ -57,7 +57,7 @@ returns-clause-misfit c = λ b know.
     let G = c.args.scene.now.table.now in
     let e : c.len-begin.result ≡ length c.args.operands.now.items = omega arith in
     let s1 = c.read_singles-rest.ensures.sofar b (pattern_of c.args.entry.now) know
-    (rw (c.of-items.ensures, c.in_ok-reserve.ensures.items)
+    (rw (c.of-items.ensures, c.operands.ensures, c.in_ok-reserve.ensures.items)
     (at_begin G b c.args.place.opcode (pattern_of c.args.entry.now) c.args.scene.now.image.now c.args.place.first
     c.args.place.end c.len-begin.result c.args.operands.now.items e)) in
     let s2 = c.read_parameters-rest.ensures.sofar b (pattern_of c.args.entry.now) know s1 in

@@ -13,6 +13,6 @@ returns c =
       shown = a.shown;
       all = whole_text (header_lines c.args.module.now.header) a.lines (string_bytes c.push_header.new.out)
           (string_bytes c.push_lines.new.out)
-          (string_bytes c.new-out.result) c.new-out.ensures.bytes c.in_ok-push_header.ensures
+          (string_bytes c.in_ok-out.out) c.in_ok-out.ensures.bytes c.in_ok-push_header.ensures
           (c.in_ok-push_lines.ensures a.lines a.shown);
     }

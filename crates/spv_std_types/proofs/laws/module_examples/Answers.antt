@@ -1,10 +1,10 @@
-use Rattle.std.proofs.Common.{◌≡◌, [], ◌∷◌, ◌++◌, refl}
+use Rattle.std.proofs.Common.{◌≡◌, [], ◌∷◌, refl}
 use Rattle.spv_module.specs.declared.opcode.TheConstants as opcode
 use Rattle.spv_type_forms.specs.Example.{inst}
 use Rattle.spv_extended.specs.declared.set.Set.TheVariants.{OpenClStd, OpenClDebugInfo}
-use Rattle.spv_std_types.specs.Example.{call, of, small, types, value}
+use Rattle.spv_std_types.specs.Example.{call, of, small, value}
 use Rattle.spv_std_types.specs.Table.{lines}
-use Rattle.spv_std_types.proofs.Worked.{apart, broken, kept, none_first, not_called}
+use Rattle.spv_std_types.proofs.Worked.{kept, none_first, not_called, unlike_mistyped}
 use Rattle.spv_std_types.proofs.laws.module_examples.Goals as goal
 
 pub returns-clause-other_set : goal.returns-clause-other_set
@@ -15,14 +15,7 @@ unfolding lines
 returns-clause-no_number c = kept small 5 99 1 111 (of 5 ∷ []) tt
 
 pub returns-clause-mistyped : goal.returns-clause-mistyped
-unfolding lines
-returns-clause-mistyped c = record {
-  inst = _;
-  there = refl;
-  called = refl;
-  mistyped = broken (types ++ value 8 ∷ inst opcode.EXT_INST (call 9 0 (of 8 ∷ [])) ∷ []) 9 99 1 0 (of 8 ∷ []) 1 _ refl refl
-      (refl, tt) (apart 8 9 refl);
-}
+returns-clause-mistyped c = unlike_mistyped
 
 pub returns-clause-no_call : goal.returns-clause-no_call
 returns-clause-no_call c = λ a b. not_called (value 8 ∷ inst opcode.F_NEGATE (call 9 0 (of 8 ∷ [])) ∷ []) 1 a
