@@ -5,8 +5,8 @@ The modules are those of tests/shapes/faults.py, and two of hostile.py, and what
 they are made.
 """
 
-from shapes.faults import EXTENDED
 from shapes.faults import FAULTS as SHAPES
+from shapes.faults import OPTIONS
 from shapes.hostile import BESIDE, HOSTILE, WAVES
 from shapes.module import ENTRY, FIRST_FREE, INT, KERNEL, Module
 
@@ -195,6 +195,10 @@ def miscall(_):
     return ["number: 157", "operands: 3", "least: 2", "most: 2"]
 
 
+def mistyped(insts):
+    return [f"operand: 5 %{insts.operands(-3)[5]}"]
+
+
 def irreducible_fault(insts):
     of = FIRST + 5
     walk = [ENTRY, FIRST + 2, FIRST + 3, *range(FIRST + 7, insts.operands(-4)[0] + 1, 2)]
@@ -244,7 +248,7 @@ def fault(name, rule, wanted):
         {**SHAPES, **HOSTILE}[name](made)
         module = folder / f"{name}.spv"
         made.write(module)
-        words = ("--grammar", PROFILE, *["--extended"] * (name in EXTENDED), module)
+        words = ("--grammar", PROFILE, *filter(None, [OPTIONS.get(name)]), module)
         plainly, explained = (measured(program, [command, *words], folder) for command in ("check", "explain"))
         wrong = wrong_lines(rule, wanted(Insts(made)), lines_of(plainly), lines_of(explained))
         if wrong is not None or (plainly.status, explained.status) != (1, 1):
@@ -286,6 +290,7 @@ FAULTS = {
     undefined_argument: "D3",
     late_argument: "A1",
     miscall: "Y9",
+    mistyped: "Y10",
     irreducible_fault: "A1",
     waves_fault: "A1",
 }

@@ -32,7 +32,7 @@ ANSWERING = (
     "spv_flow",
     "spv_check",
 )
-EVIDENCE = "spv_*evidence/specs/**/*.antt"
+EVIDENCE = ("spv_*evidence/specs/**/*.antt", "spv_explain/specs/Mistyped.antt")
 CONSTRUCTOR = re.compile(r"^  ([a-z]\w*) :", re.M)
 FUNCTION = re.compile(r"^\s*(?:pub(?:\([^)]*\))? )?fn (\w+)")
 # What only reads a code that another function answered: an arm of a match, a test, a line of the proof.
@@ -106,7 +106,7 @@ def functions(code):
 def evidence(code):
     """The constructors of evidence of a code."""
     found = []
-    for path in sorted(CRATES.glob(EVIDENCE)):
+    for path in sorted(it for files in EVIDENCE for it in CRATES.glob(files)):
         for name in ("Shows", "IsEvidence"):
             if name in believed.read(path)[0] and "/inner/" not in str(path):
                 found.append(named(path, name, code, every=True))

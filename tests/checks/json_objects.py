@@ -372,10 +372,10 @@ def seldom(folder):
 
 
 def each_code(program, folder):
-    """There is an object of every code that `explain` can answer: W2 to W8, I1 to G1, and Y9."""
+    """There is an object of every code that `explain` can answer: W2 to W8, I1 to G1, Y9 and Y10."""
     paths, found = paths_of(folder), set()
     for at in range(0, len(paths), BATCH):
-        for flags in ([], [EXTENDED]):
+        for flags in PROFILES.values():
             told = judged(program, folder, "check", JSON, *flags, *paths[at : at + BATCH]).out
             found |= {it.get("code") for it in objects(told)}
     others = list(seldom(folder))

@@ -11,7 +11,7 @@ import shutil
 import struct
 import subprocess
 
-from shapes.faults import EXTENDED, FAULTS
+from shapes.faults import FAULTS, OPTIONS
 from shapes.module import Module
 
 from .cases import all_cases, laid_out, wanted_answer
@@ -98,7 +98,7 @@ def explained(name, folder):
         FAULTS[name](made)
         module = folder / f"{name}.spv"
         made.write(module)
-    flags = ["--extended"] if name in EXTENDED else []
+    flags = [OPTIONS[name]] if name in OPTIONS else []
     return ["explain", *flags, "--grammar", TESTS / "profile.json", module]
 
 

@@ -330,6 +330,14 @@ static const calling CALLS_OF_SETS[] = {
     {CALLING("DebugInfo", "9999 %5"), SPVK_VALID, NULL},   // of which no more is asked
 };
 
+// The same of modules whose types are looked at, or not.
+static const calling CALLS_OF_TYPES[] = {
+    {CALLING("OpenCL.std", "61 %6"), SPVK_VALID, NULL},    // sqrt of a float
+    {CALLING("OpenCL.std", "141 %6"), SPVK_Y10, "Y10"},    // s_abs of a float
+    {CALLING("OpenCL.std", "61 %6 %6"), SPVK_Y9, "Y9"},    // sqrt of two
+    {CALLING("DebugInfo", "141 %6"), SPVK_VALID, NULL},    // another set
+};
+
 // What the calls by a flag say of a module: the code, at the place of its extended instruction.
 static int looked_at(const spvk_grammar *grammar, file module, uint32_t flags, uint32_t code, const char *name) {
     spvk_verdict verdict = UNTOUCHED;
@@ -351,6 +359,23 @@ static int looked_at(const spvk_grammar *grammar, file module, uint32_t flags, u
     CHECK(spvk_explain_json_with(grammar, module.bytes, module.size, flags, &verdict, &buffer) == SPVK_OK);
     CHECK(is_verdict(verdict, code, inst, word) && begins(buffer, member));
     spvk_buffer_delete(&buffer);
+    return 0;
+}
+
+// Types of extended instructions are looked at by the flag for OpenCL alone.
+static int typed(const spvk_grammar *grammar) {
+    for (size_t at = 0; at < sizeof CALLS_OF_TYPES / sizeof *CALLS_OF_TYPES; at++) {
+        const calling it = CALLS_OF_TYPES[at];
+        const bool is_of_types = it.code == SPVK_Y10;
+        spvk_fault fault = UNTOUCHED_FAULT;
+        spvk_buffer made = unread();
+        CHECK(spvk_assemble(grammar, (const uint8_t *)it.text, strlen(it.text), false, &fault, &made) == SPVK_OK);
+        const file module = {(uint8_t *)made.data, made.size};
+        CHECK(looked_at(grammar, module, SPVK_OPENCL, it.code, it.name) == 0);
+        CHECK(looked_at(grammar, module, SPVK_OPENCL | SPVK_EXTENDED, it.code, it.name) == 0);
+        CHECK(looked_at(grammar, module, SPVK_EXTENDED, is_of_types ? SPVK_VALID : it.code, it.name) == 0);
+        spvk_buffer_delete(&made);
+    }
     return 0;
 }
 
@@ -554,7 +579,7 @@ int main(int count, char **words) {
     failed = checks(&grammar, module) || longest(&grammar) || explanations(&grammar, module, lines);
     failed = failed || objects(&grammar, module);
     failed = failed || texts(&grammar, module, shown) || modules(&grammar, module, shown) || rules();
-    failed = failed || flags(&grammar, module, shown) || extended(&grammar) || raw_calls(&grammar, module);
+    failed = failed || flags(&grammar, module, shown) || extended(&grammar) || typed(&grammar) || raw_calls(&grammar, module);
     failed = failed || built_in(module, shown) || statuses();
     CHECK(!failed);
     CHECK(errno == 0);

@@ -358,6 +358,13 @@ def miscall(module):
     closed(module)
 
 
+def mistyped(module):
+    """Y10: very many extended instructions, and one of a bool."""
+    std, value = put_maths(module)
+    module.put(op.EXT_INST, INT, module.fresh(), std, 157, value, TRUE)
+    closed(module)
+
+
 FAULTS = {
     fault.__name__.replace("_", "-"): fault
     for fault in (
@@ -387,7 +394,8 @@ FAULTS = {
         undefined_argument,
         late_argument,
         miscall,
+        mistyped,
     )
 }
-# Those that break their rule only by `--extended`.
-EXTENDED = ("undefined-argument", "late-argument", "miscall")
+# The options by which alone some of them break their rule.
+OPTIONS = {**dict.fromkeys(("undefined-argument", "late-argument", "miscall"), "--extended"), "mistyped": "--opencl"}

@@ -236,6 +236,16 @@ class Calls(unittest.TestCase):
         self.assertEqual((found.least, found.most), (1, 1))
         self.assertTrue(self.grammar.check(self.grammar.assemble(call.replace("%11 %11", "%11")), extended=True))
 
+    def test_types_of_calls(self):
+        text = (TOP / "tests/modules/inside-of-an-extended-instruction.spvasm").read_text(encoding="utf-8")
+        call = text.replace('"x"', '"OpenCL.std"').replace("%5 7 %0 %99 %2 %1", "%5 61 %11")
+        module = self.grammar.assemble(call)
+        self.assertTrue(self.grammar.check(module, extended=True))
+        told = self.grammar.check(module, opencl=True)
+        self.assertEqual((told.number, str(told)), (510, "fault Y10 inst 13 word 47"))
+        found = self.grammar.evidence(module, opencl=True)
+        self.assertEqual((found.verdict, found.operand.index), (told, 0))
+
     def test_texts_and_back(self):
         text = self.grammar.show(self.kernel)
         self.assertTrue(text.startswith("; SPIR-V\n"))
@@ -281,7 +291,7 @@ class Calls(unittest.TestCase):
 
     def test_rules(self):
         names = [name for name in map(spvk.rule_name, range(1300)) if name]
-        self.assertEqual((len(names), len(set(names))), (50, 50))
+        self.assertEqual((len(names), len(set(names))), (51, 51))
         self.assertEqual((spvk.rule_name(107), spvk.rule_name(-1), spvk.rule_name(1 << 40)), ("I7", None, None))
         self.assertEqual(spvk.version(), spvk.__version__)
 

@@ -180,6 +180,25 @@ fn calls_of_what_a_set_does_not_have() {
 }
 
 #[test]
+fn types_of_calls() {
+    let grammar = grammar();
+    let text = "; SPIR-V\n; Version: 1.6\n; Generator: 0\n; Bound: 12\n; Schema: 0\n\
+        OpCapability Addresses\nOpCapability Kernel\n%9 = OpExtInstImport \"OpenCL.std\"\n\
+        OpMemoryModel Physical64 OpenCL\nOpEntryPoint Kernel %3 \"k\"\n%1 = OpTypeVoid\n\
+        %5 = OpTypeFloat 32\n%6 = OpConstant %5 0x3f800000\n%2 = OpTypeFunction %1\n\
+        %3 = OpFunction %1 None %2\n%4 = OpLabel\n%7 = OpExtInst %5 %9 141 %6\nOpReturn\n\
+        OpFunctionEnd\n";
+    let module = grammar.assemble(text, ByteOrder::Little).unwrap();
+    assert_eq!(
+        grammar.check_with(&module, Version::AsTold.extended()),
+        Ok(Verdict::Valid)
+    );
+    let told = grammar.check_with(&module, Judging::opencl()).unwrap();
+    assert_eq!(told.to_string(), "fault Y10 inst 11 word 40");
+    assert_eq!(told.fault().unwrap().code, Code::new(510).unwrap());
+}
+
+#[test]
 fn refused_grammars() {
     assert_eq!(Grammar::new(b"").unwrap_err(), GrammarError::J1);
     let error: Box<dyn Error> = Box::new(Grammar::new(b"{}").unwrap_err());
