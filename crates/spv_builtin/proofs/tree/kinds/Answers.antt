@@ -3,8 +3,8 @@ use Rattle.spv_grammar.specs.Tree.{kind_tree}
 use Rattle.spv_builtin.proofs.Trees.{one_more, never_past}
 use Rattle.spv_builtin.proofs.tree.kinds.Goals as goal
 
-pub unreachable-requires-in_default : goal.unreachable-requires-in_default
-unreachable-requires-in_default c = never_past c.args.sorts.now c.loop-place.place c.in_default.ensures (omega arith)
+pub unreachable-requires : goal.unreachable-requires
+unreachable-requires c = never_past c.args.sorts.now c.loop-place.place c.in_default.ensures (omega arith)
 
 pub loop-place-preserved : goal.loop-place-preserved
 loop-place-preserved c =

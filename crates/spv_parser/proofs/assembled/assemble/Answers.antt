@@ -23,7 +23,7 @@ returns-in_err-assemble_lines-clause-failed c =
 pub returns-clause-read : goal.returns-clause-read
 returns-clause-read c =
     let h = c.in_ok-header.ensures in
-    let o = c.in_ok-put_words.ensures ∙ ap (λ z. z ++ five_words c.in_ok-header.header) c.new-draft.ensures in
+    let o = c.in_ok-put_words.ensures ∙ ap (λ z. z ++ five_words c.in_ok-header.header) c.in_ok-draft.ensures in
     text_read c.args.table.now c.args.text.now c.in_ok-header.header
     (lines_of c.in_ok-header.rest.now) c.put_words.new.draft c.assemble_lines.new.draft c.finish.result h.fits
     h.small h.lines o c.in_ok-assemble_lines.ensures.read c.finish.ensures

@@ -3,7 +3,7 @@ use Rattle.spv_parser.proofs.line.named_again.Goals as goal
 
 pub returns-then-is_break : goal.returns-then-is_break
 returns-then-is_break c = λ G known.
-    let n = c.in-Some.named.now in
+    let n = c.in-Some.named in
     let i = rw c.in-Some.is at known in
     let rest = c.in-Some-strip_prefix.rest.now in
     let s = stripped n.entry.name c.args.text.now rest

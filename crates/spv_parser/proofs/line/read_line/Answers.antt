@@ -38,7 +38,7 @@ returns-in-Some-fast-clause-read c = λ before k.
     let G = c.args.setting.now.table.now in
     let n = c.in-Some-name_in.named in
     let a = rw c.in-Some-fast.is at (c.in_ok-fast.ensures.read before k) in
-    let a' = rw c.in-Some-name_in.ensures.named.1 at a in
+    let a' = rw (c.operands-pattern.ensures, c.in-Some-name_in.ensures.named.1) at a in
     let f = rw c.in-Some-fast.is at c.in_ok-fast.ensures.front in
     line_read G before c.args.line.now _ _ n.opcode n.entry c.in-Some-fast.line.result c.in-Some-fast.line
     (sym c.in-Some.ensures) c.in-Some-name_in.ensures.named.0 f a'
@@ -50,7 +50,8 @@ returns-in_err-line-clause-failed c =
     let G = c.args.setting.now.table.now in
     let n = c.in-Some-name_in.named in
     let h = c.in_ok-result_id.ensures (start before n.opcode) n.entry c.in-Some-name_in.ensures.named.0.known in
-    let f = rw c.in-Some-name_in.ensures.named.1 at (c.in_err-line.ensures.failed before k) in
+    let f = rw (c.operands-pattern.ensures, c.in-Some-name_in.ensures.named.1)
+    at (c.in_err-line.ensures.failed before k) in
     rw (q.1, q.2) (line_operands_failed G before written c.args.line.now _ n.opcode n.entry
     c.in_ok-result_id.result_id _ (sym c.in-Some.ensures) c.in-Some-name_in.ensures.named.0 h f)
 
@@ -59,6 +60,7 @@ returns-clause-read c = λ before k.
     let G = c.args.setting.now.table.now in
     let n = c.in-Some-name_in.named in
     let h = c.in_ok-result_id.ensures (start before n.opcode) n.entry c.in-Some-name_in.ensures.named.0.known in
-    let f = rw c.in-Some-name_in.ensures.named.1 at (c.in_ok-line.ensures.read before k) in
+    let f = rw (c.operands-pattern.ensures, c.in-Some-name_in.ensures.named.1)
+    at (c.in_ok-line.ensures.read before k) in
     line_read G before c.args.line.now _ _ n.opcode n.entry c.in_ok-result_id.result_id c.in_ok-line.line
     (sym c.in-Some.ensures) c.in-Some-name_in.ensures.named.0 (result_text _ _ h.0) f

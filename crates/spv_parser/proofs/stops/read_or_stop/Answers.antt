@@ -28,7 +28,8 @@ returns-in_ok-outcome-in-Ok c = λ before written k.
     let n = c.in-Some-look_up.named in
     let i = rw c.split_token-2.ensures.token at c.in-Some-look_up.ensures in
     let h = c.in-Ok.ensures (start before n.opcode) n.entry i.known in
-    let f = rw c.split_token-2.ensures.rest at (c.in_ok-outcome-in-Ok.ensures before k) in
+    let f = rw (c.operands-pattern.ensures, c.split_token-2.ensures.rest)
+    at (c.in_ok-outcome-in-Ok.ensures before k) in
     outcome_of G before written c.args.line.now _ _ n.opcode n.entry c.in-Ok.result_id _
     (sym c.in-Some.ensures) i h f
 

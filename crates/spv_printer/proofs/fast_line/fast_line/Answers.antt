@@ -23,7 +23,8 @@ returns c =
       some = omega (arith, c.if-count-eq0.false);
       within = omega (arith, c.if-count-len.false, c.len.ensures.words, c.requires.fits);
       read = λ before k. is_instruction G before words c.args.at (head / 65536)
-          (head % 65536) c.in-Some.entry w.operands f n l e (w.matches before (head % 65536) k);
+          (head % 65536) c.in-Some.entry w.operands f n l e
+          (rw c.operands-pattern.ensures at (w.matches before (head % 65536) k));
       text = λ before further line k s.
           c.in_ok-push_str.ensures.bytes
           ∙ ap (λ z. string_bytes c.args.out.now ++ z)
