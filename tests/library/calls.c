@@ -366,14 +366,14 @@ static int looked_at(const spvk_grammar *grammar, file module, uint32_t flags, u
 static int typed(const spvk_grammar *grammar) {
     for (size_t at = 0; at < sizeof CALLS_OF_TYPES / sizeof *CALLS_OF_TYPES; at++) {
         const calling it = CALLS_OF_TYPES[at];
-        const bool is_of_types = it.code == SPVK_Y10;
+        const uint32_t otherwise = it.code == SPVK_Y10 ? (uint32_t)SPVK_VALID : it.code;
         spvk_fault fault = UNTOUCHED_FAULT;
         spvk_buffer made = unread();
         CHECK(spvk_assemble(grammar, (const uint8_t *)it.text, strlen(it.text), false, &fault, &made) == SPVK_OK);
         const file module = {(uint8_t *)made.data, made.size};
         CHECK(looked_at(grammar, module, SPVK_OPENCL, it.code, it.name) == 0);
         CHECK(looked_at(grammar, module, SPVK_OPENCL | SPVK_EXTENDED, it.code, it.name) == 0);
-        CHECK(looked_at(grammar, module, SPVK_EXTENDED, is_of_types ? SPVK_VALID : it.code, it.name) == 0);
+        CHECK(looked_at(grammar, module, SPVK_EXTENDED, otherwise, it.name) == 0);
         spvk_buffer_delete(&made);
     }
     return 0;
