@@ -69,8 +69,8 @@ fn refused<'a>(stop: Stop, module: Module<'a>, reached: Reached) -> Result<Judge
 /// Looks for the first rule that a module breaks, stage by stage: the shapes and the layout, the ids, their roles, then
 /// capabilities, entry points and types, where branches lead, values on every walk, and cycles of calls (own). Where
 /// one is broken, the module comes back with what the stages before made. `reach` is how far the module is looked at,
-/// as `read` answered it; where its extended instructions are looked at, what they take is asked after that (Y9), and of a
-/// kernel of OpenCL at last the types of its calls of OpenCL.std (Y10).
+/// as `read` answered it; where its extended instructions are looked at, what they take is asked after that (Y9), and
+/// of a kernel of OpenCL at last the types of its calls of OpenCL.std (Y10).
 ///
 /// `Memory` comes only where a growth of memory was refused.
 pub fn judge<'a>(
@@ -101,8 +101,9 @@ pub fn judge<'a>(
         Ok(flow) => flow,
         Err(stop) => return refused(stop, module, Reached::Typed(plan, ids)),
     };
-    if let Err(stop) = extended_check(alloc, reach, &module, &plan) {
-        return refused(stop, module, Reached::Sound);
+    match extended_check(alloc, reach, &module, &plan) {
+        Ok(()) => (),
+        Err(stop) => return refused(stop, module, Reached::Sound),
     }
     match std_types_check(reach, &module, &plan, &ids) {
         Ok(()) => Ok(Judged::Valid(Checked::new(module, plan, ids, flow))),

@@ -64,7 +64,7 @@ new-requires c =
     let flow = rw c.fork_of.ensures at (c.in-Ok-flow_check.ensures.flow G plan ids) in
     let laid = rw c.profile_of.ensures at c.in-Ok.ensures.laid_out in
     let p = program_of c.args.module in
-    let y9 = c.in_default-extended_check.ensures.unbroken in
+    let y9 = c.in-Ok-extended_check.ensures.unbroken in
     let y10 = c.in-Ok-std_types_check.ensures.unbroken in
     let kept = kept_of G reach p _ _ c.requires.short laid ids types.roles types.capabilities types.rules u flow y9 y10 in
     let w = c.requires.words in
@@ -94,7 +94,7 @@ returns-in-Ok-std_types_check c =
     let flow = rw c.fork_of.ensures at (c.in-Ok-flow_check.ensures.flow G plan ids) in
     let laid = rw c.profile_of.ensures at c.in-Ok.ensures.laid_out in
     let p = program_of c.args.module in
-    let y9 = c.in_default-extended_check.ensures.unbroken in
+    let y9 = c.in-Ok-extended_check.ensures.unbroken in
     let y10 = c.in-Ok-std_types_check.ensures.unbroken in
     let kept = kept_of G reach p _ _ c.requires.short laid ids types.roles types.capabilities types.rules u flow y9 y10 in
     let none = planned reach G _ (c.member_or_dead.ensures.not_both (profile_of reach)) laid in
@@ -116,7 +116,7 @@ returns-in-Err-std_types_check c =
     let p = program_of c.args.module in
     let none = planned reach G _ (c.member_or_dead.ensures.not_both (profile_of reach)) laid in
     let most = up_to_calls G reach p.bound p.insts _ _ none ids u flow in
-    let y9 = c.in_default-extended_check.ensures.unbroken in
+    let y9 = c.in-Ok-extended_check.ensures.unbroken in
     let h = c.in-Err-std_types_check.ensures.refused in
     refused_so G reach c.args.module _ c.in-Err-std_types_check.stop _ c.refused-in-Err-std_types_check.ensures
     (told_std_types G reach p.bound p.insts c.in-Err-std_types_check.stop most y9 h) (plan, ids, h)
