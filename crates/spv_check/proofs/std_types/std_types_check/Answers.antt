@@ -1,5 +1,7 @@
 use Rattle.std.proofs.Common.{◌∙◌, ◌≡◌, None, Some, ap, length, map, sym, subst, arith}
+use Rattle.std.proofs.lemmas.List.{length-map}
 use Rattle.spv_module.specs.Module.{plain_inst, plain_insts}
+use Rattle.spv_layout.specs.Place.{IsShort}
 use Rattle.spv_layout.proofs.Misfits.{short_list}
 use Rattle.spv_ids.specs.Outcome.{IsDefinitionOf, definition_in}
 use Rattle.spv_std_types.specs.Mistyped.{IsFirstMistyped}
@@ -16,12 +18,20 @@ new-definitions-requires-clause-ids c = λ x.
     subst (λ is. IsDefinitionOf is x (definition_in c.args.ids.now x))
     (ap (λ items. map plain_inst items) (sym c.as_slice-insts.ensures.value)) (c.requires.ids x)
 
+pub overflow_cast-insts : goal.overflow_cast-insts
+overflow_cast-insts c =
+    let xs = c.as_slice-insts.result.now in
+    let s = short_list (map plain_inst xs) in
+    let l = length-map xs plain_inst in
+    let q : IsShort (map plain_inst xs) = rw c.as_slice-insts.ensures.value c.requires.words in
+    omega arith
+
 pub first_mistyped-requires : goal.first_mistyped-requires
 first_mistyped-requires c =
-    let is = plain_insts c.args.module.now in
-    let s = short_list is in
-    let v = ap length (c.new-definitions.ensures ∙ ap (λ items. map plain_inst items) c.as_slice-insts.ensures.value) in
-    omega (arith, s, v, c.requires.words)
+    let xs = c.as_slice-insts.result.now in
+    let v = ap length c.new-definitions.ensures in
+    let l = length-map xs plain_inst in
+    omega (arith, v, l)
 
 pub stop_at-requires : goal.stop_at-requires
 stop_at-requires c =
