@@ -21,7 +21,7 @@ operand_shown G minor bound =
 
 at_operand : (r : Rule) (n : ℕ) (e : Evidence) → mistyped.IsEvidence unlike r n e → n ≡ 22 → e ≡ Operand 0 → ⊥
 at_operand _ _ _ (mistyped.IsEvidence.mistyped n a m) k same =
-    let one = ap operand_of (one_told unlike 22 a _ (rw k at m) unlike_mistyped) in
+    let one : operand_of a ≡ 4 = ap operand_of (one_told unlike 22 a _ (rw k at m) unlike_mistyped) in
     let zero : operand_of a ≡ 0 = cc in
     omega (arith, one, zero)
 

@@ -20,7 +20,7 @@ mistyping_at-requires c =
 pub unreachable-requires : goal.unreachable-requires
 unreachable-requires c =
     let same = c.new-definitions.ensures ∙ ap (λ items. map plain_inst items) c.as_slice.ensures.value in
-    c.in-None.ensures (subst (λ is. IsMistyped is c.args.inst) (sym same) c.requires.broken)
+    c.in_default.ensures (subst (λ is. IsMistyped is c.args.inst) (sym same) c.requires.broken)
 
 pub returns : goal.returns
 returns c =
