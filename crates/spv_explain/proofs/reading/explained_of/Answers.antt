@@ -41,10 +41,8 @@ shown_and_spelled-requires-clause-read c =
     let m = c.in-Ok.module in
     let j = subst (λ j. IsJudged G reach m.header.bound (plain_insts m) j) c.in-Broken.is c.in_ok-checked.ensures in
     record {
-      read = record {
-        reading = subst (λ is. IsReading G reach is (drop 5 c.args.image.now)) (sym j.same_insts) c.in-Ok.ensures.found;
-        bound = j.same_bound ∙ c.in-Ok.ensures.header.bound;
-      };
+      reading = subst (λ is. IsReading G reach is (drop 5 c.args.image.now)) (sym j.same_insts) c.in-Ok.ensures.found;
+      bound = j.same_bound ∙ c.in-Ok.ensures.header.bound;
     }
 
 pub returns-in_ok-evidence-in-Broken : goal.returns-in_ok-evidence-in-Broken
