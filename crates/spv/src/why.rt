@@ -168,11 +168,11 @@ impl<'a> Why<'a> {
         }
     }
 
-    /// The entry points of the module, as far as it is at hand.
+    /// The entry points of the module, which is at hand but where memory is short.
     fn entries(&self, at_hand: AtHand<'_, '_>) -> Result<String, AllocError> {
         match at_hand.module {
             Some(module) => entry_points(self.alloc, module),
-            None => Ok(String::new(self.alloc)),
+            None => Err(AllocError),
         }
     }
 
