@@ -9,6 +9,6 @@ mod operands;
 mod queries;
 mod values;
 
-pub use operands::use_id;
+pub use operands::{use_id, used};
 pub use queries::{pair_query, use_query};
 pub use values::check_values;
