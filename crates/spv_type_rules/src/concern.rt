@@ -24,8 +24,9 @@ pub enum Concern {
 
 /// For each opcode below that of OpNamedBarrierInitialize the number of what the rules of types ask of it; all from
 /// there on are operations. 0: nothing. 1: nothing, and it is silent. 2: it declares a type that may be declared once
-/// only. 3: it declares another type. 4: it is a constant. 5: it begins a function or is a parameter. 6: it returns. 7: it
-/// is a call. 8: it is an operation. 9: it is an operation, and silent. A proof compares it with the functions below.
+/// only. 3: it declares another type. 4: it is a constant. 5: it begins a function or is a parameter. 6: it returns.
+/// 7: it is a call. 8: it is an operation. 9: it is an operation, and silent. A proof compares it with the functions
+/// below.
 static TURNS: [u8; 328] = [
     1, 9, 1, 1, 1, 1, 1, 1, 1, 1, 1, 1, 9, 1, 1, 1, 1, 1, 0, 2, 2, 2, 2, 2, 2, 2, 2, 2, 3, 3, 3, 2,
     3, 2, 2, 2, 2, 2, 2, 3, 0, 4, 4, 4, 4, 4, 4, 4, 4, 4, 4, 4, 0, 0, 5, 5, 1, 7, 0, 8, 8, 8, 8, 8,

@@ -89,8 +89,8 @@ typed_at G zero k x r i at u =
     (subst (λ (j : PlainInst). IsUse G j k x r) same u)
 typed_at G (suc zero) k x r i at u =
     let same : i ≡ inst opcode.UNDEF (OfType 1 ∷ Result 2 ∷ []) = cc in
-    played G typed (inst opcode.UNDEF (OfType 1 ∷ Result 2 ∷ [])) types_alone refl (inl (lit≤ tt, lit≤ tt), (tt, tt)) k x
-    r
+    played G typed (inst opcode.UNDEF (OfType 1 ∷ Result 2 ∷ [])) types_alone refl
+    (inl (lit≤ tt, lit≤ tt), (tt, tt)) k x r
     (subst (λ (j : PlainInst). IsUse G j k x r) same u)
 typed_at G (suc (suc n)) k x r i at u = cc
 
@@ -171,11 +171,14 @@ extended_at G o _ _ p e (Broken.miscast n k x q u never) =
 extended_unbroken : (G : Table) (o : Plain) → AreExtended o → ¬ (Broken G (with_extended o) Y1 5)
 extended_unbroken G o p b = extended_at G o Y1 5 p refl b
 
+no_function : opcode.UNDEF ≡ opcode.FUNCTION → ⊥
+no_function e = let no : 1 ≡ 54 = e in omega (arith, no)
+
 pub argument_unbroken : (G : Table) → ¬ (Broken G (with_extended (Argument 2)) Y1 5)
 argument_unbroken G =
     extended_unbroken G (Argument 2) (
       inl (lit≤ tt, lit≤ tt),
-      (tt, (refl, (tt, ((refl, λ (e : opcode.UNDEF ≡ opcode.FUNCTION). let no : 1 ≡ 54 = e in omega (arith, no)), tt)))),
+      (tt, (refl, (tt, ((refl, no_function), tt)))),
     )
 
 pub unseen_unbroken : (G : Table) → ¬ (Broken G (with_extended (Id 1)) Y1 5)

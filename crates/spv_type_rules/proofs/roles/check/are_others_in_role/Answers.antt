@@ -18,4 +18,5 @@ returns-then-inst-eq-EXT_INST c = λ G f.
     c.are_extended_played.ensures
     in
     let asked : asked_of c.args.inst.now.opcode ≡ Some a = rw e refl in
-    judged G is (plain_inst c.args.inst.now) a (length c.args.inst.now.operands) c.are_extended_played.result asked f played
+    judged G is (plain_inst c.args.inst.now) a (length c.args.inst.now.operands) c.are_extended_played.result asked f
+    played
