@@ -9,7 +9,7 @@ import re
 
 from .common import Check, Unusable
 from .opcodes import CRATES, PART, text
-from .operations import PAGE, words
+from .operations import PAGE, words, with_table
 
 TABLE = CRATES / "spv_std_types/src/table.rt"
 NAMES = CRATES / "spv_annotate/src/opencl.rt"
@@ -113,10 +113,7 @@ def table():
 
 def page(now):
     """The page, of which this is the text, with the table that it must hold."""
-    found = re.search(re.escape(HEAD) + r"(?:\|.*\n)*", now)
-    if not found:
-        raise Unusable(f"{PAGE} has no {HEAD.splitlines()[0]!r}")
-    return now[: found.start()] + table() + now[found.end() :]
+    return with_table(now, HEAD, table())
 
 
 def wrong_page(_program, _folder):

@@ -125,13 +125,17 @@ def table():
     return HEAD + "".join(rows)
 
 
+def with_table(now, head, lines):
+    """A text of the page, with this table in place of the one that has this head."""
+    found = re.search(re.escape(head) + r"(?:\|.*\n)*", now)
+    if not found:
+        raise Unusable(f"{PAGE} has no {head.splitlines()[0]!r}")
+    return now[: found.start()] + lines + now[found.end() :]
+
+
 def page():
     """The page with the table that it must hold."""
-    now = text(PAGE)
-    found = re.search(re.escape(HEAD) + r"(?:\|.*\n)*", now)
-    if not found:
-        raise Unusable(f"{PAGE} has no {HEAD.splitlines()[0]!r}")
-    return now[: found.start()] + table() + now[found.end() :]
+    return with_table(text(PAGE), HEAD, table())
 
 
 def wrong_page(_program, _folder):

@@ -9,7 +9,7 @@ import re
 
 from .common import Check, Unusable
 from .opcodes import LAYOUT, OPCODES_OF, PART, opcodes, text
-from .operations import MOST, PAGE, name
+from .operations import MOST, PAGE, name, with_table
 
 HEAD = "| Opcodes of OpenCL | Names | Operands |\n|---|---|---|\n"
 REMEDY = "tests/operations --keep writes it"
@@ -65,10 +65,7 @@ def table():
 
 def page(now):
     """The page, of which this is the text, with the table that it must hold."""
-    found = re.search(re.escape(HEAD) + r"(?:\|.*\n)*", now)
-    if not found:
-        raise Unusable(f"{PAGE} has no {HEAD.splitlines()[0]!r}")
-    return now[: found.start()] + table() + now[found.end() :]
+    return with_table(now, HEAD, table())
 
 
 def wrong_page(_program, _folder):
