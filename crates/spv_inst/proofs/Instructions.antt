@@ -1,8 +1,9 @@
 -- One instruction at a word of the module.
-use Rattle.std.proofs.Common.{◌≡◌, ◌++◌, ◌∙◌, ◌+◌, ◌-◌, ◌*◌, ◌/◌, ◌%◌, ◌≤◌, ◌<◌, ℕ, zero, suc, List, ◌∷◌, Some, None}
+use Rattle.std.proofs.Common.{◌≡◌, ◌++◌, ◌∙◌, ◌+◌, ◌-◌, ◌*◌, ◌/◌, ◌%◌, ◌≤◌, ◌<◌, ℕ, zero, suc, List, ◌∷◌, Option, Some, None, option_map}
 use Rattle.std.proofs.Common.{length, take, drop, slice_index, refl, sym, ap, arith}
 use Rattle.std.proofs.lemmas.List.{drop_more, drop-drop, take-append-drop, length-drop}
 use Rattle.spv_table.specs.declared.table.Entry.{Entry}
+use Rattle.spv_table.specs.declared.table.Item.{Item}
 use Rattle.spv_table.specs.Table.{Table, entry_of, pattern_of}
 use Rattle.spv_module.specs.declared.fault.Rule.TheVariants.{I1, I2, I3}
 use Rattle.spv_module.specs.declared.fault.Stop.{Stop}
@@ -14,6 +15,27 @@ use Rattle.spv_module.specs.Malformed.{IsMalformed}
 use Rattle.spv_inst.specs.inner.Reading.{between}
 use Rattle.spv_inst.specs.inner.Step.{IsMisfit, IsDeadFrom}
 use Rattle.spv_inst.proofs.Turns.{length-between}
+
+-- the entry of a pattern
+record EntryOf (G : Table) (opcode : ℕ) (operands : List Item) : Type 0 where
+  pub entry : Entry
+  pub known : Some entry ≡ entry_of G opcode
+  pub pattern : entry.operands ≡ operands
+
+pub entry_known : (G : Table) (opcode : ℕ) (operands : List Item)
+    → Some operands ≡ option_map (λ (e : Entry). e.operands) (entry_of G opcode) → EntryOf G opcode operands
+entry_known G opcode operands is = by (entry_of G opcode) refl is
+  where
+    by : (o : Option Entry) → o ≡ entry_of G opcode → Some operands ≡ option_map (λ (e : Entry). e.operands) o
+        → EntryOf G opcode operands
+    by (Some e) k p = record { entry = e; known = k; pattern = cc }
+
+pub none_known : (G : Table) (opcode : ℕ) → None ≡ option_map (λ (e : Entry). e.operands) (entry_of G opcode)
+    → None ≡ entry_of G opcode
+none_known G opcode is = by (entry_of G opcode) is
+  where
+    by : (o : Option Entry) → None ≡ option_map (λ (e : Entry). e.operands) o → None ≡ o
+    by None n = refl
 
 -- a count of words from a place on, of those that are there
 pub record Front (ws : List ℕ) (at count opcode : ℕ) : Type 0 where

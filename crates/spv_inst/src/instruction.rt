@@ -2,8 +2,8 @@
 
 ghost use Rattle.std.specs.Prelude.{◌≡◌, ◌≤◌, ◌<◌, ◌+◌, ◌-◌, List, []};
 ghost use Rattle.std.specs.Prelude.{false, length, map, take, drop, IfOk, IfErr, IsTrue, OnOk, vec_len, vec_capacity};
-ghost use Rattle.spv_table.specs.Table.{Item, pattern_of, IsWhole};
-ghost use Rattle.spv_inst.specs.inner.Pending.{due_first, settled};
+ghost use Rattle.spv_table.specs.Table.{Item, IsWhole};
+ghost use Rattle.spv_inst.specs.inner.Pending.{due_first, items_of, settled};
 ghost use Rattle.spv_inst.specs.Flat.{due};
 ghost use Rattle.spv_table.specs.inner.Form.{form_of};
 ghost use Rattle.spv_module.specs.Instruction.{IsInstruction};
@@ -26,7 +26,7 @@ use crate::repeated::read_run;
 use crate::singles::{read_parameters, read_singles};
 use crate::words::read_words;
 use spv_module::{Fault, Operand, Rule, Stop};
-use spv_table::EntryRef;
+use spv_table::PatternRef;
 use spv_words::word;
 
 /// An instruction that was read.
@@ -170,14 +170,14 @@ fn read_further<'t, 'a>(
     read_rest(scene, pending, operands, place, begin, rest)
 }
 
-/// Adds the operands of an instruction to a list, by its entry: all of its further words, and no fewer. After an error
+/// Adds the operands of an instruction to a list, by its pattern: all of its further words, and no fewer. After an error
 /// nothing is said of what is left of the list.
 #[inline(always)]
 fn read_operands<'t, 'a>(
     scene: &Scene<'t, '_, 'a>,
     pending: &mut Pending<'t>,
     operands: &mut Vec<Operand<'a>>,
-    entry: &EntryRef<'t>,
+    pattern: &PatternRef<'t>,
     place: Place,
 ) -> Result<(), Stop>
     requires forms { scene.now.forms.now ≡ map form_of scene.now.table.now.kinds }
@@ -187,7 +187,7 @@ fn read_operands<'t, 'a>(
     // What is added is what the words from the first up to the end spell.
     ensures read { (before : List PlainInst) → Knows scene.now.definitions.now before
         → OnOk result
-        (Match scene.now.table.now (start before place.opcode) (pattern_of entry.now)
+        (Match scene.now.table.now (start before place.opcode) (items_of pattern.now)
         (plain_operands (drop (length operands.old.items) operands.new.items))
         (between scene.now.image.now place.first place.end)) }
     ensures kept { OnOk result (take (length operands.old.items) operands.new.items ≡ operands.old.items) }
@@ -195,12 +195,12 @@ fn read_operands<'t, 'a>(
     // A fault tells what refuses these words.
     ensures misfit { (before : List PlainInst) → Knows scene.now.definitions.now before
         → IfErr result
-        (λ e. IsMisfit scene.now.table.now (start before place.opcode) (pattern_of entry.now)
+        (λ e. IsMisfit scene.now.table.now (start before place.opcode) (items_of pattern.now)
         (between scene.now.image.now place.first place.end) place.number place.first e) }
 {
     let begin = operands.len();
     operands.reserve((place.end - place.first) as usize)?;
-    let items = DueItems::of(entry.operands());
+    let items = DueItems::of(pattern);
     let rest = read_singles(scene, operands, place, begin, items);
     if is_read(place, rest) {
         return Ok(());
@@ -259,7 +259,7 @@ fn read_by_pattern<'t, 'a>(
     if count > scene.image.len() - at {
         return Err(fault_at(number, Rule::I2, at));
     }
-    let Some(entry) = scene.table.entry(opcode) else {
+    let Some(pattern) = scene.table.pattern(opcode) else {
         return Err(fault_at(number, Rule::I3, at));
     };
     let place = Place {
@@ -269,7 +269,7 @@ fn read_by_pattern<'t, 'a>(
         end: at + count,
     };
     let first = operands.len();
-    read_operands(scene, pending, operands, &entry, place)?;
+    read_operands(scene, pending, operands, &pattern, place)?;
     Ok(Read {
         opcode,
         first,

@@ -18,7 +18,8 @@ use Rattle.spv_ops.specs.inner.Table.{first_of}
 use Rattle.spv_ops.specs.inner.Typed.{IsTypedIn}
 use Rattle.spv_ops.specs.inner.Wide.{binary_of}
 use Rattle.spv_ops.proofs.Parts.{iff_to, typed_by, binary_line, load_line, store_line, branch_line, binary_asks}
-use Rattle.spv_ops.proofs.Parts.{undef_line, undef_asks, extended_line, extended_asks, load_asks, store_asks, branch_asks, combines_in, loads_in, stores_in, branches_in}
+use Rattle.spv_ops.proofs.Parts.{undef_line, undef_asks, extended_line, extended_asks, load_asks, store_asks}
+use Rattle.spv_ops.proofs.Parts.{branch_asks, combines_in, loads_in, stores_in, branches_in}
 
 pub binary_typed : (is : List PlainInst) (n : ℕ) (i : PlainInst) (s : Sort) (ids : Ids) (holds : Bool) (os : List Plain)
     → i.operands ≡ os → first_of i.opcode ≡ binary_of s → binary_in os ≡ Some ids

@@ -1,5 +1,6 @@
 -- What OpCopyLogical asks, as the code decides it.
-use Rattle.std.proofs.Common.{◌≡◌, ◌∙◌, ◌↔◌, ◌<◌, ◌≤◌, ◌⊎◌, inl, inr, ℕ, zero, suc, List, [], ◌∷◌, Option, Some, None, Bool, true, false}
+use Rattle.std.proofs.Common.{◌≡◌, ◌∙◌, ◌↔◌, ◌<◌, ◌≤◌, ◌⊎◌, inl, inr, ℕ, List, [], ◌∷◌, Option, Some, None}
+use Rattle.std.proofs.Common.{Bool, true, false}
 use Rattle.std.proofs.Common.{refl, sym, subst, ap, length, take, get_or, arith, length-take-le}
 use Rattle.std.specs.Prelude.{IsTrue, IsSomeAnd}
 use Rattle.std.specs.List.{AllByRecursion}
@@ -8,7 +9,6 @@ use Rattle.spv_module.specs.Operand.{Plain, PlainInst}
 use Rattle.spv_module.specs.declared.opcode.TheConstants as opcode
 use Rattle.spv_type_forms.specs.Operands.{ids_in, after_head, result_type_in}
 use Rattle.spv_type_forms.specs.Values.{types_of}
-use Rattle.spv_conditions.specs.declared.asked.Asked.{Asked}
 use Rattle.spv_conditions.specs.declared.asked.Asked.TheVariants as asked
 use Rattle.spv_conditions.specs.declared.asked.Asks.{Asks}
 use Rattle.spv_conditions.specs.declared.asked.Asks.TheVariants as asks

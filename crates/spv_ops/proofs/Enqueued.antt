@@ -156,7 +156,8 @@ ending is n i r o p q e w v f b s a ls ot pt qt et wt vt bt st al oe pe qe ee we
     let last = all_of (types_of is (others_from 6 10 ls))
     (λ (us : List ℕ). AreAsked is n i (Some r) (ot ∷ pt ∷ qt ∷ et ∷ wt ∷ vt ∷ bt ∷ st ∷ al ∷ us)) h in
     let types : types_of is ls ≡ Some last.0 = ap (types_of is) (sym (past 6 10 ls (omega arith))) ∙ last.1 in
-    assembled is n i r o p q e w v f b s a ls ot pt qt et wt vt bt st al last.0 ids oe pe qe ee we ve be se ae types last.2
+    assembled is n i r o p q e w v f b s a ls ot pt qt et wt vt bt st al last.0 ids oe pe qe ee we ve be se ae types
+    last.2
 
 pub holds_enqueue : (is : List PlainInst) (n : ℕ) (i : PlainInst) (r : ℕ) (xs : List ℕ)
     → ids_in (after_head i.operands) ≡ xs
@@ -197,7 +198,8 @@ all_asked : (is : List PlainInst) (n : ℕ) (i : PlainInst) (r o p q e w v f b s
     → IsSomeAnd (invoked_of is f) (Takes is bt) → AllByRecursion (IsLocalSize is) us
     → IsSomeAnd (invoked_of is f) (TakesLocals is (length us)) → IsOf is kind.Int32 r
     → AreAsked is n i (Some r) (ot ∷ pt ∷ qt ∷ et ∷ wt ∷ vt ∷ bt ∷ st ∷ al ∷ us)
-all_asked is n i r o p q e w v f b s a ls ot pt qt et wt vt bt st al us ids oq pq qq eq wq vq bq sq aq takes sizes locals rq =
+all_asked is n i r o p q e w v f b s a ls ot pt qt et wt vt bt st al us ids oq pq qq eq wq vq bq sq aq takes sizes
+    locals rq =
     (oq, (pq, (qq, (eq, (wq, (vq, (bq, (sq, (aq, (rw ids takes, (sizes, (rw ids locals, (rq, tt)))))))))))))
 
 typed_all : (is : List PlainInst) (o p q e w v b s a ot pt qt et wt vt bt st al : ℕ) (xs us : List ℕ)
@@ -254,7 +256,8 @@ enqueue_holds is n i r (o ∷ p ∷ q ∷ e ∷ w ∷ v ∷ f ∷ b ∷ s ∷ a 
     typed_all is o p q e w v b s a ot.0 pt.0 qt.0 et.0 wt.0 vt.0 bt.0 st.0 al.0 (others_from 6 10 ls) sizes.0 ot.1 pt.1
     qt.1 et.1 wt.1 vt.1 bt.1 st.1 al.1 last in
     subst (λ (ts : Option (List ℕ)). IsSomeAnd ts (AreAsked is n i (Some r))) (sym types)
-    (all_asked is n i r o p q e w v f b s a ls ot.0 pt.0 qt.0 et.0 wt.0 vt.0 bt.0 st.0 al.0 sizes.0 ids ot.2 pt.2 qt.2 et.2
+    (all_asked is n i r o p q e w v f b s a ls ot.0 pt.0 qt.0 et.0 wt.0 vt.0 bt.0 st.0 al.0 sizes.0 ids ot.2 pt.2 qt.2
+    et.2
     wt.2 vt.2 bt.2 st.2 al.2 takes sizes.3 locals h.0)
 
 -- ids past so many

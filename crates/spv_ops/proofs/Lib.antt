@@ -10,5 +10,6 @@ pub mod ValuePlaces
 pub mod Enqueued
 pub mod Copying
 pub mod Judged
+pub mod Held
 mod Worked
 mod CommonRows

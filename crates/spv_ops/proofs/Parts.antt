@@ -118,7 +118,8 @@ too_long is n i r line None c l = λ h. h
 too_long is n i r (asks.Once (asked.Operands b k) ∷ line) (Some ts) c l = λ h. let more = l ts refl in
     let few : k ≤ 6 = leb-true k 6 c in let same : length ts ≡ k = h.0.1 in absurd (omega (arith, more, few, same))
 too_long is n i r (asks.Once (asked.Rest beside.Cluster) ∷ line) (Some ts) c l = λ h. let more = l ts refl in
-    let few : length ts ≤ 3 = clusters_few (enumerant_in i.operands) (length ts) h.0 in absurd (omega (arith, more, few))
+    let few : length ts ≤ 3 = clusters_few (enumerant_in i.operands) (length ts) h.0 in
+    absurd (omega (arith, more, few))
 too_long is n i r (asks.Once (asked.Rest (beside.ImageMask k)) ∷ line) (Some ts) c l = λ h. let more = l ts refl in
     let few : length ts ≤ 6 = masked_few k ts (mask_in i.operands) h.0 in absurd (omega (arith, more, few))
 too_long is n i r line (Some ts) c l = absurd (let no : is_counted line ≡ true = c in cc)

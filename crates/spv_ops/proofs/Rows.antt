@@ -80,7 +80,8 @@ not_both m n k e = elim (cases_lt n m) [
   | inl h ↦ inl h
   | inr h ↦ elim (cases_lt k n) [
     | inl l ↦ inr l
-    | inr l ↦ absurd (let yes = and_yes (nat_le m n) (nat_le n k) (le-leb m n (omega arith)) (le-leb n k (omega arith)) in
+    | inr l ↦ absurd (let yes =
+        and_yes (nat_le m n) (nat_le n k) (le-leb m n (omega arith)) (le-leb n k (omega arith)) in
         let no : true ≡ false = sym yes ∙ e in cc)
   ]
 ]

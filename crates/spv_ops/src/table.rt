@@ -1,12 +1,12 @@
 //! The table of types.
 
-ghost use Rattle.std.specs.Prelude.{◌≡◌, ◌<◌, ◌↔◌, IsTrue, length, map, slice_get, true};
+ghost use Rattle.std.specs.Prelude.{◌≡◌, ◌<◌, ◌↔◌, ◌∷◌, [], IsTrue, length, map, slice_get, true};
 ghost use Rattle.spv_module.specs.Module.{plain_inst};
 ghost use Rattle.spv_conditions.specs.inner.Direct.{are_direct};
 ghost use Rattle.spv_ops.specs.Table as spec;
 ghost use Rattle.spv_ops.specs.Typed.{LineHolds};
-ghost use Rattle.spv_ops.specs.inner.Table.{asked_by, first_from, first_of, found_by, line, line_number};
-ghost use Rattle.spv_ops.specs.inner.Table.{number_among, numbered_at};
+ghost use Rattle.spv_ops.specs.inner.Table.{AllDirectly, asked_by, first_from, first_of, found_by, line};
+ghost use Rattle.spv_ops.specs.inner.Table.{line_number, number_among, numbered_at};
 ghost use Rattle.spv_ops.specs.declared.table.TheConstants.{FURTHER, OBJECTS, TABLE};
 
 use spv_conditions::{
@@ -145,6 +145,8 @@ macro_rules! table {
                 COMPOSITE_EXTRACT: [gives 1] [Indexes] [within o] [r reached from o];
                 COMPOSITE_INSERT: [gives 2] [p Same r] [Indexes] [within p] [o reached from p];
                 COPY_OBJECT: [gives 1] [o Same r] [r is Data];
+            }
+            {
                 CONVERT_F_TO_U to CONVERT_F_TO_S: [gives 1] [o is Floats] [r is Ints] [o SameCount r];
                 CONVERT_S_TO_F to CONVERT_U_TO_F: [gives 1] [o is Ints] [r is Floats] [o SameCount r];
                 U_CONVERT to S_CONVERT: [gives 1] [o is Ints] [r is Ints] [o SameCount r] [o OtherWidth r];
@@ -154,6 +156,8 @@ macro_rules! table {
                 PTR_CAST_TO_GENERIC: [gives 1] [o is NamedPointer] [r is GenericPointer] [o SamePointee r];
                 GENERIC_CAST_TO_PTR: [gives 1] [o is GenericPointer] [r is NamedPointer] [o SamePointee r];
                 BITCAST: [gives 1] [o SameBits r];
+            }
+            {
                 S_NEGATE, NOT, BIT_REVERSE: [gives 1] [r is Ints] [o Same r];
                 F_NEGATE: [gives 1] [r is Floats] [o Same r];
                 LOGICAL_NOT: [gives 1] [r is Bools] [o Same r];
@@ -166,6 +170,8 @@ macro_rules! table {
                 F_ORD_EQUAL to F_UNORD_GREATER_THAN_EQUAL, LESS_OR_GREATER to UNORDERED:
                     [gives 2] [o is Floats] [p Same o] [r is Bools] [o SameCount r];
                 SHIFT_RIGHT_LOGICAL to SHIFT_LEFT_LOGICAL: [gives 2] [r is Ints] [o Same r] [p is Ints] [p SameCount r];
+            }
+            {
                 CONTROL_BARRIER: [takes 3] [o is Int32] [p is Int32] [q is Int32];
                 MEMORY_BARRIER: [takes 2] [o is Int32] [p is Int32];
                 ATOMIC_LOAD: [gives 3] [o PointsTo r] [p is Int32] [q is Int32] [r is Number];
@@ -497,26 +503,50 @@ fn found_in(entries: &'static [Entry], number: usize) -> Found
     }
 }
 
+/// The lines of the first part.
+#[inline(always)]
+fn first_entries() -> &'static [Entry]
+    ensures { map line result.now ≡ TABLE }
+{
+    &ENTRIES
+}
+
+/// Those of the second part.
+#[inline(always)]
+fn further_entries() -> &'static [Entry]
+    ensures { map line result.now ≡ FURTHER }
+{
+    &FURTHER_ENTRIES
+}
+
+/// Those of the last part.
+#[inline(always)]
+fn object_entries() -> &'static [Entry]
+    ensures { map line result.now ≡ OBJECTS }
+{
+    &OBJECT_ENTRIES
+}
+
 /// What the line of a number in the first part tells.
 #[inline(always)]
 fn found_first(number: usize) -> Found
     ensures { result ≡ found_by (slice_get TABLE number) }
 {
-    found_in(&ENTRIES, number)
+    found_in(first_entries(), number)
 }
 
 /// The same in the second part.
 fn found_further(number: usize) -> Found
     ensures { result ≡ found_by (slice_get FURTHER number) }
 {
-    found_in(&FURTHER_ENTRIES, number)
+    found_in(further_entries(), number)
 }
 
 /// The same in the last part.
 fn found_object(number: usize) -> Found
     ensures { result ≡ found_by (slice_get OBJECTS number) }
 {
-    found_in(&OBJECT_ENTRIES, number)
+    found_in(object_entries(), number)
 }
 
 /// What the line of a number among all lines tells.
@@ -569,21 +599,21 @@ fn asked_in(entries: &'static [Entry], number: usize) -> &'static [Asks]
 fn asked_first(number: usize) -> &'static [Asks]
     ensures { result.now ≡ asked_by (slice_get TABLE number) }
 {
-    asked_in(&ENTRIES, number)
+    asked_in(first_entries(), number)
 }
 
 /// The same in the second part.
 fn asked_further(number: usize) -> &'static [Asks]
     ensures { result.now ≡ asked_by (slice_get FURTHER number) }
 {
-    asked_in(&FURTHER_ENTRIES, number)
+    asked_in(further_entries(), number)
 }
 
 /// The same in the last part.
 fn asked_object(number: usize) -> &'static [Asks]
     ensures { result.now ≡ asked_by (slice_get OBJECTS number) }
 {
-    asked_in(&OBJECT_ENTRIES, number)
+    asked_in(object_entries(), number)
 }
 
 /// What the line of a number among all lines asks.
@@ -607,6 +637,7 @@ pub fn asks_of(opcode: u16) -> &'static [Asks]
 }
 
 /// Whether what an opcode asks holds, one condition after another.
+#[inline(always)]
 fn all_hold(
     definitions: &Definitions,
     number: u32,
@@ -626,19 +657,211 @@ fn all_hold(
     }
 }
 
-/// The lines of the table as code. The first opcode of a line of the first part is decided at once; others one
-/// condition after another.
-macro_rules! decided {
-    (($opcode:ident $definitions:ident $number:ident $inst:ident $r:ident $types:ident) { $(
+/// Two conditions and more, one after another.
+#[inline(always)]
+fn two_hold(
+    definitions: &Definitions,
+    number: u32,
+    inst: &Inst,
+    r: Option<u32>,
+    types: &[u32],
+    a: Asked,
+    b: Asked,
+) -> bool
+    requires { number < length definitions.now }
+    ensures { IsTrue result ↔ AllDirectly definitions.now number (plain_inst inst.now) r types.now (a ∷ b ∷ []) }
+{
+    holds(definitions, number, inst, r, types, a) && holds(definitions, number, inst, r, types, b)
+}
+
+#[inline(always)]
+fn three_hold(
+    definitions: &Definitions,
+    number: u32,
+    inst: &Inst,
+    r: Option<u32>,
+    types: &[u32],
+    a: Asked,
+    b: Asked,
+    c: Asked,
+) -> bool
+    requires { number < length definitions.now }
+    ensures { IsTrue result ↔ AllDirectly definitions.now number (plain_inst inst.now) r types.now
+        (a ∷ b ∷ c ∷ []) }
+{
+    holds(definitions, number, inst, r, types, a)
+        && two_hold(definitions, number, inst, r, types, b, c)
+}
+
+#[inline(always)]
+fn four_hold(
+    definitions: &Definitions,
+    number: u32,
+    inst: &Inst,
+    r: Option<u32>,
+    types: &[u32],
+    a: Asked,
+    b: Asked,
+    c: Asked,
+    d: Asked,
+) -> bool
+    requires { number < length definitions.now }
+    ensures { IsTrue result ↔ AllDirectly definitions.now number (plain_inst inst.now) r types.now
+        (a ∷ b ∷ c ∷ d ∷ []) }
+{
+    holds(definitions, number, inst, r, types, a)
+        && three_hold(definitions, number, inst, r, types, b, c, d)
+}
+
+#[inline(always)]
+fn five_hold(
+    definitions: &Definitions,
+    number: u32,
+    inst: &Inst,
+    r: Option<u32>,
+    types: &[u32],
+    a: Asked,
+    b: Asked,
+    c: Asked,
+    d: Asked,
+    e: Asked,
+) -> bool
+    requires { number < length definitions.now }
+    ensures { IsTrue result ↔ AllDirectly definitions.now number (plain_inst inst.now) r types.now
+        (a ∷ b ∷ c ∷ d ∷ e ∷ []) }
+{
+    holds(definitions, number, inst, r, types, a)
+        && four_hold(definitions, number, inst, r, types, b, c, d, e)
+}
+
+#[inline(always)]
+fn six_hold(
+    definitions: &Definitions,
+    number: u32,
+    inst: &Inst,
+    r: Option<u32>,
+    types: &[u32],
+    a: Asked,
+    b: Asked,
+    c: Asked,
+    d: Asked,
+    e: Asked,
+    f: Asked,
+) -> bool
+    requires { number < length definitions.now }
+    ensures { IsTrue result ↔ AllDirectly definitions.now number (plain_inst inst.now) r types.now
+        (a ∷ b ∷ c ∷ d ∷ e ∷ f ∷ []) }
+{
+    holds(definitions, number, inst, r, types, a)
+        && five_hold(definitions, number, inst, r, types, b, c, d, e, f)
+}
+
+/// A call with what is known, and conditions.
+macro_rules! call {
+    ($function:ident ($($known:ident)+) $([$($ask:tt)+])+) => {
+        $function($($known),+, $(condition!($($ask)+)),+)
+    };
+}
+
+/// Whether all conditions of a line hold.
+macro_rules! conditions {
+    ($known:tt $a:tt) => { call!(holds $known $a) };
+    ($known:tt $a:tt $b:tt) => { call!(two_hold $known $a $b) };
+    ($known:tt $a:tt $b:tt $c:tt) => { call!(three_hold $known $a $b $c) };
+    ($known:tt $a:tt $b:tt $c:tt $d:tt) => { call!(four_hold $known $a $b $c $d) };
+    ($known:tt $a:tt $b:tt $c:tt $d:tt $e:tt) => { call!(five_hold $known $a $b $c $d $e) };
+    ($known:tt $a:tt $b:tt $c:tt $d:tt $e:tt $f:tt) => { call!(six_hold $known $a $b $c $d $e $f) };
+    ($known:tt $a:tt $b:tt $c:tt $d:tt $e:tt $f:tt $($others:tt)+) => {
+        call!(six_hold $known $a $b $c $d $e $f) && conditions!($known $($others)+)
+    };
+}
+
+/// The call for an opcode that no line of a group begins with.
+macro_rules! onward {
+    ($others:ident $opcode:ident ($definitions:ident $number:ident $inst:ident $r:ident $types:ident)) => {
+        $others($definitions, $number, $inst, $opcode, $r, $types)
+    };
+}
+
+/// The lines of a group as code.
+macro_rules! group {
+    ($others:ident $opcode:ident $known:tt $(
         $first:ident $(to $last:ident)? $(, $more:ident $(to $end:ident)?)* $(by $places:ident $($place:ident)?)?:
             $([$($ask:tt)+])+;
-    )+ } $({ $($slow:tt)+ })+) => {
+    )+) => {
         match $opcode {
-            $(opcode::$first => true
-                $(&& holds($definitions, $number, $inst, $r, $types, condition!($($ask)+)))+,)+
-            _ => all_hold($definitions, $number, $inst, $opcode, $r, $types),
+            $(opcode::$first => conditions!($known $([$($ask)+])+),)+
+            _ => onward!($others $opcode $known),
         }
     };
+}
+
+/// The lines of the group of a number as code. The first opcode of a line is decided at once, and all others by the
+/// function that is named.
+macro_rules! decided {
+    ((first $others:ident $opcode:ident $($known:ident)+) { $($lines:tt)+ } $($groups:tt)+) => {
+        group!($others $opcode ($($known)+) $($lines)+)
+    };
+    ((second $($name:ident)+) $group:tt $($groups:tt)+) => { decided!((first $($name)+) $($groups)+) };
+    ((third $($name:ident)+) $group:tt $($groups:tt)+) => { decided!((second $($name)+) $($groups)+) };
+    ((fourth $($name:ident)+) $group:tt $($groups:tt)+) => { decided!((third $($name)+) $($groups)+) };
+}
+
+/// `line_holds` of what is in the fourth group or in none.
+#[tactic(auto, unfolding(crate::specs::Table::lines))]
+#[inline(always)]
+fn atomic_holds(
+    definitions: &Definitions,
+    number: u32,
+    inst: &Inst,
+    opcode: u16,
+    r: Option<u32>,
+    types: &[u32],
+) -> bool
+    requires number { number < length definitions.now }
+    requires few { length types.now < 4294967296 }
+    requires direct { are_direct (spec.asks_of opcode) ≡ true }
+    ensures { IsTrue result ↔ LineHolds definitions.now number (plain_inst inst.now) opcode r types.now }
+{
+    table!(decided fourth all_hold opcode definitions number inst r types)
+}
+
+/// The same of what is in the third group or behind it.
+#[tactic(auto, unfolding(crate::specs::Table::lines))]
+#[inline(always)]
+fn computed_holds(
+    definitions: &Definitions,
+    number: u32,
+    inst: &Inst,
+    opcode: u16,
+    r: Option<u32>,
+    types: &[u32],
+) -> bool
+    requires number { number < length definitions.now }
+    requires few { length types.now < 4294967296 }
+    requires direct { are_direct (spec.asks_of opcode) ≡ true }
+    ensures { IsTrue result ↔ LineHolds definitions.now number (plain_inst inst.now) opcode r types.now }
+{
+    table!(decided third atomic_holds opcode definitions number inst r types)
+}
+
+/// The same of what is in the second group or behind it.
+#[tactic(auto, unfolding(crate::specs::Table::lines))]
+#[inline(always)]
+fn converted_holds(
+    definitions: &Definitions,
+    number: u32,
+    inst: &Inst,
+    opcode: u16,
+    r: Option<u32>,
+    types: &[u32],
+) -> bool
+    requires number { number < length definitions.now }
+    requires few { length types.now < 4294967296 }
+    requires direct { are_direct (spec.asks_of opcode) ≡ true }
+    ensures { IsTrue result ↔ LineHolds definitions.now number (plain_inst inst.now) opcode r types.now }
+{
+    table!(decided second computed_holds opcode definitions number inst r types)
 }
 
 /// Whether what an opcode asks holds at the instruction of a number: of its result type, if it has one, and of the
@@ -657,5 +880,5 @@ pub fn line_holds(
     requires direct { are_direct (spec.asks_of opcode) ≡ true }
     ensures { IsTrue result ↔ LineHolds definitions.now number (plain_inst inst.now) opcode r types.now }
 {
-    table!(decided opcode definitions number inst r types)
+    table!(decided first converted_holds opcode definitions number inst r types)
 }

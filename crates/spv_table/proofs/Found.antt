@@ -24,6 +24,12 @@ pub entry_found : (G : Table) (opcode place : ℕ) (o : Option (ℕ × Entry)) �
     → slice_get G.entries place ≡ first_with (λ e. e.0) opcode G.entries → option_map (λ e. e.1) o ≡ entry_of G opcode
 entry_found G opcode place o e p = ap (option_map (λ e. e.1)) (sym e ∙ p)
 
+-- the pattern of what is found
+pub pattern_found : (o : Option (ℕ × Entry))
+    → option_map (λ (e : ℕ × Entry). e.1.operands) o ≡ option_map (λ (e : Entry). e.operands) (option_map (λ e. e.1) o)
+pattern_found None = refl
+pattern_found (Some e) = refl
+
 -- at a place of a list and of one that is made of it
 get_mapped : {A B : Type 0} (f : A → B) (xs : List A) (n : ℕ) → slice_get (map f xs) n ≡ option_map f (slice_get xs n)
 get_mapped f [] n = refl

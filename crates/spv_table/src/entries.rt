@@ -1,6 +1,6 @@
 //! The instructions of a table, which it has made or which lie in the program.
 
-ghost use Rattle.std.specs.Prelude.{◌≡◌, ◌<◌, ◌^◌, [], length, map, position, slice_get, IfOk};
+ghost use Rattle.std.specs.Prelude.{◌≡◌, ◌<◌, ◌^◌, [], length, map, option_map, position, slice_get, IfOk};
 ghost use Rattle.std.specs.Str.{IsAscii, bytes_eq};
 ghost use Rattle.spv_table.specs.Rows.{entry_in};
 ghost use Rattle.spv_table.specs.inner.Named.{Finds};
@@ -157,6 +157,17 @@ impl Told {
         }
     }
 
+    /// The pattern of the entry at a place.
+    #[inline(always)]
+    fn pattern(&self, place: usize) -> Option<PatternRef<'static>>
+        ensures { result ≡ option_map (λ e. e.1.operands) (slice_get self.now place) }
+    {
+        match self.lies.entries.get(place) {
+            Some(row) => Some(PatternRef::of(row.2.among(self.lies.items), row.4 as usize)),
+            None => None,
+        }
+    }
+
     /// The first place of a name.
     fn place(&self, name: &str) -> Option<usize>
         ensures { result ≡ position (λ e. bytes_eq name.now e.1.name) self.now }
@@ -178,6 +189,17 @@ impl Made {
     {
         match self.entries.get(place) {
             Some((opcode, entry)) => Some((*opcode, EntryRef::owned(entry))),
+            None => None,
+        }
+    }
+
+    /// The pattern of the entry at a place.
+    #[inline(always)]
+    fn pattern(&self, place: usize) -> Option<PatternRef<'_>>
+        ensures { result ≡ option_map (λ e. e.1.operands) (slice_get self.now place) }
+    {
+        match self.entries.get(place) {
+            Some((_, entry)) => Some(entry.operands.seen()),
             None => None,
         }
     }
@@ -256,6 +278,17 @@ impl Entries {
         match &self.kept {
             Kept::Made(made) => made.get(place),
             Kept::Told(told) => told.get(place),
+        }
+    }
+
+    /// The pattern of the entry at a place, from 0.
+    #[inline(always)]
+    pub(crate) fn pattern(&self, place: usize) -> Option<PatternRef<'_>>
+        ensures { result ≡ option_map (λ e. e.1.operands) (slice_get self.now place) }
+    {
+        match &self.kept {
+            Kept::Made(made) => made.pattern(place),
+            Kept::Told(told) => told.pattern(place),
         }
     }
 

@@ -19,7 +19,7 @@ use crate::front::{Front, front_in, fronts_of};
 use crate::listed::{Listed, NameList};
 use crate::name::Name;
 use crate::named::Named;
-use crate::pattern::Pattern;
+use crate::pattern::{Pattern, PatternRef};
 use crate::places::widen;
 use crate::results::{Results, results_of_entries};
 use crate::sort::{KindRef, Sort};
@@ -291,6 +291,15 @@ impl Table {
             Some((_, entry)) => Some(entry),
             None => None,
         }
+    }
+
+    /// The pattern of an opcode's entry: what `entry` tells of its operands, for less.
+    #[inline(always)]
+    pub fn pattern(&self, opcode: u16) -> Option<PatternRef<'_>>
+        ensures { result ≡ option_map (λ e. e.operands) (entry_of self.now opcode) }
+    {
+        let place = place_in(self.places.as_slice(), opcode);
+        self.entries.pattern(place as usize)
     }
 
     /// The form of each kind, in order, so that a kind's number, from 0, is the place of its form.

@@ -1,7 +1,11 @@
 -- Lines that are found by a number. (For the code alone.)
 use Rattle.std.specs.Prelude.{◌-◌, ◌&&◌, ℕ, List, [], ◌∷◌, Option, Some, None, slice_get, unwrap_or, nat_le}
 use Rattle.std.specs.Prelude.{if◌then◌else◌}
+use Rattle.std.specs.List.{AllByRecursion}
+use Rattle.spv_module.specs.Operand.{PlainInst}
+use Rattle.spv_conditions.specs.declared.asked.Asked.{Asked}
 use Rattle.spv_conditions.specs.declared.asked.Asks.{Asks}
+use Rattle.spv_conditions.specs.inner.Direct.{HoldsDirectly}
 use Rattle.spv_ops.specs.declared.table.Entry.{Entry}
 use Rattle.spv_ops.specs.declared.table.Found.{Found}
 use Rattle.spv_ops.specs.declared.table.TheConstants.{NUMBERS}
@@ -43,3 +47,7 @@ found_by l = record { first = first_from (or_free l).0.now; places = (or_free l)
 
 abbrev pub asked_by : Option Line → List Asks
 asked_by l = (or_free l).2.now
+
+-- conditions hold, other than that a type matches another
+abbrev pub AllDirectly : List PlainInst → ℕ → PlainInst → Option ℕ → List ℕ → List Asked → Type 0
+AllDirectly is n i r types asked = AllByRecursion (HoldsDirectly is n i r types) asked

@@ -1,6 +1,6 @@
 use Rattle.std.proofs.Common.{◌≡◌, length, refl, arith}
-use Rattle.spv_table.specs.Table.{pattern_of}
 use Rattle.spv_module.specs.Operand.{start}
+use Rattle.spv_inst.specs.inner.Items.{items_of}
 use Rattle.spv_inst.proofs.Turns.{at_begin, words_end}
 use Rattle.spv_inst.proofs.instruction.read_operands.Goals as goal
 
@@ -8,58 +8,58 @@ pub returns-then-is_read-clause-read : goal.returns-then-is_read-clause-read
 returns-then-is_read-clause-read c = λ b know.
     let G = c.args.scene.now.table.now in
     let e : c.len-begin.result ≡ length c.args.operands.now.items = omega arith in
-    let s1 = c.read_singles-rest.ensures.sofar b (pattern_of c.args.entry.now) know
-    (rw (c.of-items.ensures, c.operands.ensures, c.in_ok-reserve.ensures.items)
-    (at_begin G b c.args.place.opcode (pattern_of c.args.entry.now) c.args.scene.now.image.now c.args.place.first
+    let s1 = c.read_singles-rest.ensures.sofar b (items_of c.args.pattern.now) know
+    (rw (c.of-items.ensures, c.in_ok-reserve.ensures.items)
+    (at_begin G b c.args.place.opcode (items_of c.args.pattern.now) c.args.scene.now.image.now c.args.place.first
     c.args.place.end c.len-begin.result c.args.operands.now.items e)) in
     let d = c.if-is_read.ensures refl in
-    words_end G (start b c.args.place.opcode) (pattern_of c.args.entry.now) _ _ _ _ _ _ _ (rw e at s1) d.0 d.1
+    words_end G (start b c.args.place.opcode) (items_of c.args.pattern.now) _ _ _ _ _ _ _ (rw e at s1) d.0 d.1
 
 pub returns-then-is_read-2-clause-read : goal.returns-then-is_read-2-clause-read
 returns-then-is_read-2-clause-read c = λ b know.
     let G = c.args.scene.now.table.now in
     let e : c.len-begin.result ≡ length c.args.operands.now.items = omega arith in
-    let s1 = c.read_singles-rest.ensures.sofar b (pattern_of c.args.entry.now) know
-    (rw (c.of-items.ensures, c.operands.ensures, c.in_ok-reserve.ensures.items)
-    (at_begin G b c.args.place.opcode (pattern_of c.args.entry.now) c.args.scene.now.image.now c.args.place.first
+    let s1 = c.read_singles-rest.ensures.sofar b (items_of c.args.pattern.now) know
+    (rw (c.of-items.ensures, c.in_ok-reserve.ensures.items)
+    (at_begin G b c.args.place.opcode (items_of c.args.pattern.now) c.args.scene.now.image.now c.args.place.first
     c.args.place.end c.len-begin.result c.args.operands.now.items e)) in
-    let s2 = c.read_parameters-rest.ensures.sofar b (pattern_of c.args.entry.now) know s1 in
+    let s2 = c.read_parameters-rest.ensures.sofar b (items_of c.args.pattern.now) know s1 in
     let d = c.if-is_read-2.ensures refl in
-    words_end G (start b c.args.place.opcode) (pattern_of c.args.entry.now) _ _ _ _ _ _ _ (rw e at s2) d.0 d.1
+    words_end G (start b c.args.place.opcode) (items_of c.args.pattern.now) _ _ _ _ _ _ _ (rw e at s2) d.0 d.1
 
 pub returns-then-is_read-3-clause-read : goal.returns-then-is_read-3-clause-read
 returns-then-is_read-3-clause-read c = λ b know.
     let G = c.args.scene.now.table.now in
     let e : c.len-begin.result ≡ length c.args.operands.now.items = omega arith in
-    let s1 = c.read_singles-rest.ensures.sofar b (pattern_of c.args.entry.now) know
-    (rw (c.of-items.ensures, c.operands.ensures, c.in_ok-reserve.ensures.items)
-    (at_begin G b c.args.place.opcode (pattern_of c.args.entry.now) c.args.scene.now.image.now c.args.place.first
+    let s1 = c.read_singles-rest.ensures.sofar b (items_of c.args.pattern.now) know
+    (rw (c.of-items.ensures, c.in_ok-reserve.ensures.items)
+    (at_begin G b c.args.place.opcode (items_of c.args.pattern.now) c.args.scene.now.image.now c.args.place.first
     c.args.place.end c.len-begin.result c.args.operands.now.items e)) in
-    let s2 = c.read_parameters-rest.ensures.sofar b (pattern_of c.args.entry.now) know s1 in
-    let s3 = c.read_run-rest.ensures.sofar b (pattern_of c.args.entry.now) know s2 in
+    let s2 = c.read_parameters-rest.ensures.sofar b (items_of c.args.pattern.now) know s1 in
+    let s3 = c.read_run-rest.ensures.sofar b (items_of c.args.pattern.now) know s2 in
     let d = c.if-is_read-3.ensures refl in
-    words_end G (start b c.args.place.opcode) (pattern_of c.args.entry.now) _ _ _ _ _ _ _ (rw e at s3) d.0 d.1
+    words_end G (start b c.args.place.opcode) (items_of c.args.pattern.now) _ _ _ _ _ _ _ (rw e at s3) d.0 d.1
 
 pub returns-clause-read : goal.returns-clause-read
 returns-clause-read c = λ b know.
     let G = c.args.scene.now.table.now in
     let e : c.len-begin.result ≡ length c.args.operands.now.items = omega arith in
-    let s1 = c.read_singles-rest.ensures.sofar b (pattern_of c.args.entry.now) know
-    (rw (c.of-items.ensures, c.operands.ensures, c.in_ok-reserve.ensures.items)
-    (at_begin G b c.args.place.opcode (pattern_of c.args.entry.now) c.args.scene.now.image.now c.args.place.first
+    let s1 = c.read_singles-rest.ensures.sofar b (items_of c.args.pattern.now) know
+    (rw (c.of-items.ensures, c.in_ok-reserve.ensures.items)
+    (at_begin G b c.args.place.opcode (items_of c.args.pattern.now) c.args.scene.now.image.now c.args.place.first
     c.args.place.end c.len-begin.result c.args.operands.now.items e)) in
-    let s2 = c.read_parameters-rest.ensures.sofar b (pattern_of c.args.entry.now) know s1 in
-    let s3 = c.read_run-rest.ensures.sofar b (pattern_of c.args.entry.now) know s2 in
-    rw e at (c.read_further.ensures.read b (pattern_of c.args.entry.now) know s3)
+    let s2 = c.read_parameters-rest.ensures.sofar b (items_of c.args.pattern.now) know s1 in
+    let s3 = c.read_run-rest.ensures.sofar b (items_of c.args.pattern.now) know s2 in
+    rw e at (c.read_further.ensures.read b (items_of c.args.pattern.now) know s3)
 
 pub returns-clause-misfit : goal.returns-clause-misfit
 returns-clause-misfit c = λ b know.
     let G = c.args.scene.now.table.now in
     let e : c.len-begin.result ≡ length c.args.operands.now.items = omega arith in
-    let s1 = c.read_singles-rest.ensures.sofar b (pattern_of c.args.entry.now) know
-    (rw (c.of-items.ensures, c.operands.ensures, c.in_ok-reserve.ensures.items)
-    (at_begin G b c.args.place.opcode (pattern_of c.args.entry.now) c.args.scene.now.image.now c.args.place.first
+    let s1 = c.read_singles-rest.ensures.sofar b (items_of c.args.pattern.now) know
+    (rw (c.of-items.ensures, c.in_ok-reserve.ensures.items)
+    (at_begin G b c.args.place.opcode (items_of c.args.pattern.now) c.args.scene.now.image.now c.args.place.first
     c.args.place.end c.len-begin.result c.args.operands.now.items e)) in
-    let s2 = c.read_parameters-rest.ensures.sofar b (pattern_of c.args.entry.now) know s1 in
-    let s3 = c.read_run-rest.ensures.sofar b (pattern_of c.args.entry.now) know s2 in
-    c.read_further.ensures.misfit b (pattern_of c.args.entry.now) know s3
+    let s2 = c.read_parameters-rest.ensures.sofar b (items_of c.args.pattern.now) know s1 in
+    let s3 = c.read_run-rest.ensures.sofar b (items_of c.args.pattern.now) know s2 in
+    c.read_further.ensures.misfit b (items_of c.args.pattern.now) know s3

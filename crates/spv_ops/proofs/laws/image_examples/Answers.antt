@@ -8,15 +8,23 @@ returns-clause-sampled c = ((tt, refl), (refl, (refl, (refl, tt))))
 
 pub returns-clause-sample : goal.returns-clause-sample
 unfolding lines
-returns-clause-sample c = ((refl, refl), (((4, refl), refl), ((inr refl, omega arith), ((3, refl), ((inr refl, inr refl), (tt, (((32, refl), tt, tt, tt), tt)))))))
+returns-clause-sample c = (
+  (refl, refl),
+  (
+    ((4, refl), refl),
+    ((inr refl, omega arith), ((3, refl), ((inr refl, inr refl), (tt, (((32, refl), tt, tt, tt), tt))))),
+  ),
+)
 
 pub returns-clause-read : goal.returns-clause-read
 unfolding lines
-returns-clause-read c = ((refl, refl), (refl, ((refl, omega arith), ((inr refl, inr refl), (refl, (tt, ((tt, tt, tt, tt), tt)))))))
+returns-clause-read c =
+    ((refl, refl), (refl, ((refl, omega arith), ((inr refl, inr refl), (refl, (tt, ((tt, tt, tt, tt), tt)))))))
 
 pub returns-clause-write : goal.returns-clause-write
 unfolding lines
-returns-clause-write c = ((refl, refl), (refl, ((refl, omega arith), ((inr refl, inr refl), (refl, (tt, ((tt, tt, tt, tt), tt)))))))
+returns-clause-write c =
+    ((refl, refl), (refl, ((refl, omega arith), ((inr refl, inr refl), (refl, (tt, ((tt, tt, tt, tt), tt)))))))
 
 pub returns-clause-format : goal.returns-clause-format
 unfolding lines

@@ -27,6 +27,7 @@ returns-in-None c =
     let types = c.args.types.now in
     let line = asks_of c.args.opcode in
     let all = rw c.asks_of.ensures at c.in-None.ensures in (
-      λ h. all_directly is c.args.number (plain_inst c.args.inst.now) c.args.r types (conditions_in line (length types)) all,
+      λ h. all_directly is c.args.number (plain_inst c.args.inst.now) c.args.r types
+          (conditions_in line (length types)) all,
       λ h. refl,
     )

@@ -1,14 +1,12 @@
-use Rattle.std.proofs.Common.{◌≡◌, ◌∙◌, ◌↔◌, true, false, refl, sym, ap, subst, List, None, Some}
-use Rattle.std.specs.Prelude.{IsTrue}
+use Rattle.std.proofs.Common.{◌≡◌, ◌∙◌, true, false, refl, sym, ap, subst}
 use Rattle.spv_module.specs.Module.{plain_inst, plain_operands}
-use Rattle.spv_module.specs.Operand.{Plain}
 use Rattle.spv_type_forms.specs.Operands.{after_head, result_type_in}
 use Rattle.spv_ops.specs.declared.table.Places.TheVariants as places
 use Rattle.spv_ops.specs.Table.{asks_of, places_of}
 use Rattle.spv_ops.specs.inner.Typed.{IsUncopied}
 use Rattle.spv_ops.specs.inner.Wide.{IsWidePlace}
 use Rattle.spv_ops.proofs.Judged.{free_holds}
-use Rattle.spv_ops.proofs.Parts.{iff_to, typed_by, wide_place, wide_told, wide_result}
+use Rattle.spv_ops.proofs.Parts.{iff_to, typed_by, wide_place}
 use Rattle.spv_ops.proofs.Rows.{around_counted, beside_counted, asks_first, places_first, counted, direct}
 use Rattle.spv_ops.proofs.typed.found_holds.Goals as goal
 
@@ -33,35 +31,40 @@ beside_holds-requires-clause-counted c =
 pub line_holds-requires-clause-direct : goal.line_holds-requires-clause-direct
 line_holds-requires-clause-direct c =
     let i = plain_inst c.args.inst.now in
-    let e : places_of c.args.found.first ≡ places.Nothing = sym (places_first i.opcode c.args.found.first (sym c.requires.first))
+    let e : places_of c.args.found.first ≡ places.Nothing =
+    sym (places_first i.opcode c.args.found.first (sym c.requires.first))
     ∙ sym c.requires.places ∙ c.in-Nothing.is in
     direct c.args.found.first (subst IsUncopied (sym e) tt)
 
 pub gathered_holds-requires-clause-direct : goal.gathered_holds-requires-clause-direct
 gathered_holds-requires-clause-direct c =
     let i = plain_inst c.args.inst.now in
-    let e : places_of c.args.found.first ≡ places.Ids = sym (places_first i.opcode c.args.found.first (sym c.requires.first))
+    let e : places_of c.args.found.first ≡ places.Ids =
+    sym (places_first i.opcode c.args.found.first (sym c.requires.first))
     ∙ sym c.requires.places ∙ c.in-Ids.is in
     direct c.args.found.first (subst IsUncopied (sym e) tt)
 
 pub around_holds-requires-clause-direct : goal.around_holds-requires-clause-direct
 around_holds-requires-clause-direct c =
     let i = plain_inst c.args.inst.now in
-    let e : places_of c.args.found.first ≡ places.Around = sym (places_first i.opcode c.args.found.first (sym c.requires.first))
+    let e : places_of c.args.found.first ≡ places.Around =
+    sym (places_first i.opcode c.args.found.first (sym c.requires.first))
     ∙ sym c.requires.places ∙ c.in-Around.is in
     direct c.args.found.first (subst IsUncopied (sym e) tt)
 
 pub beside_holds-requires-clause-direct : goal.beside_holds-requires-clause-direct
 beside_holds-requires-clause-direct c =
     let i = plain_inst c.args.inst.now in
-    let e : places_of c.args.found.first ≡ (places.Beside c.in-Beside.skip) = sym (places_first i.opcode c.args.found.first (sym c.requires.first))
+    let e : places_of c.args.found.first ≡ (places.Beside c.in-Beside.skip) =
+    sym (places_first i.opcode c.args.found.first (sym c.requires.first))
     ∙ sym c.requires.places ∙ c.in-Beside.is in
     direct c.args.found.first (subst IsUncopied (sym e) tt)
 
 pub one_holds-requires-clause-direct : goal.one_holds-requires-clause-direct
 one_holds-requires-clause-direct c =
     let i = plain_inst c.args.inst.now in
-    let e : places_of c.args.found.first ≡ places.One = sym (places_first i.opcode c.args.found.first (sym c.requires.first))
+    let e : places_of c.args.found.first ≡ places.One =
+    sym (places_first i.opcode c.args.found.first (sym c.requires.first))
     ∙ sym c.requires.places ∙ c.in-One.is in
     direct c.args.found.first (subst IsUncopied (sym e) tt)
 
@@ -134,7 +137,8 @@ returns-in-Beside c =
     let result : result_type_in i.operands ≡ r = sym (c.result_type-r.ensures ∙ ap result_type_in operands) in
     let rest : after_head i.operands ≡ os = sym (c.after_head-rest.ensures ∙ ap after_head operands) in
     let asks = asks_first i.opcode c.args.found.first (sym c.requires.first) in
-    let e = iff_to c.beside_holds.ensures (typed_by is n i (places.Beside c.in-Beside.skip) (asks_of c.args.found.first) r os
+    let e =
+    iff_to c.beside_holds.ensures (typed_by is n i (places.Beside c.in-Beside.skip) (asks_of c.args.found.first) r os
     (sym c.requires.places ∙ c.in-Beside.is) asks result rest) in
     record { sound = e.0; complete = λ u. e.1 }
 
