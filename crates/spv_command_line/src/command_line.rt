@@ -22,7 +22,7 @@ use std::alloc::{AllocError, Global};
 use thiserror::Error;
 
 /// What is done with each module.
-#[derive(Clone, Copy, Debug, PartialEq, Eq)]
+#[derive(Clone, Copy, PartialEq, Eq)]
 pub enum Task {
     /// The verdict on it, as `spv check`.
     Check,
@@ -34,7 +34,7 @@ pub enum Task {
 }
 
 /// Which verdicts have the name of their file before them.
-#[derive(Clone, Copy, Debug, PartialEq, Eq)]
+#[derive(Clone, Copy, PartialEq, Eq)]
 pub enum Naming {
     /// Those of several files.
     OfSeveral,
@@ -45,7 +45,7 @@ pub enum Naming {
 }
 
 /// What `spv annotate` writes.
-#[derive(Clone, Copy, Debug, PartialEq, Eq)]
+#[derive(Clone, Copy)]
 pub enum Form {
     /// The lines, as text.
     Text,
@@ -54,7 +54,7 @@ pub enum Form {
 }
 
 /// When text has colour.
-#[derive(Clone, Copy, Debug, PartialEq, Eq)]
+#[derive(Clone, Copy, PartialEq, Eq)]
 pub enum Color {
     /// Where the output takes it: `auto`, and where nothing is asked for.
     Auto,

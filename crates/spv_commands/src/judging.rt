@@ -22,7 +22,7 @@ use spv_words::{FromWrite, Sink};
 use std::alloc::Global;
 
 /// How a verdict is told.
-#[derive(Clone, Copy, Debug, PartialEq, Eq)]
+#[derive(Clone, Copy)]
 pub enum Telling {
     /// By its lines alone.
     Bare,
@@ -33,7 +33,7 @@ pub enum Telling {
 }
 
 /// How each of several files is judged.
-#[derive(Clone, Copy, Debug, PartialEq, Eq)]
+#[derive(Clone, Copy)]
 pub struct Judging {
     /// What is done with each.
     pub task: Task,

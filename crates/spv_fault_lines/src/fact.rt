@@ -4,7 +4,7 @@ use spv_evidence::{Condition, EntryPart, Lister, Role, Side};
 use spv_table::Listed;
 
 /// How much the lines tell of opcodes that may come.
-#[derive(Clone, Copy, Debug, PartialEq, Eq)]
+#[derive(Clone, Copy, PartialEq, Eq)]
 pub enum Detail {
     /// The names of the opcodes where there are at most eight, and else their classes in words.
     Short,

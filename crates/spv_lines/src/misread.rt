@@ -1,5 +1,5 @@
 /// Why a token is no operand.
-#[derive(Clone, Copy, Debug, PartialEq, Eq)]
+#[derive(Clone, Copy)]
 pub enum Misread {
     /// It is none, or none of the kind that is due.
     IllFormed,

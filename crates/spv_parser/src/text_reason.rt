@@ -26,7 +26,7 @@ use spv_words::{Draft, MAGIC_NUMBER};
 use std::alloc::{AllocError, Global};
 
 /// What is wanted where the reading of a text stopped.
-#[derive(Clone, Copy, Debug, PartialEq, Eq)]
+#[derive(Clone, Copy)]
 pub enum Wanted {
     /// The line of the header with that number, from 1 to 5.
     HeaderLine(u32),
@@ -61,7 +61,7 @@ pub enum Wanted {
 }
 
 /// Why a text fails: its first fault, where the reading of its line stopped, and what is wanted there.
-#[derive(Clone, Copy, Debug)]
+#[derive(Clone, Copy)]
 pub struct TextReason<'a> {
     /// One of S1 to S5.
     pub code: AsmCode,

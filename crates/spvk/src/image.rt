@@ -12,7 +12,7 @@ use std::alloc::Global;
 
 /// Where a text fails: `spvk_fault` of C.
 #[repr(C)]
-#[derive(Clone, Copy, Debug, PartialEq, Eq)]
+#[derive(Clone, Copy)]
 pub struct TextFault {
     /// 0, or the number of the code.
     pub code: u32,

@@ -10,7 +10,7 @@ pub const NOWHERE: u32 = 0xffff_ffff;
 
 /// A verdict in numbers: `spvk_verdict` of C.
 #[repr(C)]
-#[derive(Clone, Copy, Debug, PartialEq, Eq)]
+#[derive(Clone, Copy)]
 pub struct Verdict {
     /// 0 for a valid module, else the number of the broken rule.
     pub code: u32,
@@ -22,7 +22,7 @@ pub struct Verdict {
 
 /// What a check answers: `spvk_answer` of C.
 #[repr(C)]
-#[derive(Clone, Copy, Debug, PartialEq, Eq)]
+#[derive(Clone, Copy)]
 pub struct Answer {
     /// 0 for a verdict, 1 for lack of memory, 2 for a handle without a grammar.
     pub status: u32,

@@ -14,7 +14,7 @@ use spv_table::EntryRef;
 use std::alloc::{AllocError, Global};
 
 /// Where the further words of an instruction lie.
-#[derive(Clone, Copy, Debug)]
+#[derive(Clone, Copy)]
 pub struct Place {
     pub opcode: u16,
     /// The number of its second word in the module, and that of the word after its last.
@@ -24,7 +24,7 @@ pub struct Place {
 
 /// An operand that fails, by its number, and the number of the kind that is due there. None is due where words are
 /// left.
-#[derive(Clone, Copy, Debug, PartialEq, Eq)]
+#[derive(Clone, Copy)]
 pub struct Failed {
     pub operand: u32,
     pub kind: Option<u32>,
