@@ -1,6 +1,6 @@
 -- One instruction at a word of the module.
 use Rattle.std.proofs.Common.{◌≡◌, ◌++◌, ◌∙◌, ◌+◌, ◌-◌, ◌*◌, ◌/◌, ◌%◌, ◌≤◌, ◌<◌, ℕ, zero, suc, List, ◌∷◌, Option, Some, None, option_map}
-use Rattle.std.proofs.Common.{length, take, drop, slice_index, refl, sym, ap, arith}
+use Rattle.std.proofs.Common.{length, take, drop, slice_index, refl, sym, ap, absurd, arith}
 use Rattle.std.proofs.lemmas.List.{drop_more, drop-drop, take-append-drop, length-drop}
 use Rattle.spv_table.specs.declared.table.Entry.{Entry}
 use Rattle.spv_table.specs.declared.table.Item.{Item}
@@ -17,7 +17,7 @@ use Rattle.spv_inst.specs.inner.Step.{IsMisfit, IsDeadFrom}
 use Rattle.spv_inst.proofs.Turns.{length-between}
 
 -- the entry of a pattern
-record EntryOf (G : Table) (opcode : ℕ) (operands : List Item) : Type 0 where
+pub record EntryOf (G : Table) (opcode : ℕ) (operands : List Item) : Type 0 where
   pub entry : Entry
   pub known : Some entry ≡ entry_of G opcode
   pub pattern : entry.operands ≡ operands
@@ -36,6 +36,7 @@ none_known G opcode is = by (entry_of G opcode) is
   where
     by : (o : Option Entry) → None ≡ option_map (λ (e : Entry). e.operands) o → None ≡ o
     by None n = refl
+    by (Some e) n = absurd cc
 
 -- a count of words from a place on, of those that are there
 pub record Front (ws : List ℕ) (at count opcode : ℕ) : Type 0 where
