@@ -1,6 +1,6 @@
 -- One instruction at a word of the module.
 use Rattle.std.proofs.Common.{◌≡◌, ◌++◌, ◌∙◌, ◌+◌, ◌-◌, ◌*◌, ◌/◌, ◌%◌, ◌≤◌, ◌<◌, ℕ, zero, suc, List, ◌∷◌, Option, Some, None, option_map}
-use Rattle.std.proofs.Common.{length, take, drop, slice_index, refl, sym, ap, absurd, arith}
+use Rattle.std.proofs.Common.{length, take, drop, slice_index, refl, sym, ap, arith}
 use Rattle.std.proofs.lemmas.List.{drop_more, drop-drop, take-append-drop, length-drop}
 use Rattle.spv_table.specs.declared.table.Entry.{Entry}
 use Rattle.spv_table.specs.declared.table.Item.{Item}
@@ -29,6 +29,7 @@ entry_known G opcode operands is = by (entry_of G opcode) refl is
     by : (o : Option Entry) → o ≡ entry_of G opcode → Some operands ≡ option_map (λ (e : Entry). e.operands) o
         → EntryOf G opcode operands
     by (Some e) k p = record { entry = e; known = k; pattern = cc }
+    by None k p = absurd cc
 
 pub none_known : (G : Table) (opcode : ℕ) → None ≡ option_map (λ (e : Entry). e.operands) (entry_of G opcode)
     → None ≡ entry_of G opcode
