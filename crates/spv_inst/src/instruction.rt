@@ -325,33 +325,3 @@ pub fn read_instruction<'t, 'a>(
     }
     read_by_pattern(scene, pending, operands, number, at)
 }
-
-/// The same as `read_instruction`, by a body of its own that its callers share, so that the program has that body in
-/// `decode` and here alone.
-#[inline(never)]
-pub fn read_apart<'t, 'a>(
-    scene: &Scene<'t, '_, 'a>,
-    pending: &mut Pending<'t>,
-    operands: &mut Vec<Operand<'a>>,
-    number: u32,
-    at: u32,
-) -> Result<Read, Stop>
-    requires forms { scene.now.forms.now ≡ map form_of scene.now.table.now.kinds }
-    requires whole { IsWhole scene.now.table.now }
-    requires fits { at < length scene.now.image.now }
-    // What is added is what the words from there on spell.
-    ensures read { (before : List PlainInst) → Knows scene.now.definitions.now before
-        → IfOk result
-        (λ r. IsInstruction scene.now.table.now before
-        (record { opcode = r.opcode; operands = plain_operands (drop r.first operands.new.items) })
-        (between scene.now.image.now at r.end)) }
-    ensures kept { IfOk result (λ r. (r.first ≡ length operands.old.items)
-        × (take r.first operands.new.items ≡ operands.old.items)) }
-    ensures few { IfOk result (λ r. length operands.new.items + at ≤ length operands.old.items + r.end) }
-    ensures within { IfOk result (λ r. (at < r.end) × (r.end ≤ length scene.now.image.now)) }
-    // A fault is the death of the instruction there.
-    ensures dead { (before : List PlainInst) → Knows scene.now.definitions.now before
-        → IfErr result (λ e. IsDeadFrom scene.now.table.now before scene.now.image.now number at e) }
-{
-    read_instruction(scene, pending, operands, number, at)
-}
