@@ -224,8 +224,9 @@ fn read_operands<'t, 'a>(
     read_further(&scene, pending, operands, place, begin, rest)
 }
 
-/// Reads an instruction by the items of its pattern, as `read_instruction` says.
-#[inline(always)]
+/// Reads an instruction by the items of its pattern, as `read_instruction` says. It has a body of its own, so that
+/// `read_instruction` stays small enough to become part of its callers.
+#[inline(never)]
 fn read_by_pattern<'t, 'a>(
     scene: &Scene<'t, '_, 'a>,
     pending: &mut Pending<'t>,
