@@ -3,7 +3,7 @@
 
 pub use crate::definitions::Definitions;
 pub use crate::enumerant::{joined, knows, knows_bits, mask_kinds, value_kinds};
-pub use crate::instruction::{Read, read_instruction};
+pub use crate::instruction::{Read, read_apart};
 pub use crate::items::DueItems;
 pub use crate::known::known_after;
 pub use crate::number::{context_width, switch_width};

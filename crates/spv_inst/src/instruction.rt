@@ -224,9 +224,8 @@ fn read_operands<'t, 'a>(
     read_further(&scene, pending, operands, place, begin, rest)
 }
 
-/// Reads an instruction by the items of its pattern, as `read_instruction` says. It has a body of its own, so that
-/// `read_instruction` stays small enough to become part of its callers.
-#[inline(never)]
+/// Reads an instruction by the items of its pattern, as `read_instruction` says.
+#[inline(always)]
 fn read_by_pattern<'t, 'a>(
     scene: &Scene<'t, '_, 'a>,
     pending: &mut Pending<'t>,
@@ -325,4 +324,93 @@ pub fn read_instruction<'t, 'a>(
         }
     }
     read_by_pattern(scene, pending, operands, number, at)
+}
+
+/// The same as `read_operands`, in few steps of code.
+fn read_operands_apart<'t, 'a>(
+    scene: &Scene<'t, '_, 'a>,
+    pending: &mut Pending<'t>,
+    operands: &mut Vec<Operand<'a>>,
+    pattern: &PatternRef<'t>,
+    place: Place,
+) -> Result<(), Stop>
+    requires forms { scene.now.forms.now ≡ map form_of scene.now.table.now.kinds }
+    requires whole { IsWhole scene.now.table.now }
+    requires order { place.first ≤ place.end }
+    requires fits { place.end ≤ length scene.now.image.now }
+    // What is added is what the words from the first up to the end spell.
+    ensures read { (before : List PlainInst) → Knows scene.now.definitions.now before
+        → OnOk result
+        (Match scene.now.table.now (start before place.opcode) (items_of pattern.now)
+        (plain_operands (drop (length operands.old.items) operands.new.items))
+        (between scene.now.image.now place.first place.end)) }
+    ensures kept { OnOk result (take (length operands.old.items) operands.new.items ≡ operands.old.items) }
+    ensures few { OnOk result (length operands.new.items + place.first ≤ length operands.old.items + place.end) }
+    // A fault tells what refuses these words.
+    ensures misfit { (before : List PlainInst) → Knows scene.now.definitions.now before
+        → IfErr result
+        (λ e. IsMisfit scene.now.table.now (start before place.opcode) (items_of pattern.now)
+        (between scene.now.image.now place.first place.end) place.number place.first e) }
+{
+    let begin = operands.len();
+    operands.reserve((place.end - place.first) as usize)?;
+    let items = DueItems::of(pattern);
+    let at = place.first;
+    let rest = Rest {
+        kinds: &[],
+        items,
+        at,
+    };
+    read_further(scene, pending, operands, place, begin, rest)
+}
+
+/// The same as `read_instruction`, for callers that read few instructions. It has a body of its own, so that the one of
+/// `read_instruction` is in `decode` alone, where it has become part of the loop.
+#[inline(never)]
+pub fn read_apart<'t, 'a>(
+    scene: &Scene<'t, '_, 'a>,
+    pending: &mut Pending<'t>,
+    operands: &mut Vec<Operand<'a>>,
+    number: u32,
+    at: u32,
+) -> Result<Read, Stop>
+    requires forms { scene.now.forms.now ≡ map form_of scene.now.table.now.kinds }
+    requires whole { IsWhole scene.now.table.now }
+    requires fits { at < length scene.now.image.now }
+    // What is added is what the words from there on spell.
+    ensures read { (before : List PlainInst) → Knows scene.now.definitions.now before
+        → IfOk result
+        (λ r. IsInstruction scene.now.table.now before
+        (record { opcode = r.opcode; operands = plain_operands (drop r.first operands.new.items) })
+        (between scene.now.image.now at r.end)) }
+    ensures kept { IfOk result (λ r. (r.first ≡ length operands.old.items)
+        × (take r.first operands.new.items ≡ operands.old.items)) }
+    ensures few { IfOk result (λ r. length operands.new.items + at ≤ length operands.old.items + r.end) }
+    ensures within { IfOk result (λ r. (at < r.end) × (r.end ≤ length scene.now.image.now)) }
+    // A fault is the death of the instruction there.
+    ensures dead { (before : List PlainInst) → Knows scene.now.definitions.now before
+        → IfErr result (λ e. IsDeadFrom scene.now.table.now before scene.now.image.now number at e) }
+{
+    let head = word(scene.image, at);
+    let count = head / 65536;
+    let opcode = (head % 65536) as u16;
+    if count == 0 {
+        return Err(fault_at(number, Rule::I1, at));
+    }
+    if count > scene.image.len() - at {
+        return Err(fault_at(number, Rule::I2, at));
+    }
+    let Some(pattern) = scene.table.pattern(opcode) else {
+        return Err(fault_at(number, Rule::I3, at));
+    };
+    let place = Place {
+        number,
+        opcode,
+        first: at + 1,
+        end: at + count,
+    };
+    let first = operands.len();
+    let end = place.end;
+    read_operands_apart(scene, pending, operands, &pattern, place)?;
+    Ok(Read { opcode, first, end })
 }

@@ -13,7 +13,7 @@ ghost use Rattle.spv_printer.specs.inner.Printer.{IsReady};
 use crate::fast_line::{SIZE, fast_line};
 use crate::printer::Printer;
 use crate::shown::push_header;
-use spv_inst::due::{Scene, read_instruction};
+use spv_inst::due::{Scene, read_apart};
 use spv_module::{Operand, Stop};
 use spv_table::Table;
 use spv_words::Image;
@@ -57,7 +57,7 @@ fn push_read<'t, 'a>(
         image,
     };
     operands.clear();
-    let read = read_instruction(&scene, &mut printer.pending, operands, number, at)?;
+    let read = read_apart(&scene, &mut printer.pending, operands, number, at)?;
     printer.push_line(out, table, read.opcode, operands.as_slice())?;
     Ok(read.end)
 }

@@ -7,7 +7,7 @@ ghost use Rattle.spv_module.specs.Malformed.{IsMalformedAt};
 ghost use Rattle.spv_table.specs.inner.Form.{form_of};
 ghost use Rattle.spv_form_evidence.specs.words.inner.Before.{IsBefore};
 
-use spv_inst::due::{Definitions, Form, Pending, Scene, read_instruction};
+use spv_inst::due::{Definitions, Form, Pending, Scene, read_apart};
 use spv_module::Stop;
 use spv_table::{Memory, Table};
 use spv_words::Image;
@@ -49,7 +49,7 @@ pub fn read_before(
             image,
         };
         operands.clear();
-        let read = match read_instruction(&scene, &mut pending, &mut operands, number, at) {
+        let read = match read_apart(&scene, &mut pending, &mut operands, number, at) {
             Ok(read) => read,
             Err(Stop::Memory) => return Err(Memory),
             Err(Stop::Fault(_)) => unreachable!(),

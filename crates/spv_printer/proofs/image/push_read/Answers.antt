@@ -9,7 +9,7 @@ pub returns-clause-next : goal.returns-clause-next
 returns-clause-next c = λ before k.
     let G = c.args.table.now in
     let x = c.in_ok-read.read in
-    let os = c.read_instruction.new.operands.items in
+    let os = c.read_apart.new.operands.items in
     let v = c.as_slice.ensures.value in
     let i : PlainInst = record { opcode = x.opcode; operands = plain_operands os } in
     let f : x.first ≡ 0 = c.in_ok-read.ensures.kept.0 ∙ ap (λ (zs : List Operand). length zs) c.clear.ensures.items in

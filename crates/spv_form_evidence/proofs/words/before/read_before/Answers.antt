@@ -9,8 +9,8 @@ loop-number-init c =
     before_first c.args.table.now c.args.image.now c.new-definitions.result d.0 c.args.inst d.1
     c.new-definitions.ensures d.2
 
-pub read_instruction-requires-clause-fits : goal.read_instruction-requires-clause-fits
-read_instruction-requires-clause-fits c =
+pub read_apart-requires-clause-fits : goal.read_apart-requires-clause-fits
+read_apart-requires-clause-fits c =
     let d = c.requires.dead in
     before_within c.args.table.now c.args.image.now c.loop-number.number c.loop-number.at c.loop-number.definitions
     d.0 c.args.inst d.1 c.loop-number.invariant d.2
@@ -26,7 +26,7 @@ unreachable-requires c =
 pub loop-number-preserved : goal.loop-number-preserved
 loop-number-preserved c =
     let x = c.in-Ok.read in
-    let new = c.read_instruction.new.operands.items in
+    let new = c.read_apart.new.operands.items in
     let kept = c.in-Ok.ensures.kept in
     let f : x.first ≡ 0 = kept.0 ∙ ap length c.clear.ensures.items in
     let within = c.in-Ok.ensures.within in
