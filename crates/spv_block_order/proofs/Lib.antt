@@ -1,0 +1,4 @@
+mod Bridging
+mod Telling
+mod Uses
+mod Joining

@@ -1,0 +1,128 @@
+//! Scopes and memory semantics: O14.
+
+ghost use Rattle.std.specs.Prelude.{◌≡◌, ◌↔◌, ◌<◌, ◌≢◌, ℕ, Some, IsTrue, Contains, slice_get, option_map};
+ghost use Rattle.spv_module.specs.Module.{plain_inst, plain_operands};
+ghost use Rattle.spv_module.specs.declared.opcode.TheConstants as opcode;
+ghost use Rattle.spv_kernel_operands.specs.Value as value;
+ghost use Rattle.spv_kernel_operands.specs.Scopes as spec;
+ghost use Rattle.spv_kernel_operands.specs.Seats as seats;
+ghost use Rattle.spv_kernel_operands.specs.inner.Scopes as inner;
+
+use crate::seats::{scopes_of, semantics_of};
+use crate::value::{has_bit, value_at};
+use spv_module::{Inst, Operand, opcode};
+use spv_type_forms::Definitions;
+
+/// The bits Acquire, Release, AcquireRelease and SequentiallyConsistent.
+const ORDERS: u64 = 30;
+
+/// The bits UniformMemory, OutputMemory, MakeAvailable, MakeVisible and Volatile, which no kernel has.
+const FOREIGN: u64 = 61504;
+
+/// Whether a number has at most one of the bits of orders.
+fn has_one_order(number: u64) -> bool
+    ensures { IsTrue result ↔ spec.HasOneOrder number }
+{
+    match number & ORDERS {
+        0 | 2 | 4 | 8 | 16 => true,
+        _ => false,
+    }
+}
+
+/// Whether an opcode is that of a group instruction, whose first scope is that of a group.
+fn is_group(code: u16) -> bool
+    ensures { result ≡ spec.is_group code }
+{
+    (opcode::GROUP_ASYNC_COPY <= code && code <= opcode::GROUP_S_MAX)
+        || (opcode::GROUP_RESERVE_READ_PIPE_PACKETS <= code
+            && code <= opcode::GROUP_COMMIT_WRITE_PIPE)
+        || (opcode::GROUP_NON_UNIFORM_ELECT <= code && code <= opcode::GROUP_NON_UNIFORM_QUAD_SWAP)
+}
+
+/// Whether the value of one of these operands is over Invocation.
+fn has_high_scope(definitions: &Definitions, operands: &[Operand], seats: &[u32]) -> bool
+    ensures { IsTrue result ↔ inner.HasHighScope definitions.now (plain_operands operands.now) seats.now }
+{
+    for seat in seats {
+        if let Some(scope) = value_at(definitions, operands, *seat) {
+            if 4 < scope {
+                return true;
+            }
+        }
+    }
+    false
+}
+
+/// Whether the value of the first of these operands is neither Workgroup nor Subgroup.
+fn is_no_group(definitions: &Definitions, operands: &[Operand], seats: &[u32]) -> bool
+    ensures { IsTrue result ↔ inner.IsNoGroup definitions.now (plain_operands operands.now) seats.now }
+{
+    let Some(seat) = seats.first() else {
+        return false;
+    };
+    match value_at(definitions, operands, *seat) {
+        Some(scope) => scope != 2 && scope != 3,
+        None => false,
+    }
+}
+
+/// Whether the value of one of these operands has two orders, or a bit that no kernel has.
+fn has_bad_semantics(definitions: &Definitions, operands: &[Operand], seats: &[u32]) -> bool
+    ensures { IsTrue result ↔ inner.HasBadSemantics definitions.now (plain_operands operands.now) seats.now }
+{
+    for seat in seats {
+        if let Some(semantics) = value_at(definitions, operands, *seat) {
+            if !has_one_order(semantics) || has_bit(semantics, FOREIGN) {
+                return true;
+            }
+        }
+    }
+    false
+}
+
+/// Whether the semantics for where the values differ release, or are stronger than those for where they are equal.
+fn is_too_strong(equal: Option<u64>, unequal: u64) -> bool
+    ensures { IsTrue result ↔ spec.IsTooStrong equal unequal }
+{
+    if has_bit(unequal, 12) {
+        return true;
+    }
+    match equal {
+        Some(semantics) => (has_bit(unequal, 16) && !has_bit(semantics, 16))
+            || (has_bit(unequal, 2) && !has_bit(semantics, ORDERS)),
+        None => false,
+    }
+}
+
+/// Whether the semantics of an OpAtomicCompareExchange or an OpAtomicFlagClear are none that it may have.
+fn has_own_bad_semantics(definitions: &Definitions, inst: &Inst<'_>) -> bool
+    ensures { IsTrue result ↔ inner.HasOwnBadSemantics definitions.now (plain_inst inst.now) }
+{
+    let operands = inst.operands.as_slice();
+    match inst.opcode {
+        opcode::ATOMIC_COMPARE_EXCHANGE => match value_at(definitions, operands, 5) {
+            Some(unequal) => is_too_strong(value_at(definitions, operands, 4), unequal),
+            None => false,
+        },
+        opcode::ATOMIC_FLAG_CLEAR => match value_at(definitions, operands, 2) {
+            Some(semantics) => has_bit(semantics, 10),
+            None => false,
+        },
+        _ => false,
+    }
+}
+
+/// Whether an instruction breaks O14: it has a scope or memory semantics with a value that there may not be there.
+pub fn is_misscoped(definitions: &Definitions, inst: &Inst<'_>) -> bool
+    ensures { IsTrue result ↔ spec.IsMisscoped definitions.now (plain_inst inst.now) }
+{
+    let scopes = scopes_of(inst.opcode);
+    if scopes.is_empty() {
+        return false;
+    }
+    let operands = inst.operands.as_slice();
+    has_high_scope(definitions, operands, scopes)
+        || (is_group(inst.opcode) && is_no_group(definitions, operands, scopes))
+        || has_bad_semantics(definitions, operands, semantics_of(inst.opcode))
+        || has_own_bad_semantics(definitions, inst)
+}
