@@ -6,3 +6,4 @@ mod Forests
 mod Uppers
 mod Settled
 mod Searching
+mod Worked
