@@ -4,6 +4,7 @@ mod Places
 mod Avoiding
 mod Forests
 mod Uppers
+mod Growing
 mod Settled
 mod Searching
 mod Worked
