@@ -1,6 +1,8 @@
 -- Blocks of the graph of a function, and OpLabels on its walks.
-use Rattle.std.proofs.Common.{◌≡◌, ◌<◌, ◌≤◌, ◌+◌, ◌-◌, ◌++◌, ◌∙◌, ◌⊎◌, ℕ, zero, suc, List, [], ◌∷◌, Option, Some, None, length, refl, sym, ap, subst, inl, inr, arith}
-use Rattle.std.specs.Prelude.{Any, All, Contains, slice_get, slice_index, slice_index_or, slice_range, option_map, unwrap_or, drop}
+use Rattle.std.proofs.Common.{◌≡◌, ◌<◌, ◌≤◌, ◌+◌, ◌-◌, ◌++◌, ◌∙◌, ◌⊎◌, ℕ, zero, suc, List, [], ◌∷◌, Option, Some, None}
+use Rattle.std.proofs.Common.{length, refl, sym, ap, subst, inl, inr, arith}
+use Rattle.std.specs.Prelude.{Any, All, Contains, slice_get, slice_index, slice_index_or, slice_range, option_map}
+use Rattle.std.specs.Prelude.{unwrap_or, drop}
 use Rattle.std.proofs.lemmas.Bool.{cases_lt, cases_order}
 use Rattle.std.proofs.lemmas.List.Elements.{All-take, All-drop, All-contains}
 use Rattle.spv_table.specs.Table.{Table}
@@ -20,10 +22,16 @@ use Rattle.spv_flow.proofs.lemmas.walks.Walking.{first_in, begin_first, comes, w
 use Rattle.spv_block_order.specs.Early.{IsEarlyIn}
 use Rattle.spv_block_order.specs.inner.First.{IsFirstIn}
 
-in_none : (x : ℕ) → ¬ (Contains [] x)
+pub in_none : (x : ℕ) → ¬ (Contains [] x)
 in_none x (k, lt, e) = absurd (omega (arith, lt))
 
-in_cases : (h x : ℕ) (past : List ℕ) → Contains (h ∷ past) x → (h ≡ x) ⊎ Contains past x
+pub in_first : (x : ℕ) (past : List ℕ) → Contains (x ∷ past) x
+in_first x past = (0, omega arith, refl)
+
+pub in_later : (h x : ℕ) (past : List ℕ) → Contains past x → Contains (h ∷ past) x
+in_later h x past (k, lt, e) = (suc k, omega (arith, lt), e)
+
+pub in_cases : (h x : ℕ) (past : List ℕ) → Contains (h ∷ past) x → (h ≡ x) ⊎ Contains past x
 in_cases h x past (zero, lt, e) = inl e
 in_cases h x past (suc k, lt, e) = inr (k, omega (arith, lt), e)
 
@@ -96,7 +104,8 @@ by_block graph is (Some s) =
 target_within : (graph : Graph) → IsGraph graph → (b t : ℕ) → Contains (targets_of graph b) t → t < block_count graph
 unfolding targets_of
 target_within graph is b t h =
-    All-contains (λ (n : ℕ). n < block_count graph) t (by_block graph is (slice_get graph.blocks.items b)) h
+    All-contains (λ (n : ℕ). n < block_count graph) (targets_of graph b) t
+    (by_block graph is (slice_get graph.blocks.items b)) h
 
 block_within : (graph : Graph) → IsGraph graph → (past : List ℕ) (b : ℕ) → IsPath graph past b → b < block_count graph
 block_within graph is [] b path = (let some = is.some in omega (arith, path, some))
@@ -108,6 +117,14 @@ path_to graph [] b path x h = absurd (in_none x h)
 path_to graph (y ∷ past) b path x h = elim (in_cases y x past h) [
   | inl same ↦ (past, subst (λ (k : ℕ). IsPath graph past k) same path.2)
   | inr old ↦ path_to graph past y path.2 x old
+]
+
+path_within : (graph : Graph) (past : List ℕ) (b : ℕ) → IsPath graph past b → (x : ℕ) → Contains past x
+    → x < block_count graph
+path_within graph [] b path x h = absurd (in_none x h)
+path_within graph (y ∷ past) b path x h = elim (in_cases y x past h) [
+  | inl same ↦ (let l = path.0 in omega (arith, l, same))
+  | inr old ↦ path_within graph past y path.2 x old
 ]
 
 -- A block to which another leads begins at an OpLabel.
@@ -231,7 +248,6 @@ walk_early G is f starts graph g n early =
       | inr later ↦ trail_block starts k.blocks early.block (any_contains (trail starts k.blocks) early.block later)
     ] in
     let b : ℕ = there.block in
-    let b_path = path_to graph k.blocks c k.path b there.among in
     let count = g.count in
     let b_within = path_within graph k.blocks c k.path b there.among in
     let b_in : b + 1 < length starts = omega (arith, b_within, count) in
@@ -259,14 +275,14 @@ walk_early G is f starts graph g n early =
             subst (λ (j : ℕ). Contains past j) same o.among);
       };
     }
-  where
-    path_within : (graph : Graph) (past : List ℕ) (b : ℕ) → IsPath graph past b → (x : ℕ) → Contains past x
-        → x < block_count graph
-    path_within graph [] b path x h = absurd (in_none x h)
-    path_within graph (y ∷ past) b path x h = elim (in_cases y x past h) [
-      | inl same ↦ (let l = path.0 in omega (arith, l, same))
-      | inr old ↦ path_within graph past y path.2 x old
-    ]
+
+-- a block of the graph that stands early is among the first instructions
+pub early_within : (G : Table) (is : List PlainInst) (f : ℕ) (starts : List ℕ) (graph : Graph)
+    → IsGraphOf G is f starts graph → IsGraph graph → (c : ℕ) → IsEarly graph c → c < length starts
+early_within G is f starts graph g ok c early =
+    let within = block_within graph ok early.past c early.path in
+    let count = g.count in
+    omega (arith, within, count)
 
 -- the first of the graph is the first of the function
 pub first_by : (G : Table) (is : List PlainInst) (f : ℕ) (starts : List ℕ) (graph : Graph)

@@ -1,4 +1,6 @@
 mod Bridging
 mod Telling
-mod Uses
+mod Using
 mod Joining
+mod Coding
+mod Worked

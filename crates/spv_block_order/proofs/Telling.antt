@@ -24,7 +24,7 @@ use Rattle.spv_block_order.specs.inner.First.{IsFirstIn, IsFirstBlock}
 pub record AreInOrder (c : Code) (n : ℕ) : Type 0 where
   pub none : (G : Table) → IsCode G c → (f m : ℕ) → f < n → ¬ (IsEarlyIn G (insts_of c) f m)
 
-walk_function : (G : Table) (is : List PlainInst) (f : ℕ) (past : List ℕ) (n : ℕ) → IsWalk G is f past n
+pub walk_function : (G : Table) (is : List PlainInst) (f : ℕ) (past : List ℕ) (n : ℕ) → IsWalk G is f past n
     → IsOp is f is_function
 walk_function G is f _ _ (IsWalk.begins op) = op
 walk_function G is f _ _ (IsWalk.goes past n m walk next of) = walk_function G is f past n walk

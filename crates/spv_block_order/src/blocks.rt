@@ -4,6 +4,7 @@ ghost use Rattle.std.specs.Prelude.{◌≡◌, ◌≤◌, IfOk, OnOk, length};
 ghost use Rattle.spv_table.specs.Table.{Table};
 ghost use Rattle.spv_layout.specs.Place.{AreFew};
 ghost use Rattle.spv_flow.specs.walks.inner.Code.{insts_of, IsCode};
+ghost use Rattle.spv_flow.specs.walks.inner.Leading.{AreBlocks};
 ghost use Rattle.spv_flow.specs.walks.inner.Starts.{IsExtent};
 ghost use Rattle.spv_block_order.specs.inner.First.{IsFirstIn, IsFirstBlock};
 
@@ -40,6 +41,27 @@ impl Buffers {
     }
 }
 
+/// The OpLabel of the first block of a function that is divided that stands before one that dominates it. `graph` is to
+/// be used; what it holds is of no account.
+fn first_in_blocks(
+    alloc: Global,
+    code: &Code<'_, '_>,
+    blocks: &Blocks<'_>,
+    graph: &mut Graph,
+) -> Result<Option<u32>, AllocError>
+    requires code { (G : Table) × IsCode G code.now }
+    requires blocks { AreBlocks (insts_of code.now) blocks.now }
+    requires most { AreFew code.now.insts.now }
+    ensures { IfOk result (λ o. (G : Table) → IsCode G code.now
+        → IsFirstIn G (insts_of code.now) blocks.now.function o) }
+{
+    build(code, blocks, graph)?;
+    match first_early(alloc, graph)? {
+        Some(block) => Ok(Some(blocks.starts[block as usize])),
+        None => Ok(None),
+    }
+}
+
 /// The OpLabel of the first block of a function that stands before one that dominates it.
 fn first_in_function(
     alloc: Global,
@@ -68,11 +90,7 @@ fn first_in_function(
         starts: buffers.starts.as_slice(),
         numbers: buffers.numbers.as_slice(),
     };
-    build(code, &blocks, &mut buffers.graph)?;
-    match first_early(alloc, &buffers.graph)? {
-        Some(block) => Ok(Some(buffers.starts[block as usize])),
-        None => Ok(None),
-    }
+    first_in_blocks(alloc, code, &blocks, &mut buffers.graph)
 }
 
 /// The OpLabel of the first block that stands before one that dominates it: some walk ends there, and each walk that

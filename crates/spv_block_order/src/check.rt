@@ -55,17 +55,15 @@ pub fn check_order(alloc: Global, module: &Module<'_>, plan: &Plan, ids: &Ids) -
         ids,
         globals,
     };
-    let block = first_early_block(alloc, &code)?;
     // Of what is told at an OpLabel, O1 comes first, so that uses are looked at below it alone.
-    let limit = match block {
-        Some(label) => label,
-        None => insts.len() as u32,
-    };
-    if let Some(inst) = first_early_use(&code, limit) {
-        return Err(plan.stop_at(Rule::O2, inst));
-    }
-    match block {
-        Some(label) => Err(plan.stop_at(Rule::O1, label)),
-        None => Ok(()),
+    match first_early_block(alloc, &code)? {
+        Some(label) => match first_early_use(&code, label) {
+            Some(inst) => Err(plan.stop_at(Rule::O2, inst)),
+            None => Err(plan.stop_at(Rule::O1, label)),
+        },
+        None => match first_early_use(&code, insts.len() as u32) {
+            Some(inst) => Err(plan.stop_at(Rule::O2, inst)),
+            None => Ok(()),
+        },
     }
 }

@@ -17,6 +17,7 @@ pub fn order_examples()
     // The block of %2 stands before that of %3, by which each walk comes to it.
     ensures turned { (G : Table) → IsEarlyBlock G turned 3 }
     ensures in_order { (G : Table) → ¬ (IsEarlyBlock G in_order 3) }
-    // No walk comes to the block of %2, in which %7 is used before it is defined.
+    // No walk comes to the block of %2, in which %7 is used before it is defined, and %6 after that.
     ensures unreached { (G : Table) → IsEarlyUse G unreached 4 }
+    ensures defined { (G : Table) → ¬ (IsEarlyUse G unreached 5) }
 {}
