@@ -1,11 +1,13 @@
 -- Whether a use stands before the definition.
-use Rattle.std.proofs.Common.{◌≡◌, ◌<◌, ◌≤◌, ℕ, List, Bool, true, false, Some, length, sym, subst, arith}
-use Rattle.std.specs.Prelude.{MatchBool, slice_get}
+use Rattle.std.proofs.Common.{◌≡◌, ◌<◌, ◌≤◌, ℕ, zero, suc, List, [], ◌∷◌, Bool, true, false, Option, Some, None, length}
+use Rattle.std.proofs.Common.{sym, subst, arith}
+use Rattle.std.specs.Prelude.{MatchBool, MatchOption, is_some, slice_get}
 use Rattle.std.proofs.lemmas.Bool.{eqb-true}
 use Rattle.spv_module.specs.declared.opcode.TheConstants as opcode
 use Rattle.spv_table.specs.Table.{Table}
 use Rattle.spv_module.specs.Operand.{PlainInst}
 use Rattle.spv_layout.specs.declared.form.Role.{Role}
+use Rattle.spv_layout.specs.declared.place.Place.{Place}
 use Rattle.spv_layout.specs.Place.{IsOfBlock}
 use Rattle.spv_layout.specs.Shape.{IsUse}
 use Rattle.spv_ids.specs.Definition.{IsDefinedAt, IsUsedAt}
@@ -86,3 +88,15 @@ outside_late G is n none e = none e.block e.of
 pub other_by : (is : List PlainInst) (n : ℕ) (i : PlainInst) → slice_get is n ≡ Some i → (i.opcode ≡ opcode.PHI → ⊥)
     → ¬ (IsOp is n is_phi)
 other_by is n i there isnt op = isnt (eqb-true i.opcode opcode.PHI (op_tells is n i is_phi there op))
+
+-- whether an instruction is of a block
+pub of_block : (is : List PlainInst) (n : ℕ) (o : Option ℕ) (b : Bool) → b ≡ is_some o
+    → MatchOption o ((k : ℕ) → ¬ (IsOfBlock is n k)) (λ k. IsOfBlock is n k)
+    → MatchBool b ((k : ℕ) × IsOfBlock is n k) ((k : ℕ) → ¬ (IsOfBlock is n k))
+of_block is n None b e h = rw e h
+of_block is n (Some k) b e h = rw e (k, h)
+
+pub not_past : (places : List Place) (n : ℕ) → n < length places → ¬ (slice_get places n ≡ None)
+not_past [] n lt e = omega (arith, lt)
+not_past (p ∷ places) zero lt e = cc
+not_past (p ∷ places) (suc n) lt e = not_past places n (omega (arith, lt)) e

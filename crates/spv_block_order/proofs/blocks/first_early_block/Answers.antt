@@ -10,8 +10,8 @@ use Rattle.spv_block_order.specs.inner.First.{IsFirstIn}
 use Rattle.spv_block_order.proofs.Telling.{order_start, order_other, order_more, order_all, first_here}
 use Rattle.spv_block_order.proofs.blocks.first_early_block.Goals as goal
 
-pub function_extent-requires-clause-function : goal.function_extent-requires-clause-function
-function_extent-requires-clause-function c =
+pub function_extent-end-requires-clause-function : goal.function_extent-end-requires-clause-function
+function_extent-end-requires-clause-function c =
     let code = c.args.code.now in
     let at = c.loop-at.at in
     let i = plain_inst (get_or code.insts.now at c.index-code-at.result) in
@@ -37,7 +37,7 @@ loop-at-preserved-then-code-at-eq-FUNCTION c =
     c.in_ok-inst.ensures.first in
     record {
       count = c.in_ok-inst.ensures.count;
-      order = order_more code at c.function_extent.result.end c.function_extent.ensures.extent none
+      order = order_more code at c.function_extent-end.result.end c.function_extent-end.ensures.extent none
           c.loop-at.invariant.order;
     }
 

@@ -30,8 +30,8 @@ returns-in-Some c =
     (graph_of G code b graph is c.requires.blocks c.in_ok-build.ensures)
     (is_graph code b graph c.requires.most c.requires.blocks c.in_ok-build.ensures) (Some c.in-Some.block) first
 
-pub returns : goal.returns
-returns c =
+pub returns-in-None : goal.returns-in-None
+returns-in-None c =
     let code = c.args.code.now in
     let b = c.args.blocks.now in
     let graph = c.build.new.graph in
