@@ -1,5 +1,5 @@
 -- Blocks of the graph of a function, and OpLabels on its walks.
-use Rattle.std.proofs.Common.{◌≡◌, ◌<◌, ◌≤◌, ◌+◌, ◌-◌, ◌++◌, ◌∙◌, ◌⊎◌, ℕ, zero, suc, List, [], ◌∷◌, Option, Some, None}
+use Rattle.std.proofs.Common.{◌≡◌, ◌<◌, ◌≤◌, ◌+◌, ◌-◌, ◌++◌, ◌⊎◌, ℕ, zero, suc, List, [], ◌∷◌, Option, Some, None}
 use Rattle.std.proofs.Common.{length, refl, sym, ap, subst, inl, inr, arith}
 use Rattle.std.specs.Prelude.{Any, All, Contains, slice_get, slice_index, slice_index_or, slice_range, option_map}
 use Rattle.std.specs.Prelude.{unwrap_or, drop}

@@ -1,6 +1,6 @@
 -- Whether a use stands before the definition.
 use Rattle.std.proofs.Common.{◌≡◌, ◌<◌, ◌≤◌, ℕ, zero, suc, List, [], ◌∷◌, Bool, true, false, Option, Some, None, length}
-use Rattle.std.proofs.Common.{sym, subst, arith}
+use Rattle.std.proofs.Common.{subst, arith}
 use Rattle.std.specs.Prelude.{MatchBool, MatchOption, is_some, slice_get}
 use Rattle.std.proofs.lemmas.Bool.{eqb-true}
 use Rattle.spv_module.specs.declared.opcode.TheConstants as opcode
@@ -10,7 +10,7 @@ use Rattle.spv_layout.specs.declared.form.Role.{Role}
 use Rattle.spv_layout.specs.declared.place.Place.{Place}
 use Rattle.spv_layout.specs.Place.{IsOfBlock}
 use Rattle.spv_layout.specs.Shape.{IsUse}
-use Rattle.spv_ids.specs.Definition.{IsDefinedAt, IsUsedAt}
+use Rattle.spv_ids.specs.Definition.{IsDefinedAt}
 use Rattle.spv_flow.specs.branches.Target.{is_phi, IsOp}
 use Rattle.spv_flow.specs.branches.Ready.{IsLocalValue}
 use Rattle.spv_flow.specs.declared.walks.code.Code.{Code}

@@ -1,5 +1,5 @@
 -- Blocks that stand before one that dominates them, and uses that stand before the definition. [2.2.5, 2.16.1]
-use Rattle.std.specs.Prelude.{◌≡◌, ◌<◌, ℕ, List, Contains}
+use Rattle.std.specs.Prelude.{◌<◌, ℕ, List, Contains}
 use Rattle.spv_table.specs.Table.{Table}
 use Rattle.spv_module.specs.Operand.{PlainInst}
 use Rattle.spv_layout.specs.declared.form.Role.{Role}

@@ -1,4 +1,4 @@
-use Rattle.std.proofs.Common.{Some, None, arith}
+use Rattle.std.proofs.Common.{Some, None}
 use Rattle.spv_flow.specs.walks.inner.Code.{insts_of}
 use Rattle.spv_flow.proofs.lemmas.walks.Deciding.{graph_of, is_graph}
 use Rattle.spv_block_order.proofs.Bridging.{early_within, first_by}
