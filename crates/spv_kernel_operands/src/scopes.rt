@@ -1,6 +1,6 @@
 //! Scopes and memory semantics: O14.
 
-ghost use Rattle.std.specs.Prelude.{◌≡◌, ◌↔◌, ◌<◌, ◌≢◌, ℕ, Some, IsTrue, Contains, slice_get, option_map};
+ghost use Rattle.std.specs.Prelude.{◌≡◌, ◌↔◌, ◌<◌, ◌≢◌, ℕ, Some, IsSomeAnd, IsTrue};
 ghost use Rattle.spv_module.specs.Module.{plain_inst, plain_operands};
 ghost use Rattle.spv_module.specs.declared.opcode.TheConstants as opcode;
 ghost use Rattle.spv_kernel_operands.specs.Value as value;
@@ -39,15 +39,23 @@ fn is_group(code: u16) -> bool
         || (opcode::GROUP_NON_UNIFORM_ELECT <= code && code <= opcode::GROUP_NON_UNIFORM_QUAD_SWAP)
 }
 
+/// Whether a value, if there is one, is over Invocation.
+fn is_high(scope: Option<u64>) -> bool
+    ensures { IsTrue result ↔ IsSomeAnd scope (λ n. 4 < n) }
+{
+    match scope {
+        Some(scope) => 4 < scope,
+        None => false,
+    }
+}
+
 /// Whether the value of one of these operands is over Invocation.
 fn has_high_scope(definitions: &Definitions, operands: &[Operand], seats: &[u32]) -> bool
     ensures { IsTrue result ↔ inner.HasHighScope definitions.now (plain_operands operands.now) seats.now }
 {
     for seat in seats {
-        if let Some(scope) = value_at(definitions, operands, *seat) {
-            if 4 < scope {
-                return true;
-            }
+        if is_high(value_at(definitions, operands, *seat)) {
+            return true;
         }
     }
     false
@@ -66,15 +74,23 @@ fn is_no_group(definitions: &Definitions, operands: &[Operand], seats: &[u32]) -
     }
 }
 
+/// Whether a value, if there is one, has two orders, or a bit that no kernel has.
+fn are_bad_semantics(semantics: Option<u64>) -> bool
+    ensures { IsTrue result ↔ IsSomeAnd semantics inner.AreBadSemantics }
+{
+    match semantics {
+        Some(semantics) => !has_one_order(semantics) || has_bit(semantics, FOREIGN),
+        None => false,
+    }
+}
+
 /// Whether the value of one of these operands has two orders, or a bit that no kernel has.
 fn has_bad_semantics(definitions: &Definitions, operands: &[Operand], seats: &[u32]) -> bool
     ensures { IsTrue result ↔ inner.HasBadSemantics definitions.now (plain_operands operands.now) seats.now }
 {
     for seat in seats {
-        if let Some(semantics) = value_at(definitions, operands, *seat) {
-            if !has_one_order(semantics) || has_bit(semantics, FOREIGN) {
-                return true;
-            }
+        if are_bad_semantics(value_at(definitions, operands, *seat)) {
+            return true;
         }
     }
     false

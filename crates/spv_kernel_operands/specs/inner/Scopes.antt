@@ -16,8 +16,11 @@ pub record HasValue (P : ℕ → Type 0) (is : List PlainInst) (os : List Plain)
 abbrev pub HasHighScope : List PlainInst → List Plain → List ℕ → Type 0
 HasHighScope is os seats = HasValue (λ n. 4 < n) is os seats
 
+abbrev pub AreBadSemantics : ℕ → Type 0
+AreBadSemantics n = ¬ (HasOneOrder n) ⊎ IsTrue (has_bit n foreign)
+
 abbrev pub HasBadSemantics : List PlainInst → List Plain → List ℕ → Type 0
-HasBadSemantics is os seats = HasValue (λ n. ¬ (HasOneOrder n) ⊎ IsTrue (has_bit n foreign)) is os seats
+HasBadSemantics is os seats = HasValue AreBadSemantics is os seats
 
 -- The first of these operands has a value that is neither Workgroup nor Subgroup.
 pub record IsNoGroup (is : List PlainInst) (os : List Plain) (seats : List ℕ) : Type 0 where
