@@ -1,1 +1,4 @@
 pub mod Valued
+pub mod Misscopes
+pub mod Images
+pub mod Firsts

@@ -96,6 +96,20 @@ fn has_bad_semantics(definitions: &Definitions, operands: &[Operand], seats: &[u
     false
 }
 
+/// Whether semantics are SequentiallyConsistent where those for where the values are equal are not.
+fn is_newly_sequential(equal: u64, unequal: u64) -> bool
+    ensures { IsTrue result ↔ inner.IsNewlySequential equal unequal }
+{
+    has_bit(unequal, 16) && !has_bit(equal, 16)
+}
+
+/// Whether semantics are Acquire where those for where the values are equal have no order.
+fn is_newly_acquiring(equal: u64, unequal: u64) -> bool
+    ensures { IsTrue result ↔ inner.IsNewlyAcquiring equal unequal }
+{
+    has_bit(unequal, 2) && equal & ORDERS == 0
+}
+
 /// Whether the semantics for where the values differ release, or are stronger than those for where they are equal.
 fn is_too_strong(equal: Option<u64>, unequal: u64) -> bool
     ensures { IsTrue result ↔ spec.IsTooStrong equal unequal }
@@ -104,8 +118,7 @@ fn is_too_strong(equal: Option<u64>, unequal: u64) -> bool
         return true;
     }
     match equal {
-        Some(semantics) => (has_bit(unequal, 16) && !has_bit(semantics, 16))
-            || (has_bit(unequal, 2) && !has_bit(semantics, ORDERS)),
+        Some(equal) => is_newly_sequential(equal, unequal) || is_newly_acquiring(equal, unequal),
         None => false,
     }
 }
@@ -128,17 +141,28 @@ fn has_own_bad_semantics(definitions: &Definitions, inst: &Inst<'_>) -> bool
     }
 }
 
+/// Whether an instruction is that of a group, and the first of its scopes none of a group.
+fn has_bad_group(definitions: &Definitions, inst: &Inst<'_>, scopes: &[u32]) -> bool
+    ensures { IsTrue result ↔ (IsTrue (spec.is_group inst.now.opcode)
+        × inner.IsNoGroup definitions.now (plain_inst inst.now).operands scopes.now) }
+{
+    is_group(inst.opcode) && is_no_group(definitions, inst.operands.as_slice(), scopes)
+}
+
 /// Whether an instruction breaks O14: it has a scope or memory semantics with a value that there may not be there.
 pub fn is_misscoped(definitions: &Definitions, inst: &Inst<'_>) -> bool
     ensures { IsTrue result ↔ spec.IsMisscoped definitions.now (plain_inst inst.now) }
 {
     let scopes = scopes_of(inst.opcode);
-    if scopes.is_empty() {
-        return false;
-    }
     let operands = inst.operands.as_slice();
-    has_high_scope(definitions, operands, scopes)
-        || (is_group(inst.opcode) && is_no_group(definitions, operands, scopes))
-        || has_bad_semantics(definitions, operands, semantics_of(inst.opcode))
-        || has_own_bad_semantics(definitions, inst)
+    if has_high_scope(definitions, operands, scopes) {
+        return true;
+    }
+    if has_bad_group(definitions, inst, scopes) {
+        return true;
+    }
+    if has_bad_semantics(definitions, operands, semantics_of(inst.opcode)) {
+        return true;
+    }
+    has_own_bad_semantics(definitions, inst)
 }
