@@ -1,7 +1,8 @@
 -- Where sampled images are made.
-use Rattle.std.proofs.Common.{◌≡◌, ◌⊎◌, ◌∙◌, ℕ, List, Some, length, ap, sym, subst}
-use Rattle.std.specs.Prelude.{slice_get}
-use Rattle.std.proofs.lemmas.Option.{same_Some, slice_get_within}
+use Rattle.std.proofs.Common.{◌≡◌, ◌⊎◌, ◌∙◌, ◌↔◌, ℕ, List, Some, Bool, true, false, IsTrue, refl, sym, subst}
+use Rattle.std.proofs.lemmas.Bool.{false≢true}
+use Rattle.std.specs.Prelude.{not, slice_get}
+use Rattle.std.proofs.lemmas.Option.{same_Some}
 use Rattle.spv_module.specs.declared.opcode.TheConstants as opcode
 use Rattle.spv_module.specs.Operand.{Plain, PlainInst}
 use Rattle.spv_ids.specs.Definition.{IsDefinedAt}
@@ -36,3 +37,8 @@ elsewhere_within is n i os x there same used h = λ s.
         (subst (λ (xs : List Plain). id_at xs 2 ≡ Some x) same used) in
     let id : x ≡ h.id = same_Some x h.id (sym one ∙ h.used) in
     h.elsewhere s.0 (subst (λ (y : ℕ). IsDefinedAt is y s.0) id s.1) s.2
+
+-- the answer turned round
+pub not_within : {P Q : Type 0} (b : Bool) → (IsTrue b ↔ P) → (¬ P → Q) → (Q → ¬ P) → (IsTrue (not b) ↔ Q)
+not_within true h from within = (λ t. absurd (false≢true t), λ q. absurd (within q (h.0 refl)))
+not_within false h from within = (λ t. from (λ p. false≢true (h.1 p)), λ q. refl)
