@@ -2,3 +2,4 @@ pub mod Valued
 pub mod Misscopes
 pub mod Images
 pub mod Firsts
+pub mod Literals

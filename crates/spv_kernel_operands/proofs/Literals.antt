@@ -1,0 +1,88 @@
+-- The literals of an OpSwitch: gathered, brought into order, and looked through.
+use Rattle.std.proofs.Common.{◌≡◌, ◌≢◌, ◌<◌, ◌≤◌, ◌⊎◌, ◌∙◌, ◌+◌, ◌++◌, ◌↔◌, ℕ, List, [], ◌∷◌, Some, None, length, take, map}
+use Rattle.std.proofs.Common.{get_or, refl, sym, ap, subst, inl, inr, arith}
+use Rattle.std.specs.Prelude.{slice_get, filter_map, swap, nat_cmp}
+use Rattle.std.specs.List.Sorted.{IsPermutation, IsSorted}
+use Rattle.std.proofs.lemmas.List.{append-nil, map-append, take_more}
+use Rattle.std.proofs.lemmas.List.Edits.{length-swap, swapped_from_swap}
+use Rattle.std.proofs.lemmas.List.Elements.{filter_map-append}
+use Rattle.std.proofs.lemmas.List.Sorted.{IsNonDecreasingBy-from_sort, IsPermutation-keeps, IsPermutation-sym}
+use Rattle.std.proofs.lemmas.Bool.{cases_eq, cases_order}
+use Rattle.std.proofs.lemmas.Option.{same_Some, slice_get-get_or, slice_get_within}
+use Rattle.spv_module.specs.Module.{plain_operand, plain_operands}
+use Rattle.spv_module.specs.declared.operand.Operand.{Operand}
+use Rattle.spv_kernel_operands.specs.Switch.{HasTwice, literal_in, literals_of}
+use Rattle.spv_kernel_operands.specs.inner.Switch.{AreRising}
+
+-- one operand more
+literals_front : (os : List Operand) (k : ℕ) (d : Operand) → k < length os
+    → literals_of (plain_operands (take (k + 1) os))
+    ≡ literals_of (plain_operands (take k os)) ++ filter_map literal_in (plain_operand (get_or os k d) ∷ [])
+literals_front os k d l = ap (λ (xs : List Operand). literals_of (plain_operands xs)) (take_more os k d l)
+    ∙ ap (filter_map literal_in) (map-append plain_operand (take k os) (get_or os k d ∷ []))
+    ∙ filter_map-append literal_in (plain_operands (take k os)) (plain_operand (get_or os k d) ∷ [])
+
+pub literals_one : (os : List Operand) (k : ℕ) (d : Operand) (n : ℕ) (ns : List ℕ) → k < length os
+    → literal_in (plain_operand (get_or os k d)) ≡ Some n → ns ≡ literals_of (plain_operands (take k os))
+    → ns ++ n ∷ [] ≡ literals_of (plain_operands (take (k + 1) os))
+literals_one os k d n ns l e a =
+    let one : filter_map literal_in (plain_operand (get_or os k d) ∷ []) ≡ n ∷ [] = rw e refl in
+    ap (λ (xs : List ℕ). xs ++ n ∷ []) a
+    ∙ sym (literals_front os k d l ∙ ap (λ (xs : List ℕ). literals_of (plain_operands (take k os)) ++ xs) one)
+
+pub literals_none : (os : List Operand) (k : ℕ) (d : Operand) (ns : List ℕ) → k < length os
+    → literal_in (plain_operand (get_or os k d)) ≡ None → ns ≡ literals_of (plain_operands (take k os))
+    → ns ≡ literals_of (plain_operands (take (k + 1) os))
+literals_none os k d ns l e a =
+    let none : filter_map literal_in (plain_operand (get_or os k d) ∷ []) ≡ [] = rw e refl in
+    a ∙ sym (literals_front os k d l ∙ ap (λ (xs : List ℕ). literals_of (plain_operands (take k os)) ++ xs) none
+    ∙ append-nil (literals_of (plain_operands (take k os))))
+
+-- what stands at a place
+at_place : (ns : List ℕ) (k n : ℕ) → slice_get ns k ≡ Some n → get_or ns k 0 ≡ n
+at_place ns k n e =
+    same_Some (get_or ns k 0) n (sym (slice_get-get_or ns k 0 (slice_get_within ns k n e)) ∙ e)
+
+-- a sort brings them into order
+pub rising_from : (ns : List ℕ) → IsSorted nat_cmp ns → AreRising ns
+rising_from ns sorted = record {
+  each = λ j k m n less one other.
+      let up = IsNonDecreasingBy-from_sort (λ (x : ℕ). x) ns sorted j k 0 (omega (arith, less))
+          (slice_get_within ns k n other) in
+      let a = at_place ns j m one in
+      let b = at_place ns k n other in
+      omega (arith, up, a, b);
+}
+
+-- equal literals at two places, whichever comes first
+HasTwo : List ℕ → Type 0
+HasTwo ns = (j : ℕ) × (k : ℕ) × (j ≢ k) × (j < length ns) × (k < length ns) × (get_or ns j 0 ≡ get_or ns k 0)
+
+two_of : (ns : List ℕ) → HasTwice ns → HasTwo ns
+two_of ns h = (
+  h.first,
+  h.second,
+  λ e. absurd (let l = h.before in omega (arith, e, l)),
+  slice_get_within ns h.first h.literal h.one,
+  slice_get_within ns h.second h.literal h.other,
+  at_place ns h.first h.literal h.one ∙ sym (at_place ns h.second h.literal h.other),
+)
+
+twice_at : (ns : List ℕ) (j k : ℕ) → j < k → k < length ns → get_or ns j 0 ≡ get_or ns k 0 → HasTwice ns
+twice_at ns j k less l e = record {
+  first = j;
+  second = k;
+  before = less;
+  literal = get_or ns k 0;
+  one = slice_get-get_or ns j 0 (omega (arith, less, l)) ∙ ap Some e;
+  other = slice_get-get_or ns k 0 l;
+}
+
+twice_of : (ns : List ℕ) → HasTwo ns → HasTwice ns
+twice_of ns (j, k, apart, a, b, e) = elim (cases_order j k) [
+  | inl same ↦ absurd (apart same)
+  | inr other ↦ elim other [
+    | inl less ↦ twice_at ns j k less b e
+    | inr more ↦ twice_at ns k j more a (sym e)
+  ]
+]
