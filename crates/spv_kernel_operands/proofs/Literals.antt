@@ -1,7 +1,8 @@
 -- The literals of an OpSwitch: gathered, brought into order, and looked through.
 use Rattle.std.proofs.Common.{◌≡◌, ◌≢◌, ◌<◌, ◌≤◌, ◌⊎◌, ◌∙◌, ◌+◌, ◌++◌, ◌↔◌, ℕ, List, [], ◌∷◌, Some, None, length, take, map}
-use Rattle.std.proofs.Common.{get_or, refl, sym, ap, subst, inl, inr, arith}
-use Rattle.std.specs.Prelude.{slice_get, filter_map, swap, nat_cmp}
+use Rattle.std.proofs.Common.{nat_cmp, get_or, refl, sym, ap, subst, inl, inr, arith}
+use Rattle.std.specs.Prelude.{slice_get, filter_map}
+use Rattle.std.specs.List.{swap}
 use Rattle.std.specs.List.Sorted.{IsPermutation, IsSorted}
 use Rattle.std.proofs.lemmas.List.{append-nil, map-append, take_more}
 use Rattle.std.proofs.lemmas.List.Edits.{length-swap, swapped_from_swap}
@@ -9,10 +10,12 @@ use Rattle.std.proofs.lemmas.List.Elements.{filter_map-append}
 use Rattle.std.proofs.lemmas.List.Sorted.{IsNonDecreasingBy-from_sort, IsPermutation-keeps, IsPermutation-sym}
 use Rattle.std.proofs.lemmas.Bool.{cases_eq, cases_order}
 use Rattle.std.proofs.lemmas.Option.{same_Some, slice_get-get_or, slice_get_within}
+use Rattle.std.proofs.lemmas.List.Edits.{Swapped}
+use Rattle.spv_module.specs.Operand.{Plain, PlainInst}
 use Rattle.spv_module.specs.Module.{plain_operand, plain_operands}
 use Rattle.spv_module.specs.declared.operand.Operand.{Operand}
-use Rattle.spv_kernel_operands.specs.Switch.{HasTwice, literal_in, literals_of}
-use Rattle.spv_kernel_operands.specs.inner.Switch.{AreRising}
+use Rattle.spv_kernel_operands.specs.Switch.{HasTwice, HasWide, literal_in, literals_of}
+use Rattle.spv_kernel_operands.specs.inner.Switch.{AreRising, IsSelector}
 
 -- one operand more
 literals_front : (os : List Operand) (k : ℕ) (d : Operand) → k < length os
@@ -55,7 +58,7 @@ rising_from ns sorted = record {
 }
 
 -- equal literals at two places, whichever comes first
-HasTwo : List ℕ → Type 0
+abbrev HasTwo : List ℕ → Type 0
 HasTwo ns = (j : ℕ) × (k : ℕ) × (j ≢ k) × (j < length ns) × (k < length ns) × (get_or ns j 0 ≡ get_or ns k 0)
 
 two_of : (ns : List ℕ) → HasTwice ns → HasTwo ns
@@ -86,3 +89,61 @@ twice_of ns (j, k, apart, a, b, e) = elim (cases_order j k) [
     | inr more ↦ twice_at ns k j more a (sym e)
   ]
 ]
+
+-- where an exchange of the places a and b brings what stands at j
+data Moves (a b j m : ℕ) : Type 0 where
+  there : j ≡ a → m ≡ b → Moves a b j m
+  back : j ≡ b → m ≡ a → Moves a b j m
+  stays : j ≢ a → j ≢ b → m ≡ j → Moves a b j m
+
+moved : (xs ys : List ℕ) (a b : ℕ) → Swapped (λ i. get_or xs i 0) (λ i. get_or ys i 0) a b → (j : ℕ)
+    → (m : ℕ) × (get_or ys m 0 ≡ get_or xs j 0) × Moves a b j m
+moved xs ys a b s j = elim (cases_eq j a) [
+  | inl e ↦ (b, s.1 ∙ ap (λ (k : ℕ). get_or xs k 0) (sym e), Moves.there e refl)
+  | inr n ↦ elim (cases_eq j b) [
+    | inl e ↦ (a, s.0 ∙ ap (λ (k : ℕ). get_or xs k 0) (sym e), Moves.back e refl)
+    | inr o ↦ (j, s.2 j n o, Moves.stays n o refl)
+  ]
+]
+
+moved_within : (a b j m l : ℕ) → a < l → b < l → j < l → Moves a b j m → m < l
+moved_within a b j m l p q r (Moves.there e f) = omega (arith, q, f)
+moved_within a b j m l p q r (Moves.back e f) = omega (arith, p, f)
+moved_within a b j m l p q r (Moves.stays n o f) = omega (arith, r, f)
+
+moved_apart : (a b j k m n : ℕ) → Moves a b j m → Moves a b k n → j ≢ k → m ≢ n
+moved_apart a b j k m n (Moves.there e f) (Moves.there g h) apart = λ x. apart (e ∙ sym g)
+moved_apart a b j k m n (Moves.there e f) (Moves.back g h) apart =
+    λ x. apart (e ∙ sym h ∙ sym x ∙ f ∙ sym g)
+moved_apart a b j k m n (Moves.there e f) (Moves.stays u v h) apart = λ x. v (sym h ∙ sym x ∙ f)
+moved_apart a b j k m n (Moves.back e f) (Moves.there g h) apart =
+    λ x. apart (e ∙ sym h ∙ sym x ∙ f ∙ sym g)
+moved_apart a b j k m n (Moves.back e f) (Moves.back g h) apart = λ x. apart (e ∙ sym g)
+moved_apart a b j k m n (Moves.back e f) (Moves.stays u v h) apart = λ x. u (sym h ∙ sym x ∙ f)
+moved_apart a b j k m n (Moves.stays u v f) (Moves.there g h) apart = λ x. v (sym f ∙ x ∙ h)
+moved_apart a b j k m n (Moves.stays u v f) (Moves.back g h) apart = λ x. u (sym f ∙ x ∙ h)
+moved_apart a b j k m n (Moves.stays u v f) (Moves.stays s t h) apart = λ x. apart (sym f ∙ x ∙ h)
+
+two_moved : (xs ys : List ℕ) (a b : ℕ) → length ys ≡ length xs → a < length xs → b < length xs
+    → Swapped (λ i. get_or xs i 0) (λ i. get_or ys i 0) a b → HasTwo xs → HasTwo ys
+two_moved xs ys a b long p q s (j, k, apart, l, r, e) =
+    let one = moved xs ys a b s j in
+    let other = moved xs ys a b s k in
+    let first = moved_within a b j one.0 (length xs) p q l one.2 in
+    let second = moved_within a b k other.0 (length xs) p q r other.2 in
+    (
+      one.0,
+      other.0,
+      moved_apart a b j k one.0 other.0 one.2 other.2 apart,
+      omega (arith, first, long),
+      omega (arith, second, long),
+      one.1 ∙ e ∙ sym other.1,
+    )
+
+two_swapped : (xs : List ℕ) (a b : ℕ) → a < length xs → b < length xs → HasTwo xs → HasTwo (swap xs a b)
+two_swapped [] a b p q h = absurd (omega (arith, p))
+two_swapped (x ∷ xs) a b p q h = two_moved (x ∷ xs) (swap (x ∷ xs) a b) a b (length-swap (x ∷ xs) a b) p q
+    (swapped_from_swap (x ∷ xs) (swap (x ∷ xs) a b) a b 0 p q refl) h
+
+pub twice_permuted : (xs ys : List ℕ) → IsPermutation xs ys → HasTwice xs → HasTwice ys
+twice_permuted xs ys same h = twice_of ys (IsPermutation-keeps xs HasTwo (two_of xs h) two_swapped ys same)
