@@ -3,3 +3,4 @@ pub mod Misscopes
 pub mod Images
 pub mod Firsts
 pub mod Literals
+pub mod Worked

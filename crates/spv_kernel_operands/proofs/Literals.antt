@@ -1,6 +1,6 @@
 -- The literals of an OpSwitch: gathered, brought into order, and looked through.
 use Rattle.std.proofs.Common.{◌≡◌, ◌≢◌, ◌<◌, ◌≤◌, ◌⊎◌, ◌∙◌, ◌+◌, ◌++◌, ◌↔◌, ℕ, List, [], ◌∷◌, Some, None, length, take, map}
-use Rattle.std.proofs.Common.{nat_cmp, get_or, refl, sym, ap, subst, inl, inr, arith}
+use Rattle.std.proofs.Common.{nat_cmp, Option, Contains, ◌^◌, get_or, refl, sym, ap, subst, inl, inr, arith}
 use Rattle.std.specs.Prelude.{slice_get, filter_map}
 use Rattle.std.specs.List.{swap}
 use Rattle.std.specs.List.Sorted.{IsPermutation, IsSorted}
@@ -14,6 +14,10 @@ use Rattle.std.proofs.lemmas.List.Edits.{Swapped}
 use Rattle.spv_module.specs.Operand.{Plain, PlainInst}
 use Rattle.spv_module.specs.Module.{plain_operand, plain_operands}
 use Rattle.spv_module.specs.declared.operand.Operand.{Operand}
+use Rattle.spv_type_forms.specs.declared.form.Form.{Form}
+use Rattle.spv_type_forms.specs.declared.form.Form.TheVariants as form
+use Rattle.spv_type_forms.specs.declared.form.Scalar.TheVariants as scalar
+use Rattle.spv_type_forms.specs.Types.{IsInt}
 use Rattle.spv_kernel_operands.specs.Switch.{HasTwice, HasWide, literal_in, literals_of}
 use Rattle.spv_kernel_operands.specs.inner.Switch.{AreRising, IsSelector}
 
@@ -147,3 +151,25 @@ two_swapped (x ∷ xs) a b p q h = two_moved (x ∷ xs) (swap (x ∷ xs) a b) a 
 
 pub twice_permuted : (xs ys : List ℕ) → IsPermutation xs ys → HasTwice xs → HasTwice ys
 twice_permuted xs ys same h = twice_of ys (IsPermutation-keeps xs HasTwo (two_of xs h) two_swapped ys same)
+
+-- the width of an int type
+width_in : Option Form → ℕ
+width_in (Some (form.Scalar (scalar.Int w))) = w
+width_in _ = 0
+
+same_width : (v w : ℕ) → Some (form.Scalar (scalar.Int v)) ≡ Some (form.Scalar (scalar.Int w)) → v ≡ w
+unfolding width_in
+same_width v w e = ap width_in e
+
+-- a literal that is too wide is among those that were gathered
+pub wide_found : (is : List PlainInst) (os : List Plain) (ns : List ℕ) (w : ℕ) → ns ≡ literals_of os
+    → IsSelector is os w → HasWide is os → (n : ℕ) × Contains ns n × (2 ^ w ≤ n)
+wide_found is os ns w e s h =
+    let selector : h.selector ≡ s.selector = same_Some h.selector s.selector (sym h.typed ∙ s.typed) in
+    let int : IsInt is s.selector h.width = subst (λ (t : ℕ). IsInt is t h.width) selector h.int in
+    let width : h.width ≡ w = same_width h.width w (sym int ∙ s.int) in
+    (
+      h.literal,
+      subst (λ (xs : List ℕ). Contains xs h.literal) (sym e) h.there,
+      subst (λ (v : ℕ). 2 ^ v ≤ h.literal) width h.wide,
+    )

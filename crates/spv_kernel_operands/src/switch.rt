@@ -45,24 +45,31 @@ fn int_width(definitions: &Definitions, t: u32) -> Option<u32>
     }
 }
 
-/// How wide the selector of an OpSwitch is, in bits, if its type is an int type of at most 63 bits: of others each
-/// literal has room.
+/// How wide the selector of an OpSwitch is, in bits, if its type is an int type.
 fn selector_width(definitions: &Definitions, operands: &[Operand]) -> Option<u32>
-    ensures { MatchOption result ((w : ℕ) → IsSelector definitions.now (plain_operands operands.now) w → 64 ≤ w)
-        (λ w. (w < 64) × IsSelector definitions.now (plain_operands operands.now) w) }
+    ensures { MatchOption result ((w : ℕ) → ¬ (IsSelector definitions.now (plain_operands operands.now) w))
+        (λ w. IsSelector definitions.now (plain_operands operands.now) w) }
 {
     let selector = id_at(operands, 0)?;
-    let width = int_width(definitions, definitions.type_of(selector)?)?;
-    if width < 64 { Some(width) } else { None }
+    int_width(definitions, definitions.type_of(selector)?)
+}
+
+/// Whether a literal has a bit from a width up.
+fn is_wide(literal: u64, width: u32) -> bool
+    ensures { IsTrue result ↔ (2 ^ width ≤ literal) }
+{
+    if 64 <= width {
+        return false;
+    }
+    literal >> width != 0
 }
 
 /// Whether one of some literals has a bit from a width up.
 fn has_wide(literals: &[u64], width: u32) -> bool
-    requires { width < 64 }
     ensures { IsTrue result ↔ ((n : ℕ) × Contains literals.now n × (2 ^ width ≤ n)) }
 {
     for literal in literals {
-        if *literal >> width != 0 {
+        if is_wide(*literal, width) {
             return true;
         }
     }
