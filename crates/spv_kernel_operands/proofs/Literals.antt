@@ -1,6 +1,8 @@
 -- The literals of an OpSwitch: gathered, brought into order, and looked through.
 use Rattle.std.proofs.Common.{◌≡◌, ◌≢◌, ◌<◌, ◌≤◌, ◌⊎◌, ◌∙◌, ◌+◌, ◌++◌, ◌↔◌, ℕ, List, [], ◌∷◌, Some, None, length, take, map}
-use Rattle.std.proofs.Common.{nat_cmp, Option, Contains, ◌^◌, get_or, refl, sym, ap, subst, inl, inr, arith}
+use Rattle.std.proofs.Common.{nat_cmp, ◌/◌, ◌*◌, IsTrue, not, eqb, Option, Contains, ◌^◌}
+use Rattle.std.proofs.Math.Nat.{div-eq_of_lt, lt-div-mul-add, one-le-pow, pow-le-pow_right}
+use Rattle.std.proofs.Common.{get_or, refl, sym, ap, subst, inl, inr, arith}
 use Rattle.std.specs.Prelude.{slice_get, filter_map}
 use Rattle.std.specs.List.{swap}
 use Rattle.std.specs.List.Sorted.{IsPermutation, IsSorted}
@@ -8,7 +10,7 @@ use Rattle.std.proofs.lemmas.List.{append-nil, map-append, take_more}
 use Rattle.std.proofs.lemmas.List.Edits.{length-swap, swapped_from_swap}
 use Rattle.std.proofs.lemmas.List.Elements.{filter_map-append}
 use Rattle.std.proofs.lemmas.List.Sorted.{IsNonDecreasingBy-from_sort, IsPermutation-keeps, IsPermutation-sym}
-use Rattle.std.proofs.lemmas.Bool.{cases_eq, cases_order}
+use Rattle.std.proofs.lemmas.Bool.{cases_eq, cases_lt, cases_order, eq-eqb, false≢true, ne_eqb}
 use Rattle.std.proofs.lemmas.Option.{same_Some, slice_get-get_or, slice_get_within}
 use Rattle.std.proofs.lemmas.List.Edits.{Swapped}
 use Rattle.spv_module.specs.Operand.{Plain, PlainInst}
@@ -173,3 +175,30 @@ wide_found is os ns w e s h =
       subst (λ (xs : List ℕ). Contains xs h.literal) (sym e) h.there,
       subst (λ (v : ℕ). 2 ^ v ≤ h.literal) width h.wide,
     )
+
+-- what is left of a literal without its lower bits
+zero_not : (n : ℕ) → n ≢ 0 → IsTrue (not (eqb n 0))
+zero_not n h = ap not (ne_eqb n 0 h)
+
+not_zero : (n : ℕ) → IsTrue (not (eqb n 0)) → n ≢ 0
+not_zero n t e = false≢true (sym (ap not (eq-eqb n 0 e)) ∙ t)
+
+pub wide_by : (a w : ℕ) → IsTrue (not (eqb (a / 2 ^ w) 0)) → 2 ^ w ≤ a
+wide_by a w t = elim (cases_lt a (2 ^ w)) [
+  | inl less ↦ absurd (not_zero (a / 2 ^ w) t (div-eq_of_lt less))
+  | inr more ↦ more
+]
+
+pub by_wide : (a w : ℕ) → 2 ^ w ≤ a → IsTrue (not (eqb (a / 2 ^ w) 0))
+by_wide a w h =
+    let positive : 0 < 2 ^ w = one-le-pow w 2 (omega arith) in
+    let near : a < a / 2 ^ w * 2 ^ w + 2 ^ w = lt-div-mul-add positive in
+    zero_not (a / 2 ^ w) (λ e.
+        let less : a < 0 * 2 ^ w + 2 ^ w = subst (λ (n : ℕ). a < n * 2 ^ w + 2 ^ w) e near in
+        absurd (omega (arith, h, less)))
+
+pub none_wide : (a w : ℕ) → a < 18446744073709551616 → 64 ≤ w → ¬ (2 ^ w ≤ a)
+none_wide a w fits long h =
+    let top : 2 ^ 64 ≤ 2 ^ w = pow-le-pow_right {n = 2} (omega arith) {i = 64} {j = w} long in
+    let whole : 18446744073709551616 ≤ 2 ^ w = top in
+    absurd (omega (arith, whole, fits, h))
