@@ -33,8 +33,8 @@ pub elsewhere_within : (is : List PlainInst) (n : ℕ) (i : PlainInst) (os : Lis
 elsewhere_within is n i os x there same used h = λ s.
     let inst : i ≡ h.inst = same_Some i h.inst (sym there ∙ h.there) in
     let one : id_at h.inst.operands 2 ≡ Some x =
-        subst (λ (j : PlainInst). id_at j.operands 2 ≡ Some x) inst
-        (subst (λ (xs : List Plain). id_at xs 2 ≡ Some x) same used) in
+    subst (λ (j : PlainInst). id_at j.operands 2 ≡ Some x) inst
+    (subst (λ (xs : List Plain). id_at xs 2 ≡ Some x) same used) in
     let id : x ≡ h.id = same_Some x h.id (sym one ∙ h.used) in
     h.elsewhere s.0 (subst (λ (y : ℕ). IsDefinedAt is y s.0) id s.1) s.2
 

@@ -1,5 +1,5 @@
 -- The literals of an OpSwitch: gathered, brought into order, and looked through.
-use Rattle.std.proofs.Common.{◌≡◌, ◌≢◌, ◌<◌, ◌≤◌, ◌⊎◌, ◌∙◌, ◌+◌, ◌++◌, ◌↔◌, ℕ, List, [], ◌∷◌, Some, None, length, take, map}
+use Rattle.std.proofs.Common.{◌≡◌, ◌≢◌, ◌<◌, ◌≤◌, ◌∙◌, ◌+◌, ◌++◌, ℕ, List, [], ◌∷◌, Some, None, length, take}
 use Rattle.std.proofs.Common.{nat_cmp, ◌/◌, ◌*◌, IsTrue, not, eqb, Option, Contains, ◌^◌}
 use Rattle.std.proofs.Math.Nat.{div-eq_of_lt, lt-div-mul-add, one-le-pow, pow-le-pow_right}
 use Rattle.std.proofs.Common.{get_or, refl, sym, ap, subst, inl, inr, arith}
@@ -9,7 +9,7 @@ use Rattle.std.specs.List.Sorted.{IsPermutation, IsSorted}
 use Rattle.std.proofs.lemmas.List.{append-nil, map-append, take_more}
 use Rattle.std.proofs.lemmas.List.Edits.{length-swap, swapped_from_swap}
 use Rattle.std.proofs.lemmas.List.Elements.{filter_map-append}
-use Rattle.std.proofs.lemmas.List.Sorted.{IsNonDecreasingBy-from_sort, IsPermutation-keeps, IsPermutation-sym}
+use Rattle.std.proofs.lemmas.List.Sorted.{IsNonDecreasingBy-from_sort, IsPermutation-keeps}
 use Rattle.std.proofs.lemmas.Bool.{cases_eq, cases_lt, cases_order, eq-eqb, false≢true, ne_eqb}
 use Rattle.std.proofs.lemmas.Option.{same_Some, slice_get-get_or, slice_get_within}
 use Rattle.std.proofs.lemmas.List.Edits.{Swapped}
@@ -57,7 +57,7 @@ pub rising_from : (ns : List ℕ) → IsSorted nat_cmp ns → AreRising ns
 rising_from ns sorted = record {
   each = λ j k m n less one other.
       let up = IsNonDecreasingBy-from_sort (λ (x : ℕ). x) ns sorted j k 0 (omega (arith, less))
-          (slice_get_within ns k n other) in
+      (slice_get_within ns k n other) in
       let a = at_place ns j m one in
       let b = at_place ns k n other in
       omega (arith, up, a, b);
@@ -136,8 +136,7 @@ two_moved xs ys a b long p q s (j, k, apart, l, r, e) =
     let one = moved xs ys a b s j in
     let other = moved xs ys a b s k in
     let first = moved_within a b j one.0 (length xs) p q l one.2 in
-    let second = moved_within a b k other.0 (length xs) p q r other.2 in
-    (
+    let second = moved_within a b k other.0 (length xs) p q r other.2 in (
       one.0,
       other.0,
       moved_apart a b j k one.0 other.0 one.2 other.2 apart,
@@ -169,8 +168,7 @@ pub wide_found : (is : List PlainInst) (os : List Plain) (ns : List ℕ) (w : �
 wide_found is os ns w e s h =
     let selector : h.selector ≡ s.selector = same_Some h.selector s.selector (sym h.typed ∙ s.typed) in
     let int : IsInt is s.selector h.width = subst (λ (t : ℕ). IsInt is t h.width) selector h.int in
-    let width : h.width ≡ w = same_width h.width w (sym int ∙ s.int) in
-    (
+    let width : h.width ≡ w = same_width h.width w (sym int ∙ s.int) in (
       h.literal,
       subst (λ (xs : List ℕ). Contains xs h.literal) (sym e) h.there,
       subst (λ (v : ℕ). 2 ^ v ≤ h.literal) width h.wide,
@@ -194,8 +192,8 @@ by_wide a w h =
     let positive : 0 < 2 ^ w = one-le-pow w 2 (omega arith) in
     let near : a < a / 2 ^ w * 2 ^ w + 2 ^ w = lt-div-mul-add positive in
     zero_not (a / 2 ^ w) (λ e.
-        let less : a < 0 * 2 ^ w + 2 ^ w = subst (λ (n : ℕ). a < n * 2 ^ w + 2 ^ w) e near in
-        absurd (omega (arith, h, less)))
+    let less : a < 0 * 2 ^ w + 2 ^ w = subst (λ (n : ℕ). a < n * 2 ^ w + 2 ^ w) e near in
+    absurd (omega (arith, h, less)))
 
 pub none_wide : (a w : ℕ) → a < 18446744073709551616 → 64 ≤ w → ¬ (2 ^ w ≤ a)
 none_wide a w fits long h =

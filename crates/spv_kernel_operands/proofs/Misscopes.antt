@@ -1,13 +1,13 @@
 -- The parts of O14 together.
-use Rattle.std.proofs.Common.{◌≡◌, ◌⊎◌, ◌<◌, ◌∙◌, ℕ, List, Option, Some, inl, inr, IsTrue, Contains, get_or}
-use Rattle.std.proofs.Common.{refl, sym, subst, arith}
+use Rattle.std.proofs.Common.{◌≡◌, ◌∙◌, ℕ, List, Option, Some, inl, inr, IsTrue, Contains, get_or}
+use Rattle.std.proofs.Common.{sym, subst, arith}
 use Rattle.std.specs.Prelude.{slice_get}
 use Rattle.std.proofs.lemmas.Option.{same_Some, slice_get-get_or, slice_get_within}
 use Rattle.spv_module.specs.declared.opcode.TheConstants as opcode
 use Rattle.spv_module.specs.Operand.{Plain, PlainInst}
 use Rattle.spv_kernel_operands.specs.Value.{value_at, has_bit}
 use Rattle.spv_kernel_operands.specs.Seats.{scopes_of, semantics_of}
-use Rattle.spv_kernel_operands.specs.Scopes.{IsMisscoped, IsTooStrong, is_group, orders}
+use Rattle.spv_kernel_operands.specs.Scopes.{IsMisscoped, IsTooStrong, is_group}
 use Rattle.spv_kernel_operands.specs.inner.Scopes.{HasHighScope, IsNoGroup, HasBadSemantics, HasOwnBadSemantics}
 use Rattle.spv_kernel_operands.specs.inner.Scopes.{IsNewlySequential, IsNewlyAcquiring}
 
@@ -38,7 +38,7 @@ own_from is i os o n same called value equal h = inl (
     n,
     subst (λ (xs : List Plain). value_at is xs 5 ≡ Some n) same value,
     subst (λ (xs : List Plain). IsTooStrong (value_at is xs 4) n) same
-    (subst (λ (p : Option ℕ). IsTooStrong p n) equal h),
+        (subst (λ (p : Option ℕ). IsTooStrong p n) equal h),
   ),
 )
 
@@ -47,7 +47,7 @@ pub own_within : (is : List PlainInst) (i : PlainInst) (os : List Plain) (o : Op
     → HasOwnBadSemantics is i → IsTooStrong o n
 own_within is i os o n same called value equal (inl h) =
     let one : value_at is i.operands 5 ≡ Some n =
-        subst (λ (xs : List Plain). value_at is xs 5 ≡ Some n) same value in
+    subst (λ (xs : List Plain). value_at is xs 5 ≡ Some n) same value in
     let number : h.1.0 ≡ n = same_Some h.1.0 n (sym h.1.1 ∙ one) in
     subst (λ (p : Option ℕ). IsTooStrong p n) (sym equal)
     (subst (λ (xs : List Plain). IsTooStrong (value_at is xs 4) n) (sym same)
@@ -73,7 +73,7 @@ pub misscoped_group : (is : List PlainInst) (i : PlainInst) (ss : List ℕ) → 
     → IsTrue (is_group i.opcode) → IsNoGroup is i.operands ss → IsMisscoped is i
 misscoped_group is i ss es g h =
     let first : slice_get (scopes_of i.opcode) 0 ≡ Some h.seat =
-        subst (λ (xs : List ℕ). slice_get xs 0 ≡ Some h.seat) es h.first in
+    subst (λ (xs : List ℕ). slice_get xs 0 ≡ Some h.seat) es h.first in
     IsMisscoped.group h.seat h.number g first record {
       seat = contains_first (scopes_of i.opcode) h.seat first;
       value = h.value;

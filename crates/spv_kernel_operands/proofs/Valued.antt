@@ -1,7 +1,6 @@
 -- The values of some operands, one after another.
-use Rattle.std.proofs.Common.{◌≡◌, ◌<◌, ◌≤◌, ◌∙◌, ◌↔◌, ℕ, List, Option, Some, None, Bool, IsTrue, IsSomeAnd, length, get_or}
-use Rattle.std.proofs.Common.{refl, sym, subst, arith}
-use Rattle.std.specs.Prelude.{slice_get}
+use Rattle.std.proofs.Common.{◌≡◌, ◌<◌, ◌∙◌, ℕ, List, Option, Some, None, IsSomeAnd, length, get_or}
+use Rattle.std.proofs.Common.{sym, subst}
 use Rattle.std.proofs.lemmas.List.Elements.{Contains-get_or}
 use Rattle.std.proofs.lemmas.Option.{same_Some, slice_get-get_or}
 use Rattle.spv_module.specs.Operand.{Plain, PlainInst}
@@ -27,7 +26,7 @@ none_found P is os seats h v =
     let k = v.among.0 in
     let l = v.among.1 in
     let one : Some (get_or seats k 0) ≡ Some (get_or seats k v.seat) =
-        sym (slice_get-get_or seats k 0 l) ∙ slice_get-get_or seats k v.seat l in
+    sym (slice_get-get_or seats k 0 l) ∙ slice_get-get_or seats k v.seat l in
     let same = same_Some (get_or seats k 0) (get_or seats k v.seat) one ∙ v.among.2 in
     h k l (subst (λ (x : ℕ). IsSomeAnd (value_at is os x) P) (sym same)
     (subst (λ (o : Option ℕ). IsSomeAnd o P) (sym v.value) v.holds))

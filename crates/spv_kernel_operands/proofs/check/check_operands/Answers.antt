@@ -30,7 +30,7 @@ overflow_cast-insts c =
 pub stop_at-requires : goal.stop_at-requires
 stop_at-requires c =
     let first : IsFirstFound c.in-Ok.survey.table c.new-definitions.result (Some c.in-Some.found) =
-        subst (λ o. IsFirstFound c.in-Ok.survey.table c.new-definitions.result o) c.in-Some.is c.in_ok-found.ensures in
+    subst (λ o. IsFirstFound c.in-Ok.survey.table c.new-definitions.result o) c.in-Some.is c.in_ok-found.ensures in
     let within = found_there c.in-Ok.survey.table c.new-definitions.result c.in-Some.found first in
     let v = ap length (c.new-definitions.ensures ∙ ap (λ items. map plain_inst items) c.as_slice-insts.ensures.value) in
     omega (arith, within, v, c.requires.plan.1.count)
@@ -42,7 +42,7 @@ returns-in-Some-clause-refused c =
     ∙ ap (λ items. map plain_inst items) c.as_slice-insts.ensures.value in
     let table : c.in-Ok.survey.table ≡ c.args.table.now = ap (λ (s : Subject). s.table) c.in-Ok.ensures in
     let first : IsFirstFound c.in-Ok.survey.table c.new-definitions.result (Some c.in-Some.found) =
-        subst (λ o. IsFirstFound c.in-Ok.survey.table c.new-definitions.result o) c.in-Some.is c.in_ok-found.ensures in
+    subst (λ o. IsFirstFound c.in-Ok.survey.table c.new-definitions.result o) c.in-Some.is c.in_ok-found.ensures in
     found_told c.args.table.now is c.in-Some.found c.stop_at.result
     (subst (λ js. IsFirstFound c.args.table.now js (Some c.in-Some.found)) same
     (subst (λ G. IsFirstFound G c.new-definitions.result (Some c.in-Some.found)) table first))

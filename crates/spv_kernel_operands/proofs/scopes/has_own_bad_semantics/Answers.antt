@@ -9,8 +9,7 @@ returns-in-Some c =
     let i = plain_inst c.args.inst.now in
     let os = plain_operands c.as_slice-operands.result.now in
     let same = ap plain_operands c.as_slice-operands.ensures.value in
-    let value = sym c.value_at.ensures ∙ c.in-Some.is in
-    (
+    let value = sym c.value_at.ensures ∙ c.in-Some.is in (
       λ t. own_from is i os c.value_at-in-Some.result c.in-Some.unequal same c.in-230.is value
           c.value_at-in-Some.ensures (c.is_too_strong.ensures.0 t),
       λ h. c.is_too_strong.ensures.1 (own_within is i os c.value_at-in-Some.result c.in-Some.unequal same c.in-230.is

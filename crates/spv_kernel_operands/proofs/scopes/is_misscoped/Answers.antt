@@ -16,8 +16,7 @@ returns-then-has_high_scope c = (
 
 pub returns-then-has_bad_group : goal.returns-then-has_bad_group
 returns-then-has_bad_group c =
-    let both = c.has_bad_group.ensures.0 c.if-has_bad_group.true in
-    (
+    let both = c.has_bad_group.ensures.0 c.if-has_bad_group.true in (
       λ _. misscoped_group c.args.definitions.now (plain_inst c.args.inst.now) c.scopes_of-scopes.result.now
           c.scopes_of-scopes.ensures both.0 both.1,
       λ _. refl,

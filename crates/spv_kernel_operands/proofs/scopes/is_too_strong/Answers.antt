@@ -1,4 +1,4 @@
-use Rattle.std.proofs.Common.{◌∙◌, sym, refl}
+use Rattle.std.proofs.Common.{◌∙◌, sym}
 use Rattle.std.proofs.lemmas.Bool.{false≢true}
 use Rattle.spv_kernel_operands.proofs.Misscopes.{strong_from_acquiring, strong_from_sequential, strong_within}
 use Rattle.spv_kernel_operands.proofs.scopes.is_too_strong.Goals as goal

@@ -11,8 +11,7 @@ returns c =
     let is = c.args.definitions.now in
     let os = plain_operands c.args.operands.now in
     let items : c.as_mut_slice.result.now ≡ literals_of os =
-        c.as_mut_slice.ensures.value ∙ c.in_ok-literals.ensures in
-    (
+    c.as_mut_slice.ensures.value ∙ c.in_ok-literals.ensures in (
       λ t. inl (subst HasTwice items (c.has_twice.ensures.0 t)),
       λ h. elim h [
         | inl twice ↦ c.has_twice.ensures.1 (subst HasTwice (sym items) twice)

@@ -1,4 +1,4 @@
-use Rattle.std.proofs.Common.{◌≡◌, filter_map, take}
+use Rattle.std.proofs.Common.{◌≡◌, take}
 use Rattle.spv_module.specs.Module.{plain_operands}
 use Rattle.spv_kernel_operands.specs.Switch.{literals_of}
 use Rattle.spv_kernel_operands.proofs.switch.literals_of.Given as goal
