@@ -27,7 +27,8 @@ returns-then-is_empty_copy c = first_empty c.args.survey.now.table c.args.defini
     (c.is_empty_copy.ensures.0 c.if-is_empty_copy.true)
 
 pub returns-then-is_miscontrolled : goal.returns-then-is_miscontrolled
-returns-then-is_miscontrolled c = first_control c.args.survey.now.table c.args.definitions.now (plain_inst c.args.inst.now)
+returns-then-is_miscontrolled c = first_control c.args.survey.now.table c.args.definitions.now
+    (plain_inst c.args.inst.now)
     (iff_false c.is_misscoped.ensures c.if-is_misscoped.false)
     (iff_false c.is_misatomic.ensures c.if-is_misatomic.false)
     (iff_false c.is_miswritten.ensures c.if-is_miswritten.false)
