@@ -1,7 +1,8 @@
 //! What is returned, and where a sampled image is made: O20 and O23.
 
-ghost use Rattle.std.specs.Prelude.{◌≡◌, ◌↔◌, ◌<◌, ℕ, Some, IsTrue, length, slice_get};
+ghost use Rattle.std.specs.Prelude.{◌≡◌, ◌↔◌, ◌<◌, ◌⊎◌, ℕ, Some, IsTrue, length, slice_get};
 ghost use Rattle.spv_module.specs.Module.{plain_inst};
+ghost use Rattle.spv_module.specs.declared.opcode.TheConstants as opcode;
 ghost use Rattle.spv_layout.specs.Place.{IsOfBlock};
 ghost use Rattle.spv_ids.specs.Definition.{IsDefinedAt};
 ghost use Rattle.spv_type_forms.specs.declared.form.Form.TheVariants as form;
@@ -50,6 +51,18 @@ fn are_together(definitions: &Definitions, one: u32, other: u32) -> bool
     }
 }
 
+/// Whether an instruction is an OpSampledImage of the block of another.
+fn is_image_beside(definitions: &Definitions, number: u32, made: u32) -> bool
+    requires number { number < length definitions.now }
+    requires made { made < length definitions.now }
+    ensures { IsTrue result ↔ spec.IsMadeBeside definitions.now number made }
+{
+    if definitions.inst(made).opcode != opcode::SAMPLED_IMAGE {
+        return false;
+    }
+    are_together(definitions, number, made)
+}
+
 /// Whether the definition of an id is an OpSampledImage of the block of an instruction.
 fn is_made_beside(definitions: &Definitions, number: u32, id: u32) -> bool
     requires { number < length definitions.now }
@@ -57,11 +70,18 @@ fn is_made_beside(definitions: &Definitions, number: u32, id: u32) -> bool
         × spec.IsMadeBeside definitions.now number m) }
 {
     match definitions.number(id) {
-        Some(made) => {
-            definitions.inst(made).opcode == opcode::SAMPLED_IMAGE
-                && are_together(definitions, number, made)
-        }
+        Some(made) => is_image_beside(definitions, number, made),
         None => false,
+    }
+}
+
+/// Whether an instruction takes a sampled image.
+fn takes_image(code: u16) -> bool
+    ensures { IsTrue result ↔ ((code ≡ opcode.IMAGE_SAMPLE_EXPLICIT_LOD) ⊎ (code ≡ opcode.IMAGE)) }
+{
+    match code {
+        opcode::IMAGE_SAMPLE_EXPLICIT_LOD | opcode::IMAGE => true,
+        _ => false,
     }
 }
 
@@ -71,13 +91,11 @@ pub fn is_made_elsewhere(definitions: &Definitions, number: u32, inst: &Inst<'_>
     requires { slice_get definitions.now number ≡ Some (plain_inst inst.now) }
     ensures { IsTrue result ↔ spec.IsMadeElsewhere definitions.now number }
 {
-    match inst.opcode {
-        opcode::IMAGE_SAMPLE_EXPLICIT_LOD | opcode::IMAGE => {
-            match id_at(inst.operands.as_slice(), 2) {
-                Some(id) => !is_made_beside(definitions, number, id),
-                None => false,
-            }
-        }
-        _ => false,
+    if !takes_image(inst.opcode) {
+        return false;
+    }
+    match id_at(inst.operands.as_slice(), 2) {
+        Some(id) => !is_made_beside(definitions, number, id),
+        None => false,
     }
 }

@@ -1,6 +1,6 @@
 //! Scopes and memory semantics: O14.
 
-ghost use Rattle.std.specs.Prelude.{◌≡◌, ◌↔◌, ◌<◌, ◌≢◌, ℕ, Some, IsTrue, Contains, slice_get, option_map};
+ghost use Rattle.std.specs.Prelude.{◌≡◌, ◌↔◌, ◌<◌, ◌≢◌, ℕ, Some, IsSomeAnd, IsTrue};
 ghost use Rattle.spv_module.specs.Module.{plain_inst, plain_operands};
 ghost use Rattle.spv_module.specs.declared.opcode.TheConstants as opcode;
 ghost use Rattle.spv_kernel_operands.specs.Value as value;
@@ -39,15 +39,23 @@ fn is_group(code: u16) -> bool
         || (opcode::GROUP_NON_UNIFORM_ELECT <= code && code <= opcode::GROUP_NON_UNIFORM_QUAD_SWAP)
 }
 
+/// Whether a value, if there is one, is over Invocation.
+fn is_high(scope: Option<u64>) -> bool
+    ensures { IsTrue result ↔ IsSomeAnd scope (λ n. 4 < n) }
+{
+    match scope {
+        Some(scope) => 4 < scope,
+        None => false,
+    }
+}
+
 /// Whether the value of one of these operands is over Invocation.
 fn has_high_scope(definitions: &Definitions, operands: &[Operand], seats: &[u32]) -> bool
     ensures { IsTrue result ↔ inner.HasHighScope definitions.now (plain_operands operands.now) seats.now }
 {
     for seat in seats {
-        if let Some(scope) = value_at(definitions, operands, *seat) {
-            if 4 < scope {
-                return true;
-            }
+        if is_high(value_at(definitions, operands, *seat)) {
+            return true;
         }
     }
     false
@@ -66,18 +74,40 @@ fn is_no_group(definitions: &Definitions, operands: &[Operand], seats: &[u32]) -
     }
 }
 
+/// Whether a value, if there is one, has two orders, or a bit that no kernel has.
+fn are_bad_semantics(semantics: Option<u64>) -> bool
+    ensures { IsTrue result ↔ IsSomeAnd semantics inner.AreBadSemantics }
+{
+    match semantics {
+        Some(semantics) => !has_one_order(semantics) || has_bit(semantics, FOREIGN),
+        None => false,
+    }
+}
+
 /// Whether the value of one of these operands has two orders, or a bit that no kernel has.
 fn has_bad_semantics(definitions: &Definitions, operands: &[Operand], seats: &[u32]) -> bool
     ensures { IsTrue result ↔ inner.HasBadSemantics definitions.now (plain_operands operands.now) seats.now }
 {
     for seat in seats {
-        if let Some(semantics) = value_at(definitions, operands, *seat) {
-            if !has_one_order(semantics) || has_bit(semantics, FOREIGN) {
-                return true;
-            }
+        if are_bad_semantics(value_at(definitions, operands, *seat)) {
+            return true;
         }
     }
     false
+}
+
+/// Whether semantics are SequentiallyConsistent where those for where the values are equal are not.
+fn is_newly_sequential(equal: u64, unequal: u64) -> bool
+    ensures { IsTrue result ↔ inner.IsNewlySequential equal unequal }
+{
+    has_bit(unequal, 16) && !has_bit(equal, 16)
+}
+
+/// Whether semantics are Acquire where those for where the values are equal have no order.
+fn is_newly_acquiring(equal: u64, unequal: u64) -> bool
+    ensures { IsTrue result ↔ inner.IsNewlyAcquiring equal unequal }
+{
+    has_bit(unequal, 2) && equal & ORDERS == 0
 }
 
 /// Whether the semantics for where the values differ release, or are stronger than those for where they are equal.
@@ -88,8 +118,7 @@ fn is_too_strong(equal: Option<u64>, unequal: u64) -> bool
         return true;
     }
     match equal {
-        Some(semantics) => (has_bit(unequal, 16) && !has_bit(semantics, 16))
-            || (has_bit(unequal, 2) && !has_bit(semantics, ORDERS)),
+        Some(equal) => is_newly_sequential(equal, unequal) || is_newly_acquiring(equal, unequal),
         None => false,
     }
 }
@@ -112,17 +141,28 @@ fn has_own_bad_semantics(definitions: &Definitions, inst: &Inst<'_>) -> bool
     }
 }
 
+/// Whether an instruction is that of a group, and the first of its scopes none of a group.
+fn has_bad_group(definitions: &Definitions, inst: &Inst<'_>, scopes: &[u32]) -> bool
+    ensures { IsTrue result ↔ (IsTrue (spec.is_group inst.now.opcode)
+        × inner.IsNoGroup definitions.now (plain_inst inst.now).operands scopes.now) }
+{
+    is_group(inst.opcode) && is_no_group(definitions, inst.operands.as_slice(), scopes)
+}
+
 /// Whether an instruction breaks O14: it has a scope or memory semantics with a value that there may not be there.
 pub fn is_misscoped(definitions: &Definitions, inst: &Inst<'_>) -> bool
     ensures { IsTrue result ↔ spec.IsMisscoped definitions.now (plain_inst inst.now) }
 {
     let scopes = scopes_of(inst.opcode);
-    if scopes.is_empty() {
-        return false;
-    }
     let operands = inst.operands.as_slice();
-    has_high_scope(definitions, operands, scopes)
-        || (is_group(inst.opcode) && is_no_group(definitions, operands, scopes))
-        || has_bad_semantics(definitions, operands, semantics_of(inst.opcode))
-        || has_own_bad_semantics(definitions, inst)
+    if has_high_scope(definitions, operands, scopes) {
+        return true;
+    }
+    if has_bad_group(definitions, inst, scopes) {
+        return true;
+    }
+    if has_bad_semantics(definitions, operands, semantics_of(inst.opcode)) {
+        return true;
+    }
+    has_own_bad_semantics(definitions, inst)
 }

@@ -1,10 +1,11 @@
 //! The literals of OpSwitch: O19.
 
-ghost use Rattle.std.specs.Prelude.{◌≡◌, ◌↔◌, ◌≤◌, ◌⊎◌, ◌^◌, ℕ, IfOk, IsTrue, Contains};
+ghost use Rattle.std.specs.Prelude.{◌≡◌, ◌↔◌, ◌<◌, ◌≤◌, ◌⊎◌, ◌^◌, ℕ, IfOk, IsTrue, Contains, MatchOption};
 ghost use Rattle.std.specs.List.Sorted.{IsPermutation};
 ghost use Rattle.spv_module.specs.Module.{plain_inst, plain_operand, plain_operands};
+ghost use Rattle.spv_type_forms.specs.Types.{IsInt};
 ghost use Rattle.spv_kernel_operands.specs.Switch as spec;
-ghost use Rattle.spv_kernel_operands.specs.inner.Switch.{AreRising};
+ghost use Rattle.spv_kernel_operands.specs.inner.Switch.{AreRising, IsSelector};
 
 use crate::value::id_at;
 use spv_module::{Inst, Operand, opcode};
@@ -34,23 +35,41 @@ fn literals_of(alloc: Global, operands: &[Operand]) -> Result<Vec<u64>, AllocErr
     Ok(literals)
 }
 
-/// How wide the selector of an OpSwitch is, in bits, if its type is an int type of at most 63 bits: of others each
-/// literal has room.
-fn selector_width(definitions: &Definitions, operands: &[Operand]) -> Option<u32> {
-    let selector = id_at(operands, 0)?;
-    match definitions.form(definitions.type_of(selector)?)? {
-        Form::Scalar(Scalar::Int(width)) => if width < 64 { Some(width) } else { None },
+/// The width of a type, if it is an int type.
+fn int_width(definitions: &Definitions, t: u32) -> Option<u32>
+    ensures { MatchOption result ((w : ℕ) → ¬ (IsInt definitions.now t w)) (λ w. IsInt definitions.now t w) }
+{
+    match definitions.form(t) {
+        Some(Form::Scalar(Scalar::Int(width))) => Some(width),
         _ => None,
     }
 }
 
+/// How wide the selector of an OpSwitch is, in bits, if its type is an int type.
+fn selector_width(definitions: &Definitions, operands: &[Operand]) -> Option<u32>
+    ensures { MatchOption result ((w : ℕ) → ¬ (IsSelector definitions.now (plain_operands operands.now) w))
+        (λ w. IsSelector definitions.now (plain_operands operands.now) w) }
+{
+    let selector = id_at(operands, 0)?;
+    int_width(definitions, definitions.type_of(selector)?)
+}
+
+/// Whether a literal has a bit from a width up.
+fn is_wide(literal: u64, width: u32) -> bool
+    ensures { IsTrue result ↔ (2 ^ width ≤ literal) }
+{
+    if 64 <= width {
+        return false;
+    }
+    literal >> width != 0
+}
+
 /// Whether one of some literals has a bit from a width up.
 fn has_wide(literals: &[u64], width: u32) -> bool
-    requires { width < 64 }
     ensures { IsTrue result ↔ ((n : ℕ) × Contains literals.now n × (2 ^ width ≤ n)) }
 {
     for literal in literals {
-        if *literal >> width != 0 {
+        if is_wide(*literal, width) {
             return true;
         }
     }

@@ -1,6 +1,6 @@
 -- What single instructions have so many of. [2.17]
 use Rattle.std.specs.Prelude.{◌-◌, ◌/◌, ℕ, List, [], ◌∷◌, Option, Some, None, Bool, false, not, ◌&&◌, ◌||◌}
-use Rattle.std.specs.Prelude.{count_by, length, nat_eq, nat_le, take}
+use Rattle.std.specs.Prelude.{count_by, if◌then◌else◌, length, nat_eq, nat_le, take}
 use Rattle.spv_module.specs.declared.opcode.TheConstants as opcode
 use Rattle.spv_module.specs.Operand.{Plain, Id, PlainInst}
 

@@ -22,9 +22,9 @@ pub record IsMemberOf (is : List PlainInst) (members : List Plain) (m : ℕ) : T
 
 -- The OpTypeStruct of instruction n is so deep at least: it is 1 deep; and one deeper than a member that is itself an
 -- OpTypeStruct. So the depth is 1, or one more than the greatest depth of such a member. [2.17]
-pub data IsDeep (is : List PlainInst) (n : ℕ) : ℕ → Type 0 where
-  alone : (t : ℕ) (members : List Plain) → IsStruct is n t members → IsDeep is n 1
-  within : (t m d : ℕ) (members : List Plain) → IsStruct is n t members → IsMemberOf is members m → IsDeep is m d
+pub data IsDeep (is : List PlainInst) : ℕ → ℕ → Type 0 where
+  alone : (n t : ℕ) (members : List Plain) → IsStruct is n t members → IsDeep is n 1
+  within : (n t m d : ℕ) (members : List Plain) → IsStruct is n t members → IsMemberOf is members m → IsDeep is m d
       → IsDeep is n (d + 1)
 
 -- Each OpTypeStruct stands behind those that are types of its members, as where no rule before is broken. [2.4, 2.16]

@@ -1,5 +1,5 @@
 -- The table of limits. [2.17]
-use Rattle.std.specs.Prelude.{ℕ, List, [], ◌∷◌, nat_eq}
+use Rattle.std.specs.Prelude.{ℕ, List, [], ◌∷◌, if◌then◌else◌, nat_eq}
 use denote.Enum.Declared.{tag_of}
 use Rattle.spv_limits.specs.declared.table.Limit.{Limit}
 use Rattle.spv_limits.specs.declared.table.TheConstants.{TABLE}

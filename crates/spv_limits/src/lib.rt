@@ -3,9 +3,11 @@
 
 mod counted;
 mod depths;
+mod kept;
 pub mod laws;
 mod past;
 mod table;
+mod tallies;
 
 pub use past::first_past;
 pub use table::{Limit, most};

@@ -4,6 +4,7 @@
 mod kinds;
 mod late;
 pub mod laws;
+mod lines;
 mod missing;
 mod shapes;
 mod table;

@@ -1,7 +1,9 @@
 //! Table V, and table X behind it: in which version what came first, and which extensions have it.
 
-ghost use Rattle.std.specs.Prelude.{◌≡◌, ◌↔◌, IsTrue, option_map};
+ghost use Rattle.std.specs.Prelude.{◌≡◌, ◌↔◌, IsTrue, map, option_map};
 ghost use Rattle.spv_versions.specs.Table as spec;
+ghost use Rattle.spv_versions.specs.inner.Lines.{plain_line};
+ghost use Rattle.spv_versions.specs.inner.Told as told;
 
 /// A kind of numbers: opcodes, or a kind of operands by its name in a grammar.
 #[derive(Clone, Copy, Debug, PartialEq, Eq)]
@@ -164,7 +166,7 @@ impl Kind {
 /// How many kinds of operands there are of which the table speaks.
 pub const KIND_COUNT: usize = 9;
 
-/// These kinds.
+/// The kinds of operands of which the table speaks.
 pub static KINDS: [Kind; KIND_COUNT] = [
     Kind::Capability,
     Kind::ExecutionMode,
@@ -176,6 +178,20 @@ pub static KINDS: [Kind; KIND_COUNT] = [
     Kind::PackedVectorFormat,
     Kind::LinkageType,
 ];
+
+/// The lines of both tables.
+pub fn table() -> &'static [Line; COUNT]
+    ensures { map plain_line result.now ≡ spec.lines }
+{
+    &TABLE
+}
+
+/// These kinds.
+pub fn kinds() -> &'static [Kind; KIND_COUNT]
+    ensures { result.now ≡ told.kinds }
+{
+    &KINDS
+}
 
 /// Whether a version is before the first one of a line.
 pub fn is_before(minor: u8, first: Option<u8>) -> bool
