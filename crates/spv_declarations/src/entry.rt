@@ -1,8 +1,9 @@
 //! O3 and O5: entry points of one name, and execution modes.
 
 ghost use Rattle.std.specs.Prelude.{◌↔◌, ◌≡◌, ◌≤◌, IfOk, IsTrue, length, option_map};
-ghost use Rattle.spv_module.specs.Module.{plain_inst};
-ghost use Rattle.spv_declarations.specs.Entry.{IsRepeated, SetsById, TakesId, named_by};
+ghost use Rattle.spv_module.specs.Module.{plain_inst, plain_operands};
+ghost use Rattle.spv_declarations.specs.Entry as spec;
+ghost use Rattle.spv_declarations.specs.Entry.{IsRepeated, SetsById, TakesId};
 ghost use Rattle.spv_declarations.specs.inner.First.{IsFirstBelow};
 
 use crate::decorated::has_id_behind;
@@ -11,14 +12,11 @@ use spv_type_forms::Definitions;
 use std::alloc::{AllocError, Global};
 use std::collections::BTreeSet;
 
-/// The execution model and the name of an OpEntryPoint.
-fn named<'a>(inst: &Inst<'a>) -> Option<(u32, &'a str)>
-    ensures { option_map (λ p. (p.0, p.1.now)) result ≡ named_by (plain_inst inst.now) }
+/// The execution model and the name that the operands of an OpEntryPoint have.
+fn name_in<'a>(operands: &[Operand<'a>]) -> Option<(u32, &'a str)>
+    ensures { option_map (λ p. (p.0, p.1.now)) result ≡ spec.name_in (plain_operands operands.now) }
 {
-    if inst.opcode != opcode::ENTRY_POINT {
-        return None;
-    }
-    match inst.operands.as_slice() {
+    match operands {
         [
             Operand::Value { value, .. },
             Operand::Id(_),
@@ -26,6 +24,17 @@ fn named<'a>(inst: &Inst<'a>) -> Option<(u32, &'a str)>
             ..
         ] => Some((*value, *name)),
         _ => None,
+    }
+}
+
+/// The execution model and the name of an OpEntryPoint.
+fn named<'a>(inst: &Inst<'a>) -> Option<(u32, &'a str)>
+    ensures { option_map (λ p. (p.0, p.1.now)) result ≡ spec.named_by (plain_inst inst.now) }
+{
+    if inst.opcode == opcode::ENTRY_POINT {
+        name_in(inst.operands.as_slice())
+    } else {
+        None
     }
 }
 

@@ -1,0 +1,11 @@
+pub mod Adding
+pub mod Gathered
+pub mod Saying
+pub mod Stated
+pub mod Least
+pub mod Firsts
+pub mod Passes
+pub mod Standing
+pub mod Telling
+pub mod Misplacing
+pub mod Early
