@@ -8,4 +8,7 @@ pub mod Passes
 pub mod Standing
 pub mod Telling
 pub mod Misplacing
+pub mod Both
+pub mod Built
+pub mod Half
 pub mod Early

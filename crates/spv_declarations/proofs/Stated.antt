@@ -1,5 +1,5 @@
 -- What ids and members have, and by which instruction.
-use Rattle.std.proofs.Common.{◌≡◌, ◌∙◌, ◌⊎◌, ◌↔◌, inl, inr, ℕ, Bool, true, false, refl, sym, subst, arith, List, [], ◌∷◌, Option, Some, None, nat_eq, IsTrue, ◌≤◌, length}
+use Rattle.std.proofs.Common.{◌≡◌, ◌∙◌, ◌⊎◌, ◌↔◌, inl, inr, ℕ, Bool, true, false, refl, sym, ap, subst, arith, List, [], ◌∷◌, Option, Some, None, Result, Ok, Err, OnOk, nat_eq, IsTrue, ◌≤◌, length}
 use Rattle.std.specs.Prelude.{slice_get, Contains}
 use Rattle.std.specs.BTreeSet.{BTreeSet}
 use Rattle.spv_module.specs.declared.opcode.TheConstants as opcode
@@ -106,8 +106,9 @@ pub own_only : (is : List PlainInst) (i : PlainInst) (x d y e : ℕ) → given_b
     → HasAt is (Gives e) y i → (y ≡ x) × (e ≡ d) × (¬ (IsGroup is x))
 own_only is i x d y e g (HasAt.own s n) =
     let p : Some (x, d) ≡ Some (y, e) = sym g ∙ s in
-    let q : y ≡ x = cc in
-    (q, cc, subst (λ (z : ℕ). ¬ (IsGroup is z)) q n)
+    let r : (x, d) ≡ (y, e) = cc in
+    let q : y ≡ x = sym (ap (λ (z : ℕ × ℕ). z.0) r) in
+    (q, sym (ap (λ (z : ℕ × ℕ). z.1) r), subst (λ (z : ℕ). ¬ (IsGroup is z)) q n)
 own_only is i x d y e g (HasAt.by_group h t s) = absurd (gives_no_target i x d h y g t)
 
 pub by_group_only : (is : List PlainInst) (i : PlainInst) (y e : ℕ) → given_by i ≡ None → HasAt is (Gives e) y i
@@ -244,7 +245,11 @@ member_only : (is : List PlainInst) (i : PlainInst) (t k d u j e : ℕ) → memb
     → HasMemberAt is u j e i → (u ≡ t) × (j ≡ k) × (e ≡ d)
 member_only is i t k d u j e g (HasMemberAt.own s) =
     let p : Some (t, k, d) ≡ Some (u, j, e) = sym g ∙ s in
-    (cc, cc, cc)
+    let r : (t, k, d) ≡ (u, j, e) = cc in (
+      sym (ap (λ (z : ℕ × ℕ × ℕ). z.0) r),
+      sym (ap (λ (z : ℕ × ℕ × ℕ). z.1) r),
+      sym (ap (λ (z : ℕ × ℕ × ℕ). z.2) r),
+    )
 member_only is i t k d u j e g (HasMemberAt.by_group h m s) = absurd (gives_no_pair i t k d h u j g m)
 
 member_by_group : (is : List PlainInst) (i : PlainInst) (u j e : ℕ) → member_given_by i ≡ None
@@ -272,3 +277,18 @@ pub builds_nothing : (is : List PlainInst) (i : PlainInst) (t k d : ℕ) (s : BT
     → member_given_by i ≡ Some (t, k, d) → (d ≡ 11 → ⊥) → AddsBoth (BuildsIn is i) s s
 builds_nothing is i t k d s g n =
     both_none (BuildsIn is i) s (λ u j h. let m = member_only is i t k d u j 11 g h.1 in n (sym m.2))
+
+-- what a call gives, weakened
+pub on_ok : {A E : Type 0} (r : Result A E) (P Q : Type 0) → (P → Q) → OnOk r P → OnOk r Q
+on_ok (Ok a) P Q f h = f h
+on_ok (Err e) P Q f h = h
+
+pub links_by_group : (l : Option ℕ) (is : List PlainInst) (s : Said) (i : PlainInst) (entered : BTreeSet ℕ) (b : Bool)
+    → AreSaid l is s → IsOf is i → given_by i ≡ None
+    → (IsTrue b ↔ ((x g : ℕ) × IsIn entered x × NamesTarget i g x × HasBoth s.pairs g 41))
+    → IsTrue b ↔ ((x : ℕ) × IsIn entered x × HasAt is (Gives 41) x i)
+links_by_group l is s i entered b a o n t = (
+  λ y. let p = t.0 y in (p.0, p.2, HasAt.by_group p.1 p.3 (kept_said l is s p.1 41 a p.4)),
+  λ h. let q = by_group_only is i h.0 41 n h.2 in
+      t.1 (h.0, q.0, h.1, q.1, target_kept l is s i q.0 h.0 41 a o q.1 known_41 q.2),
+)

@@ -36,7 +36,7 @@ linked_tells is entered n i b h at t = (
 
 -- O10
 parts_of : (os : List Plain) (x c : ℕ) → initialized_in os ≡ Some (x, c)
-    → (t k j : ℕ) (rest : List Plain) × (os ≡ OfType t ∷ Result x ∷ Value k c ∷ Id j ∷ rest)
+    → (t k j : ℕ) × (rest : List Plain) × (os ≡ OfType t ∷ Result x ∷ Value k c ∷ Id j ∷ rest)
 parts_of (OfType t ∷ Result y ∷ Value k d ∷ Id j ∷ os) x c e =
     let p : y ≡ x = cc in
     let q : d ≡ c = cc in

@@ -20,11 +20,11 @@ add_with-requires-clause-known c = known_19
 pub add_with-requires-clause-inst : goal.add_with-requires-clause-inst
 add_with-requires-clause-inst c = (c.loop-number.number, c.inst-inst.ensures)
 
-pub add_with-requires-2-clause-known : goal.add_with-requires-2-clause-known
-add_with-requires-2-clause-known c = known_20
+pub add_with-requires-in-loop-number-clause-known : goal.add_with-requires-in-loop-number-clause-known
+add_with-requires-in-loop-number-clause-known c = known_20
 
-pub add_with-requires-2-clause-inst : goal.add_with-requires-2-clause-inst
-add_with-requires-2-clause-inst c = (c.loop-number.number, c.inst-inst.ensures)
+pub add_with-requires-in-loop-number-clause-inst : goal.add_with-requires-in-loop-number-clause-inst
+add_with-requires-in-loop-number-clause-inst c = (c.loop-number.number, c.inst-inst.ensures)
 
 pub returns-then-has_both : goal.returns-then-has_both
 returns-then-has_both c =
@@ -32,11 +32,11 @@ returns-then-has_both c =
     let n = c.loop-number.number in
     let r = least_more is 19 n _ c.loop-number.restricted c.add_with.new.set c.inst-inst.ensures
     c.in_ok-add_with.ensures c.loop-number.invariant.restricted in
-    let a = least_more is 20 n _ c.loop-number.aliased c.add_with-2.new.set c.inst-inst.ensures
+    let a = least_more is 20 n _ c.loop-number.aliased c.add_with-in-loop-number.new.set c.inst-inst.ensures
     c.in_ok-add_with-2.ensures c.loop-number.invariant.aliased in
     let f = c.has_both.ensures.found c.if-has_both.true in (
       c.loop-number-test.true,
-      second_here is n f.0 c.loop-number.restricted c.loop-number.aliased c.add_with.new.set c.add_with-2.new.set
+      second_here is n f.0 c.loop-number.restricted c.loop-number.aliased c.add_with.new.set c.add_with-in-loop-number.new.set
           c.loop-number.invariant.restricted c.loop-number.invariant.aliased c.loop-number.invariant.apart r a f.1
           f.2,
       none_second is n c.loop-number.restricted c.loop-number.aliased c.loop-number.invariant.restricted
@@ -50,9 +50,9 @@ loop-number-preserved c =
     record {
       restricted = least_more is 19 n _ c.loop-number.restricted c.add_with.new.set c.inst-inst.ensures
           c.in_ok-add_with.ensures c.loop-number.invariant.restricted;
-      aliased = least_more is 20 n _ c.loop-number.aliased c.add_with-2.new.set c.inst-inst.ensures
+      aliased = least_more is 20 n _ c.loop-number.aliased c.add_with-in-loop-number.new.set c.inst-inst.ensures
           c.in_ok-add_with-2.ensures c.loop-number.invariant.aliased;
-      apart = apart_more is _ c.loop-number.restricted c.loop-number.aliased c.add_with.new.set c.add_with-2.new.set
+      apart = apart_more is _ c.loop-number.restricted c.loop-number.aliased c.add_with.new.set c.add_with-in-loop-number.new.set
           c.in_ok-add_with.ensures c.in_ok-add_with-2.ensures
           (c.has_both.ensures.none c.if-has_both.false is) c.loop-number.invariant.apart;
     }

@@ -1,0 +1,76 @@
+-- O11, at single instructions.
+use Rattle.std.proofs.Common.{◌≡◌, ◌∙◌, ◌⊎◌, ◌↔◌, ◌||◌, inl, inr, ℕ, Bool, true, false, refl, sym, ap, subst, List, [], ◌∷◌, Option, Some, None, IsTrue}
+use Rattle.std.specs.Prelude.{slice_get}
+use Rattle.std.specs.BTreeSet.{BTreeSet}
+use Rattle.spv_module.specs.declared.opcode.TheConstants as opcode
+use Rattle.spv_module.specs.Operand.{Plain, Result, Id, PlainInst}
+use Rattle.spv_conditions.specs.Further.{IsMember}
+use Rattle.spv_declarations.specs.Given.{HasId}
+use Rattle.spv_declarations.specs.Decorated.{IsBuiltIn, HasBuiltIn, IsHalfBuiltIn}
+use Rattle.spv_declarations.specs.declared.built_in.BuiltIns.{BuiltIns}
+use Rattle.spv_declarations.specs.inner.BuiltIn.{AreBuiltIn}
+use Rattle.spv_declarations.specs.inner.Sets.{AnyId, IsIn, HasBoth}
+use Rattle.spv_declarations.proofs.Gathered.{one_inst}
+use Rattle.spv_declarations.proofs.Misplacing.{any_id, id_any}
+
+-- what stands behind the result of a struct
+half_struct : (is : List PlainInst) (n : ℕ) (i : PlainInst) → slice_get is n ≡ Some i → IsHalfBuiltIn is n
+    → (t : ℕ) × (ms : List Plain) × (i.opcode ≡ opcode.TYPE_STRUCT) × (i.operands ≡ Result t ∷ ms)
+    × (((k j : ℕ) × IsBuiltIn is t k × IsMember is t j × (¬ (IsBuiltIn is t j))) ⊎ ((u : ℕ) × HasId ms u × HasBuiltIn is u))
+half_struct is n i at (IsHalfBuiltIn.in_part h t k j ms there o p b m c) =
+    let e = one_inst is n h i there at in
+    (t, ms, subst (λ (x : PlainInst). x.opcode ≡ opcode.TYPE_STRUCT) e o,
+    subst (λ (x : PlainInst). x.operands ≡ Result t ∷ ms) e p, inl (k, j, b, m, c))
+half_struct is n i at (IsHalfBuiltIn.within h t u ms there o p q b) =
+    let e = one_inst is n h i there at in
+    (t, ms, subst (λ (x : PlainInst). x.opcode ≡ opcode.TYPE_STRUCT) e o,
+    subst (λ (x : PlainInst). x.operands ≡ Result t ∷ ms) e p, inr (u, q, b))
+
+pub no_struct : (is : List PlainInst) (n : ℕ) (i : PlainInst) → slice_get is n ≡ Some i
+    → (i.opcode ≡ opcode.TYPE_STRUCT → ⊥) → IsHalfBuiltIn is n → ⊥
+no_struct is n i at no h = no (half_struct is n i at h).2
+
+pub no_result : (is : List PlainInst) (n : ℕ) (i : PlainInst) → slice_get is n ≡ Some i
+    → ((t : ℕ) (ms : List Plain) → i.operands ≡ Result t ∷ ms → ⊥) → IsHalfBuiltIn is n → ⊥
+no_result is n i at no h = let s = half_struct is n i at h in no s.0 s.1 s.3
+
+either_true : (p q : Bool) (A B : Type 0) → (IsTrue p → A) → (IsTrue q → B) → IsTrue (p || q) → A ⊎ B
+either_true true q A B f g h = inl (f refl)
+either_true false q A B f g h = inr (g h)
+
+true_left : (p q : Bool) → IsTrue p → IsTrue (p || q)
+true_left true q h = refl
+true_left false q h = let no : false ≡ true = h in absurd (cc)
+
+true_right : (p q : Bool) → IsTrue q → IsTrue (p || q)
+true_right true q h = refl
+true_right false q h = h
+
+-- A test of both ways to break the rule.
+pub half_tells : (is : List PlainInst) (b : BuiltIns) (n : ℕ) (i : PlainInst) (t : ℕ) (ms : List Plain) (p q : Bool)
+    → AreBuiltIn is b → slice_get is n ≡ Some i → i.opcode ≡ opcode.TYPE_STRUCT → i.operands ≡ Result t ∷ ms
+    → (IsTrue p ↔ (IsIn b.structs t × ((k : ℕ) × IsMember is t k × (¬ (HasBoth b.members t k)))))
+    → (IsTrue q ↔ AnyId (IsIn b.structs) ms) → IsTrue (p || q) ↔ IsHalfBuiltIn is n
+half_tells is b n i t ms p q a at o r x y = (
+  λ h. elim (either_true p q _ _ x.0 y.0 h) [
+    | inl s ↦
+      let c = (a.structs t).0 s.0 in
+      IsHalfBuiltIn.in_part i t c.0 s.1.0 ms at o r c.1 s.1.1 (λ m. s.1.2 ((a.members t s.1.0).1 m))
+    | inr s ↦
+      let u = any_id (IsIn b.structs) ms s in
+      IsHalfBuiltIn.within i t u.0 ms at o r u.1 ((a.structs u.0).0 u.2)
+  ],
+  λ h.
+      let s = half_struct is n i at h in
+      let e : Result s.0 ∷ s.1 ≡ Result t ∷ ms = sym s.3 ∙ r in
+      let tt' : s.0 ≡ t = cc in
+      let mm : s.1 ≡ ms = cc in
+      elim s.4 [
+        | inl k ↦ true_left p q (x.1 (
+            (a.structs t).1 (subst (HasBuiltIn is) tt' (k.0, k.2)),
+            k.1, subst (λ (z : ℕ). IsMember is z k.1) tt' k.3,
+            λ m. k.4 (subst (λ (z : ℕ). IsBuiltIn is z k.1) (sym tt') ((a.members t k.1).0 m))))
+        | inr u ↦ true_right p q (y.1 (id_any (IsIn b.structs) ms u.0
+            (subst (λ (l : List Plain). HasId l u.0) mm u.1) ((a.structs u.0).1 u.2)))
+      ],
+)
