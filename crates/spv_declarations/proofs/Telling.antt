@@ -1,5 +1,5 @@
 -- What the tests of single instructions tell.
-use Rattle.std.proofs.Common.{◌≡◌, ◌∙◌, ◌⊎◌, ◌↔◌, ◌<◌, inl, inr, ℕ, zero, suc, length, Bool, true, false, refl, sym, subst, arith, List, [], ◌∷◌, Option, Some, None, nat_eq, IsTrue}
+use Rattle.std.proofs.Common.{◌≡◌, ◌∙◌, ◌⊎◌, ◌↔◌, ◌<◌, inl, inr, ℕ, zero, suc, length, Bool, true, false, refl, sym, ap, subst, arith, List, [], ◌∷◌, Option, Some, None, nat_eq, IsTrue}
 use Rattle.std.specs.Prelude.{slice_get, codes}
 use Rattle.std.specs.BTreeSet.{BTreeSet}
 use Rattle.std.proofs.lemmas.Bool.{eqb-true, eq-eqb}
@@ -38,9 +38,10 @@ linked_tells is entered n i b h at t = (
 parts_of : (os : List Plain) (x c : ℕ) → initialized_in os ≡ Some (x, c)
     → (t k j : ℕ) × (rest : List Plain) × (os ≡ OfType t ∷ Result x ∷ Value k c ∷ Id j ∷ rest)
 parts_of (OfType t ∷ Result y ∷ Value k d ∷ Id j ∷ os) x c e =
-    let p : y ≡ x = cc in
-    let q : d ≡ c = cc in
-    (t, k, j, os, cc)
+    let r : (y, d) ≡ (x, c) = cc in
+    let p : y ≡ x = ap (λ (z : ℕ × ℕ). z.0) r in
+    let q : d ≡ c = ap (λ (z : ℕ × ℕ). z.1) r in
+    (t, k, j, os, rw (p, q) refl)
 parts_of _ x c e = cc
 
 abbrev HasBy' : List PlainInst → Option ℕ → ℕ → ℕ → Type 0
