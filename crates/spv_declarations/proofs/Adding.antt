@@ -88,14 +88,14 @@ one_of : (g m d h e : ℕ) (b : Bool) (xs ys : Bool) → is_of g m (h, e) ≡ b 
 one_of g m d h e true xs ys t l same =
     let k = of_group g m h e t in
     let p : nat_eq d e ≡ is_at (pair_cmp (g, d)) (h, e) =
-        same_test (nat_eq d e) (is_at (pair_cmp (g, d)) (h, e))
-        (λ q. rw (k, sym (eqb-true d e q)) (same_pair g d)) (λ q. eq-eqb d e (sym (pair_same g d h e q).1)) in
+    same_test (nat_eq d e) (is_at (pair_cmp (g, d)) (h, e))
+    (λ q. rw (k, sym (eqb-true d e q)) (same_pair g d)) (λ q. eq-eqb d e (sym (pair_same g d h e q).1)) in
     ap (λ (z : Bool). z || xs) p ∙ ap (λ (z : Bool). is_at (pair_cmp (g, d)) (h, e) || z) same
 one_of g m d h e false xs ys t l same =
     let p : is_at (pair_cmp (g, d)) (h, e) ≡ false = not_true (is_at (pair_cmp (g, d)) (h, e))
-        (λ q. let s = pair_same g d h e q in
-        let u : is_of g m (h, e) ≡ true = rw (s.0, s.1) (of_itself g m d l) in
-        let no : false ≡ true = sym t ∙ u in cc) in
+    (λ q. let s = pair_same g d h e q in
+    let u : is_of g m (h, e) ≡ true = rw (s.0, s.1) (of_itself g m d l) in
+    let no : false ≡ true = sym t ∙ u in cc) in
     rw p same
 
 among_more : (g m d : ℕ) (p : ℕ × ℕ) (ps : List (ℕ × ℕ)) → d < m → (b : Bool) → is_of g m p ≡ b

@@ -20,7 +20,7 @@ built_one : (is : List PlainInst) (count n : ℕ) (b : BuiltIns) → AreEarly is
     → GathersBoth n is (BuildsIn is) b.members → (t k : ℕ) → HasBoth b.members t k ↔ IsBuiltIn is t k
 built_one is count n b early le g t k =
     let a = both_gather_all is (BuildsIn is) count n b.members early
-        (λ i u j h. has_member_early is u j 11 i h.1) le g in (
+    (λ i u j h. has_member_early is u j 11 i h.1) le g in (
       λ h. let s = (a t k).0 h in (s.3.0, (s.0, member_at_has is t k 11 s.0 s.1 s.2 s.3.1)),
       λ h. let s = member_has_some is t k 11 h.1.0 h.1.1 in (a t k).1 (s.0, s.1, s.2, (h.0, s.3)),
     )

@@ -265,18 +265,18 @@ never_behind is m n i l a le at e =
     let early = early_class i.opcode e in
     elim (cases_lt m n) [
       | inl lt ↦
-        let late = ordered_tells (classes is) m n f.0 (class_of i.opcode) (all_ordered (classes is) l) f.1
-            (not_other f.0 f.2) lt d in
-        let no : false ≡ true = sym early ∙ late in cc
+          let late = ordered_tells (classes is) m n f.0 (class_of i.opcode) (all_ordered (classes is) l) f.1
+          (not_other f.0 f.2) lt d in
+          let no : false ≡ true = sym early ∙ late in cc
       | inr g ↦
-        let q : m ≡ n = omega (arith, le, g) in
-        let here : slice_get (classes is) n ≡ Some f.0 =
-            subst (λ (k : ℕ). slice_get (classes is) k ≡ Some f.0) q f.1 in
-        let same : Some f.0 ≡ Some (class_of i.opcode) = sym here ∙ d in
-        let one : f.0 ≡ class_of i.opcode = cc in
-        let late = passes early_classes f.0 (class.Function ∷ []) refl f.2 in
-        let late' : is_late (class_of i.opcode) ≡ true = subst (λ (c : Class). is_late c ≡ true) one late in
-        let no : false ≡ true = sym early ∙ late' in cc
+          let q : m ≡ n = omega (arith, le, g) in
+          let here : slice_get (classes is) n ≡ Some f.0 =
+          subst (λ (k : ℕ). slice_get (classes is) k ≡ Some f.0) q f.1 in
+          let same : Some f.0 ≡ Some (class_of i.opcode) = sym here ∙ d in
+          let one : f.0 ≡ class_of i.opcode = cc in
+          let late = passes early_classes f.0 (class.Function ∷ []) refl f.2 in
+          let late' : is_late (class_of i.opcode) ≡ true = subst (λ (c : Class). is_late c ≡ true) one late in
+          let no : false ≡ true = sym early ∙ late' in cc
     ]
 
 -- Up to an instruction with an OpFunction at it or before it there is a last one.
@@ -290,33 +290,41 @@ decided (Some c) cs = by_test (is_among c cs) refl where
 
 last_up_to : (is : List PlainInst) (m k : ℕ) → IsAt is m (class.Function ∷ []) → m + k < length is
     → (f : ℕ) × IsLast is class.Function (m + k) f
-last_up_to is m zero a l = (m, record {
-  within = l;
-  up_to = omega arith;
-  there = a;
-  last = λ j p q h. absurd (omega (arith, p, q));
-})
+last_up_to is m zero a l = (
+  m,
+  record {
+    within = l;
+    up_to = omega arith;
+    there = a;
+    last = λ j p q h. absurd (omega (arith, p, q));
+  },
+)
 last_up_to is m (suc k) a l = elim (decided (slice_get (classes is) (m + suc k)) (class.Function ∷ [])) [
-  | inl h ↦ (m + suc k, record {
+  | inl h ↦ (
+    m + suc k,
+    record {
       within = l;
       up_to = omega arith;
       there = h;
       last = λ j p q g. absurd (omega (arith, p, q));
-    })
+    },
+  )
   | inr n ↦
-    let b = last_up_to is m k a (omega (arith, l)) in
-    let u = b.1.up_to in
-    (b.0, record {
-      within = l;
-      up_to = omega (arith, u);
-      there = b.1.there;
-      last = λ j p q g. elim (cases_lt j (m + suc k)) [
-        | inl r ↦ b.1.last j p (omega (arith, r)) g
-        | inr r ↦
-          let e : j ≡ m + suc k = omega (arith, q, r) in
-          n (subst (λ (x : ℕ). IsAt is x (class.Function ∷ [])) e g)
-      ];
-    })
+      let b = last_up_to is m k a (omega (arith, l)) in
+      let u = b.1.up_to in (
+        b.0,
+        record {
+          within = l;
+          up_to = omega (arith, u);
+          there = b.1.there;
+          last = λ j p q g. elim (cases_lt j (m + suc k)) [
+            | inl r ↦ b.1.last j p (omega (arith, r)) g
+            | inr r ↦
+                let e : j ≡ m + suc k = omega (arith, q, r) in
+                n (subst (λ (x : ℕ). IsAt is x (class.Function ∷ [])) e g)
+          ];
+        },
+      )
 ]
 
 no_function : (is : List PlainInst) (m n : ℕ) → IsAt is m (class.Function ∷ []) → m ≤ n → n < length is
@@ -352,14 +360,14 @@ are_early G is places count plan next = record {
   each = λ n i at e. elim (cases_lt n count) [
     | inl l ↦ l
     | inr g ↦
-      let w = slice_get_within is n i at in
-      absurd (nowhere_behind is count n i plan.layout (next (omega (arith, g, w))) g at e)
+        let w = slice_get_within is n i at in
+        absurd (nowhere_behind is count n i plan.layout (next (omega (arith, g, w))) g at e)
   ];
   globals = λ n s. elim (cases_lt n count) [
     | inl l ↦ l
     | inr g ↦
-      let b = global_before is n 11 s refl in
-      let w = b.0 in
-      absurd (no_function is count n (next (omega (arith, g, w))) g w b.1)
+        let b = global_before is n 11 s refl in
+        let w = b.0 in
+        absurd (no_function is count n (next (omega (arith, g, w))) g w b.1)
   ];
 }

@@ -103,10 +103,14 @@ pub among_none : (G : Table) (is : List PlainInst) (rs : List Rule) (r : Rule) (
     → ((n : ℕ) → ¬ (Broken G is r n)) → IsFirstAmong G is rs o → IsFirstAmong G is (r ∷ rs) o
 among_none G is rs r None never h =
     λ q n p b. elim p [ inl e ↦ never n (moved G is q r n e b) | inr k ↦ h q n k b ]
-among_none G is rs r (Some f) never h = (inr h.0, h.1, λ q m p b. elim p [
-  | inl e ↦ absurd (never m (moved G is q r m e b))
-  | inr k ↦ h.2 q m k b
-])
+among_none G is rs r (Some f) never h = (
+  inr h.0,
+  h.1,
+  λ q m p b. elim p [
+    | inl e ↦ absurd (never m (moved G is q r m e b))
+    | inr k ↦ h.2 q m k b
+  ],
+)
 
 -- the least instruction that breaks it
 least_one : (G : Table) (is : List PlainInst) (r : Rule) (n m : ℕ)
@@ -120,35 +124,47 @@ at_or_below a b R l r = elim (cases_lt a b) [ inl k ↦ inl k | inr g ↦ inr (o
 pub among_kept : (G : Table) (is : List PlainInst) (rs : List Rule) (r : Rule) (f : Found) (n : ℕ) → AreBefore rs r
     → f.inst ≤ n → IsFirstOf (Broken G is r) (Some n) → IsFirstAmong G is rs (Some f)
     → IsFirstAmong G is (r ∷ rs) (Some f)
-among_kept G is rs r f n a le b h = (inr h.0, h.1, λ q m p k. elim p [
-  | inl e ↦
-    let l = least_one G is r n m b.1 (moved G is q r m e k) in
-    at_or_below f.inst m (rank_of f.rule ≤ rank_of q) (omega (arith, le, l))
-    (subst (λ (p : Rule). rank_of f.rule ≤ rank_of p) (sym e) (before_it rs r f.rule a h.0))
-  | inr o ↦ h.2 q m o k
-])
+among_kept G is rs r f n a le b h = (
+  inr h.0,
+  h.1,
+  λ q m p k. elim p [
+    | inl e ↦
+        let l = least_one G is r n m b.1 (moved G is q r m e k) in
+        at_or_below f.inst m (rank_of f.rule ≤ rank_of q) (omega (arith, le, l))
+        (subst (λ (p : Rule). rank_of f.rule ≤ rank_of p) (sym e) (before_it rs r f.rule a h.0))
+    | inr o ↦ h.2 q m o k
+  ],
+)
 
 -- One that is broken, and lower; or alone.
 pub among_new : (G : Table) (is : List PlainInst) (rs : List Rule) (r : Rule) (f : Found) (n : ℕ) → n < f.inst
     → IsFirstOf (Broken G is r) (Some n) → IsFirstAmong G is rs (Some f)
     → IsFirstAmong G is (r ∷ rs) (Some (record { rule = r; inst = n }))
-among_new G is rs r f n lt b h = (inl refl, b.0, λ q m p k. elim p [
-  | inl e ↦ at_or_below n m (rank_of r ≤ rank_of q) (least_one G is r n m b.1 (moved G is q r m e k))
-      (subst (λ (p : Rule). rank_of r ≤ rank_of p) (sym e) (let s : rank_of r ≤ rank_of r = omega arith in s))
-  | inr o ↦ elim (h.2 q m o k) [
-    | inl l ↦ inl (omega (arith, l, lt))
-    | inr e ↦ let d = e.0 in inl (omega (arith, d, lt))
-  ]
-])
+among_new G is rs r f n lt b h = (
+  inl refl,
+  b.0,
+  λ q m p k. elim p [
+    | inl e ↦ at_or_below n m (rank_of r ≤ rank_of q) (least_one G is r n m b.1 (moved G is q r m e k))
+        (subst (λ (p : Rule). rank_of r ≤ rank_of p) (sym e) (let s : rank_of r ≤ rank_of r = omega arith in s))
+    | inr o ↦ elim (h.2 q m o k) [
+      | inl l ↦ inl (omega (arith, l, lt))
+      | inr e ↦ let d = e.0 in inl (omega (arith, d, lt))
+    ]
+  ],
+)
 
 pub among_first : (G : Table) (is : List PlainInst) (rs : List Rule) (r : Rule) (n : ℕ)
     → IsFirstOf (Broken G is r) (Some n) → IsFirstAmong G is rs None
     → IsFirstAmong G is (r ∷ rs) (Some (record { rule = r; inst = n }))
-among_first G is rs r n b h = (inl refl, b.0, λ q m p k. elim p [
-  | inl e ↦ at_or_below n m (rank_of r ≤ rank_of q) (least_one G is r n m b.1 (moved G is q r m e k))
-      (subst (λ (p : Rule). rank_of r ≤ rank_of p) (sym e) (let s : rank_of r ≤ rank_of r = omega arith in s))
-  | inr o ↦ absurd (h q m o k)
-])
+among_first G is rs r n b h = (
+  inl refl,
+  b.0,
+  λ q m p k. elim p [
+    | inl e ↦ at_or_below n m (rank_of r ≤ rank_of q) (least_one G is r n m b.1 (moved G is q r m e k))
+        (subst (λ (p : Rule). rank_of r ≤ rank_of p) (sym e) (let s : rank_of r ≤ rank_of r = omega arith in s))
+    | inr o ↦ absurd (h q m o k)
+  ],
+)
 
 -- Of each rule the first instruction that breaks it.
 pub of_o3 : (G : Table) (is : List PlainInst) (count : ℕ) (o : Option ℕ) → ((n : ℕ) → IsRepeated is n → n < count)

@@ -35,10 +35,10 @@ pub said_cases : (is : List PlainInst) (P : PlainInst → Type 0) (n : ℕ) (i :
 said_cases is P n i at s = elim (cases_lt s.0 n) [
   | inl l ↦ inl (s.0, s.1, l, s.3, s.4)
   | inr g ↦
-    let l = s.2 in
-    let e : s.0 ≡ n = omega (arith, l, g) in
-    let there : slice_get is n ≡ Some s.1 = subst (λ (m : ℕ). slice_get is m ≡ Some s.1) e s.3 in
-    inr (subst P (one_inst is n s.1 i there at) s.4)
+      let l = s.2 in
+      let e : s.0 ≡ n = omega (arith, l, g) in
+      let there : slice_get is n ≡ Some s.1 = subst (λ (m : ℕ). slice_get is m ≡ Some s.1) e s.3 in
+      inr (subst P (one_inst is n s.1 i there at) s.4)
 ]
 
 pub said_all : (is : List PlainInst) (P : PlainInst → Type 0) (n : ℕ) → IsSaidBefore n is P → IsSaid is P

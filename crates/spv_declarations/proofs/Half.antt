@@ -18,13 +18,21 @@ half_struct : (is : List PlainInst) (n : ℕ) (i : PlainInst) → slice_get is n
     → (t : ℕ) × (ms : List Plain) × (i.opcode ≡ opcode.TYPE_STRUCT) × (i.operands ≡ Result t ∷ ms)
     × (((k j : ℕ) × IsBuiltIn is t k × IsMember is t j × (¬ (IsBuiltIn is t j))) ⊎ ((u : ℕ) × HasId ms u × HasBuiltIn is u))
 half_struct is n i at (IsHalfBuiltIn.in_part h t k j ms there o p b m c) =
-    let e = one_inst is n h i there at in
-    (t, ms, subst (λ (x : PlainInst). x.opcode ≡ opcode.TYPE_STRUCT) e o,
-    subst (λ (x : PlainInst). x.operands ≡ Result t ∷ ms) e p, inl (k, j, b, m, c))
+    let e = one_inst is n h i there at in (
+      t,
+      ms,
+      subst (λ (x : PlainInst). x.opcode ≡ opcode.TYPE_STRUCT) e o,
+      subst (λ (x : PlainInst). x.operands ≡ Result t ∷ ms) e p,
+      inl (k, j, b, m, c),
+    )
 half_struct is n i at (IsHalfBuiltIn.within h t u ms there o p q b) =
-    let e = one_inst is n h i there at in
-    (t, ms, subst (λ (x : PlainInst). x.opcode ≡ opcode.TYPE_STRUCT) e o,
-    subst (λ (x : PlainInst). x.operands ≡ Result t ∷ ms) e p, inr (u, q, b))
+    let e = one_inst is n h i there at in (
+      t,
+      ms,
+      subst (λ (x : PlainInst). x.opcode ≡ opcode.TYPE_STRUCT) e o,
+      subst (λ (x : PlainInst). x.operands ≡ Result t ∷ ms) e p,
+      inr (u, q, b),
+    )
 
 pub no_struct : (is : List PlainInst) (n : ℕ) (i : PlainInst) → slice_get is n ≡ Some i
     → (i.opcode ≡ opcode.TYPE_STRUCT → ⊥) → IsHalfBuiltIn is n → ⊥
@@ -54,11 +62,11 @@ pub half_tells : (is : List PlainInst) (b : BuiltIns) (n : ℕ) (i : PlainInst) 
 half_tells is b n i t ms p q a at o r x y = (
   λ h. elim (either_true p q _ _ x.0 y.0 h) [
     | inl s ↦
-      let c = (a.structs t).0 s.0 in
-      IsHalfBuiltIn.in_part i t c.0 s.1.0 ms at o r c.1 s.1.1 (λ m. s.1.2 ((a.members t s.1.0).1 m))
+        let c = (a.structs t).0 s.0 in
+        IsHalfBuiltIn.in_part i t c.0 s.1.0 ms at o r c.1 s.1.1 (λ m. s.1.2 ((a.members t s.1.0).1 m))
     | inr s ↦
-      let u = any_id (IsIn b.structs) ms s in
-      IsHalfBuiltIn.within i t u.0 ms at o r u.1 ((a.structs u.0).0 u.2)
+        let u = any_id (IsIn b.structs) ms s in
+        IsHalfBuiltIn.within i t u.0 ms at o r u.1 ((a.structs u.0).0 u.2)
   ],
   λ h.
       let s = half_struct is n i at h in
@@ -67,9 +75,11 @@ half_tells is b n i t ms p q a at o r x y = (
       let mm : s.1 ≡ ms = cc in
       elim s.4 [
         | inl k ↦ true_left p q (x.1 (
-            (a.structs t).1 (subst (HasBuiltIn is) tt' (k.0, k.2)),
-            k.1, subst (λ (z : ℕ). IsMember is z k.1) tt' k.3,
-            λ m. k.4 (subst (λ (z : ℕ). IsBuiltIn is z k.1) (sym tt') ((a.members t k.1).0 m))))
+          (a.structs t).1 (subst (HasBuiltIn is) tt' (k.0, k.2)),
+          k.1,
+          subst (λ (z : ℕ). IsMember is z k.1) tt' k.3,
+          λ m. k.4 (subst (λ (z : ℕ). IsBuiltIn is z k.1) (sym tt') ((a.members t k.1).0 m)),
+        ))
         | inr u ↦ true_right p q (y.1 (id_any (IsIn b.structs) ms u.0
             (subst (λ (l : List Plain). HasId l u.0) mm u.1) ((a.structs u.0).1 u.2)))
       ],

@@ -27,13 +27,17 @@ least_here : (is : List PlainInst) (d n x : ℕ) (i : PlainInst) (old : BTreeSet
     → AreLeast is d n old → HasAt is (Gives d) x i → (IsIn old x) ⊎ (contains nat_cmp old x ≡ false)
     → (m : ℕ) × (m < n + 1) × IsLeastBy is x d m
 least_here is d n x i old at a h (inl t) = let l = a.least x t in (l.0, omega (arith, l.1), l.2)
-least_here is d n x i old at a h (inr f) = (n, omega arith, record {
-  has = at_has is (Gives d) x n i at h;
-  least = λ m b. elim (cases_lt m n) [
-    | inl l ↦ let no : false ≡ true = sym f ∙ a.has x m l b in absurd (cc)
-    | inr g ↦ g
-  ];
-})
+least_here is d n x i old at a h (inr f) = (
+  n,
+  omega arith,
+  record {
+    has = at_has is (Gives d) x n i at h;
+    least = λ m b. elim (cases_lt m n) [
+      | inl l ↦ let no : false ≡ true = sym f ∙ a.has x m l b in absurd (cc)
+      | inr g ↦ g
+    ];
+  },
+)
 
 pub least_more : (is : List PlainInst) (d n : ℕ) (i : PlainInst) (old new : BTreeSet ℕ) → slice_get is n ≡ Some i
     → Adds (λ x. HasAt is (Gives d) x i) old new → AreLeast is d n old → AreLeast is d (n + 1) new
@@ -41,8 +45,8 @@ least_more is d n i old new at add a = record {
   has = λ x m l h. (add x).1 (elim (cases_lt m n) [
     | inl k ↦ inl (a.has x m k h)
     | inr g ↦
-      let e : m ≡ n = omega (arith, l, g) in
-      inr (has_at is (Gives d) x n i at (subst (λ (k : ℕ). HasBy is x d k) e h))
+        let e : m ≡ n = omega (arith, l, g) in
+        inr (has_at is (Gives d) x n i at (subst (λ (k : ℕ). HasBy is x d k) e h))
   ]);
   least = λ x t. elim ((add x).0 t) [
     | inl o ↦ let l = a.least x o in (l.0, omega (arith, l.1), l.2)
@@ -72,8 +76,12 @@ second_here is n x r a s b old other apart new more p q =
       aliased = k.0;
       one = l.2;
       other = k.2;
-      greater = (let h = l.1 in omega (arith, h), let h = k.1 in omega (arith, h), one_here l.0 k.0 n l.1 k.1
-          (λ u v. apart x (old.has x l.0 u l.2.has) (other.has x k.0 v k.2.has)));
+      greater = (
+        let h = l.1 in omega (arith, h),
+        let h = k.1 in omega (arith, h),
+        one_here l.0 k.0 n l.1 k.1
+            (λ u v. apart x (old.has x l.0 u l.2.has) (other.has x k.0 v k.2.has)),
+      );
     }
 
 -- Where none has both, none breaks the rule.

@@ -68,8 +68,8 @@ told G is l imported n i h e at o s =
       outside = elim o.3 [
         | inl q ↦ inl q
         | inr t ↦
-          let m = (h o.0).0 t in
-          inr (m.0, subst (λ (k : Option ℕ). HasBy' is k o.0 m.0) e (at_has is (ImportsBy l) o.0 m.0 m.1 m.2 m.3))
+            let m = (h o.0).0 t in
+            inr (m.0, subst (λ (k : Option ℕ). HasBy' is k o.0 m.0) e (at_has is (ImportsBy l) o.0 m.0 m.1 m.2 m.3))
       ];
     }
 
@@ -79,15 +79,19 @@ there_again : (G : Table) (is : List PlainInst) (l : Option ℕ) (imported : BTr
 there_again G is l imported n i h e at r =
     let q = one_inst is n r.inst i r.there at in
     let v : nat_eq i.opcode opcode.VARIABLE ≡ true =
-        eq-eqb i.opcode opcode.VARIABLE (subst (λ (j : PlainInst). j.opcode ≡ opcode.VARIABLE) q r.opcode) in
+    eq-eqb i.opcode opcode.VARIABLE (subst (λ (j : PlainInst). j.opcode ≡ opcode.VARIABLE) q r.opcode) in
     let o : i.operands ≡ OfType r.type ∷ Result r.id ∷ Value r.kind r.class ∷ Id r.initializer ∷ r.rest =
-        subst (λ (j : PlainInst). j.operands ≡ OfType r.type ∷ Result r.id ∷ Value r.kind r.class ∷ Id r.initializer ∷ r.rest) q
-        r.operands in
-    (r.id, r.class, rw (v, o) refl, elim r.outside [
-      | inl c ↦ inl c
-      | inr m ↦ inr ((h r.id).1 (has_some is (ImportsBy l) r.id m.0
-          (subst (λ (k : Option ℕ). HasBy' is k r.id m.0) (sym e) m.1)))
-    ])
+    subst (λ (j : PlainInst). j.operands ≡ OfType r.type ∷ Result r.id ∷ Value r.kind r.class ∷ Id r.initializer ∷ r.rest) q
+    r.operands in (
+      r.id,
+      r.class,
+      rw (v, o) refl,
+      elim r.outside [
+        | inl c ↦ inl c
+        | inr m ↦ inr ((h r.id).1 (has_some is (ImportsBy l) r.id m.0
+            (subst (λ (k : Option ℕ). HasBy' is k r.id m.0) (sym e) m.1)))
+      ],
+    )
 
 pub initialized_tells : (G : Table) (is : List PlainInst) (l : Option ℕ) (imported : BTreeSet ℕ) (n : ℕ)
     (i : PlainInst) (b : Bool) → HasAll is (λ i x. HasAt is (ImportsBy l) x i) imported

@@ -103,7 +103,13 @@ fn imported(
 {
     let mut imported = BTreeSet::new(alloc);
     for number in 0..count {
-        add_imported(&mut imported, definitions, linkage, said, definitions.inst(number))?;
+        add_imported(
+            &mut imported,
+            definitions,
+            linkage,
+            said,
+            definitions.inst(number),
+        )?;
     }
     Ok(imported)
 }

@@ -50,7 +50,11 @@ fn add_entered(entered: &mut BTreeSet<u32>, inst: &Inst<'_>) -> Result<(), Alloc
 }
 
 /// The functions that OpEntryPoints name.
-fn entered(alloc: Global, definitions: &Definitions, count: u32) -> Result<BTreeSet<u32>, AllocError>
+fn entered(
+    alloc: Global,
+    definitions: &Definitions,
+    count: u32,
+) -> Result<BTreeSet<u32>, AllocError>
     requires count { count ≤ length definitions.now }
     requires early { AreEarly definitions.now count }
     ensures { IfOk result (HasAll definitions.now (λ i x. spec.entered_by i ≡ Some x)) }

@@ -46,7 +46,7 @@ fn first_decorated(
     ensures { (G : Table) → linkage ≡ number_named G (codes "LinkageType")
         → IsFirstAmong G definitions.now (rule.O5 ∷ rule.O3 ∷ []) before
         → IfOk result (IsFirstAmong G definitions.now
-            (rule.O11 ∷ rule.O10 ∷ rule.O9 ∷ rule.O8 ∷ rule.O7 ∷ rule.O6 ∷ rule.O5 ∷ rule.O3 ∷ [])) }
+        (rule.O11 ∷ rule.O10 ∷ rule.O9 ∷ rule.O8 ∷ rule.O7 ∷ rule.O6 ∷ rule.O5 ∷ rule.O3 ∷ [])) }
 {
     let said = Said::gather(alloc, definitions, linkage, count)?;
     let of_no_member = first_of_no_member(definitions, count);

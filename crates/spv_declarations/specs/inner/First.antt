@@ -31,4 +31,4 @@ abbrev pub IsFirstAmong : Table → List PlainInst → List Rule → Option Foun
 IsFirstAmong G is rs o = MatchOption o
     ((q : Rule) (n : ℕ) → IsOneOf rs q → ¬ (Broken G is q n))
     (λ f. IsOneOf rs f.rule × Broken G is f.rule f.inst × ((q : Rule) (m : ℕ) → IsOneOf rs q → Broken G is q m
-        → (f.inst < m) ⊎ ((f.inst ≡ m) × (rank_of f.rule ≤ rank_of q))))
+    → (f.inst < m) ⊎ ((f.inst ≡ m) × (rank_of f.rule ≤ rank_of q))))

@@ -6,5 +6,5 @@ use Rattle.spv_declarations.proofs.built_in.built_ins.Given as goal
 abbrev pub invariant-loop-number : goal.invariant-loop-number
 invariant-loop-number l = record {
   members : GathersBoth l.number l.definitions (BuildsIn l.definitions) l.found.members;
-  structs : AreTheirs l.found
+  structs : AreTheirs l.found;
 }

@@ -9,5 +9,5 @@ abbrev pub invariant-loop-number : goal.invariant-loop-number
 invariant-loop-number l = record {
   seen : (q : ℕ × Bor (List ℕ)) → IsTrue (contains named_cmp l.seen q)
       ↔ IsSaidBefore l.number l.definitions (λ i. named_by i ≡ Some (q.0, q.1.now));
-  before : (k : ℕ) → k < l.number → ¬ (IsRepeated l.definitions k)
+  before : (k : ℕ) → k < l.number → ¬ (IsRepeated l.definitions k);
 }

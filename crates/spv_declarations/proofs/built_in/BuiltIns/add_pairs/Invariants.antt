@@ -13,5 +13,5 @@ abbrev pub invariant-loop-left : goal.invariant-loop-left
 invariant-loop-left l = record {
   members : (t k : ℕ) → (HasBoth l.self.members t k ⊎ (IsMember l.definitions t k × HasPair (plain_operands l.left) t k))
       ↔ (HasBoth l.initial.self.members t k ⊎ (IsMember l.definitions t k × HasPair (plain_operands l.pairs) t k));
-  structs : AreTheirs l.initial.self → AreTheirs l.self
+  structs : AreTheirs l.initial.self → AreTheirs l.self;
 }
