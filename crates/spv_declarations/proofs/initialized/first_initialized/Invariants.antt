@@ -6,5 +6,5 @@ use Rattle.spv_declarations.specs.Decorated.{IsInitialized}
 use Rattle.spv_declarations.proofs.initialized.first_initialized.Given as goal
 
 abbrev pub invariant-loop-number : goal.invariant-loop-number
-invariant-loop-number l = (G : Table) → l.linkage ≡ number_named G (codes "LinkageType") → (k : ℕ) → k < l.number
+invariant-loop-number l = (G : Table) → l.fn.linkage ≡ number_named G (codes "LinkageType") → (k : ℕ) → k < l.number
     → ¬ (IsInitialized G l.definitions k)
