@@ -11,4 +11,5 @@ pub mod Misplacing
 pub mod Both
 pub mod Built
 pub mod Half
+pub mod Members
 pub mod Early

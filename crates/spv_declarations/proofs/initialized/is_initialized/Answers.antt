@@ -13,8 +13,10 @@ returns-then-is_outside c = λ i at.
     let is = c.args.definitions.now in
     let n = c.args.number in
     let s = c.place-section.result.section in (
-      λ y. (subst (IsOutside c.args.imported.now) (one_inst is n (plain_inst c.inst.result.now) i c.inst.ensures at)
-              (c.is_outside.ensures.0 c.if-is_outside.true),
-          subst (λ (k : ℕ). IsOfSection is n k) (eqb-true s 11 y) c.place-section.ensures.section),
+      λ y. (
+        subst (IsOutside c.args.imported.now) (one_inst is n (plain_inst c.inst.result.now) i c.inst.ensures at)
+            (c.is_outside.ensures.0 c.if-is_outside.true),
+        subst (λ (k : ℕ). IsOfSection is n k) (eqb-true s 11 y) c.place-section.ensures.section,
+      ),
       λ q. eq-eqb s 11 (section_same is n s 11 c.place-section.ensures.section q.1),
     )
