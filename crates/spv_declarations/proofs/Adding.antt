@@ -26,7 +26,7 @@ pair_same g d h e a =
     let p = tells_apart (exact_pairs nat_cmp nat_cmp exact_unsigned exact_unsigned) (g, d) (h, e) a in
     (sym (ap (λ (x : ℕ × ℕ). x.0) p), sym (ap (λ (x : ℕ × ℕ). x.1) p))
 
-by_test : (b : Bool) (old new : Bool) (P : Type 0) → new ≡ cond b true old → (b ≡ true → P) → (P → b ≡ true)
+pub by_test : (b : Bool) (old new : Bool) (P : Type 0) → new ≡ cond b true old → (b ≡ true → P) → (P → b ≡ true)
     → IsTrue new ↔ (IsTrue old ⊎ P)
 by_test true old new P e f g = (λ t. inr (f refl), λ o. e)
 by_test false old new P e f g =

@@ -16,6 +16,7 @@ use Rattle.spv_layout.specs.Expression.{Expression, never, nothing, one_of, ◌t
 use Rattle.spv_layout.specs.Layout.{IsLayout, classes, sections_1_to_8, sections_9_to_11, declaration, definition}
 use Rattle.spv_layout.specs.Place.{IsAt, IsLast, IsOfSection, section_of}
 use Rattle.spv_layout.specs.Plan.{IsPlan}
+use Rattle.spv_layout.specs.inner.Outcome.{ArePlacesOf}
 use Rattle.spv_layout.specs.Rows.{rows, class_of}
 use Rattle.spv_declarations.specs.Given.{is_decorate, is_of_member}
 use Rattle.spv_declarations.specs.inner.Early.{is_saying, is_early, AreEarly}
@@ -349,7 +350,7 @@ global_before : (is : List PlainInst) (n s : ℕ) → IsOfSection is n s → s �
 global_before is n _ (IsOfSection.early c s h k) e = let l = early_low c s k in absurd (omega (arith, e, l))
 global_before is n _ (IsOfSection.global c h k nowhere) e =
     let w = slice_get_within (classes is) n c h in
-    let m = length-map (λ (j : PlainInst). class_of j.opcode) is in
+    let m = length-map is (λ (j : PlainInst). class_of j.opcode) in
     (omega (arith, w, m), nowhere)
 global_before is n _ (IsOfSection.declaration c f h k l d) e = absurd (omega (arith, e))
 global_before is n _ (IsOfSection.definition c f h k l d) e = absurd (omega (arith, e))
@@ -361,7 +362,7 @@ are_early G is places count plan next = record {
     | inl l ↦ l
     | inr g ↦
         let w = slice_get_within is n i at in
-        absurd (nowhere_behind is count n i plan.layout (next (omega (arith, g, w))) g at e)
+        absurd (never_behind is count n i plan.layout (next (omega (arith, g, w))) g at e)
   ];
   globals = λ n s. elim (cases_lt n count) [
     | inl l ↦ l
@@ -371,3 +372,10 @@ are_early G is places count plan next = record {
         absurd (no_function is count n (next (omega (arith, g, w))) g w b.1)
   ];
 }
+
+-- by what a plan says of the instruction at that number
+pub early_of : (G : Table) (is : List PlainInst) (places : List Place) (count : ℕ) → IsPlan G is places
+    → ((is : List PlainInst) → ArePlacesOf is places → count < length places → IsAt is count (class.Function ∷ []))
+    → AreEarly is count
+early_of G is places count plan next = are_early G is places count plan
+    (λ l. next is plan.place (subst (λ (m : ℕ). count < m) (sym plan.count) l))

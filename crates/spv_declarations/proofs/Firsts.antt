@@ -218,3 +218,36 @@ pub of_o13 : (G : Table) (is : List PlainInst) (count : ℕ) (o : Option ℕ) �
     → IsFirstBelow count (IsIncapable G is) o → IsFirstOf (Broken G is rule.O13) o
 of_o13 G is count o l h =
     first_all count (IsIncapable G is) (Broken G is rule.O13) Broken.incapable (λ n b. tells G is rule.O13 n b) l o h
+
+-- The rules come in the order of their numbers.
+pub before_o3 : AreBefore [] rule.O3
+before_o3 = tt
+
+pub before_o5 : AreBefore (rule.O3 ∷ []) rule.O5
+before_o5 = (omega arith, tt)
+
+pub before_o6 : AreBefore (rule.O5 ∷ rule.O3 ∷ []) rule.O6
+before_o6 = (omega arith, omega arith, tt)
+
+pub before_o7 : AreBefore (rule.O6 ∷ rule.O5 ∷ rule.O3 ∷ []) rule.O7
+before_o7 = (omega arith, omega arith, omega arith, tt)
+
+pub before_o8 : AreBefore (rule.O7 ∷ rule.O6 ∷ rule.O5 ∷ rule.O3 ∷ []) rule.O8
+before_o8 = (omega arith, omega arith, omega arith, omega arith, tt)
+
+pub before_o9 : AreBefore (rule.O8 ∷ rule.O7 ∷ rule.O6 ∷ rule.O5 ∷ rule.O3 ∷ []) rule.O9
+before_o9 = (omega arith, omega arith, omega arith, omega arith, omega arith, tt)
+
+pub before_o10 : AreBefore (rule.O9 ∷ rule.O8 ∷ rule.O7 ∷ rule.O6 ∷ rule.O5 ∷ rule.O3 ∷ []) rule.O10
+before_o10 = (omega arith, omega arith, omega arith, omega arith, omega arith, omega arith, tt)
+
+pub before_o11 : AreBefore (rule.O10 ∷ rule.O9 ∷ rule.O8 ∷ rule.O7 ∷ rule.O6 ∷ rule.O5 ∷ rule.O3 ∷ []) rule.O11
+before_o11 = (omega arith, omega arith, omega arith, omega arith, omega arith, omega arith, omega arith, tt)
+
+pub before_o12 : AreBefore
+    (rule.O11 ∷ rule.O10 ∷ rule.O9 ∷ rule.O8 ∷ rule.O7 ∷ rule.O6 ∷ rule.O5 ∷ rule.O3 ∷ []) rule.O12
+before_o12 = (omega arith, omega arith, omega arith, omega arith, omega arith, omega arith, omega arith, omega arith, tt)
+
+pub before_o13 : AreBefore
+    (rule.O12 ∷ rule.O11 ∷ rule.O10 ∷ rule.O9 ∷ rule.O8 ∷ rule.O7 ∷ rule.O6 ∷ rule.O5 ∷ rule.O3 ∷ []) rule.O13
+before_o13 = (omega arith, omega arith, omega arith, omega arith, omega arith, omega arith, omega arith, omega arith, omega arith, tt)

@@ -1,5 +1,5 @@
 -- O11, at single instructions.
-use Rattle.std.proofs.Common.{◌≡◌, ◌∙◌, ◌⊎◌, ◌↔◌, ◌||◌, inl, inr, ℕ, Bool, true, false, refl, sym, ap, subst, List, [], ◌∷◌, Option, Some, None, IsTrue}
+use Rattle.std.proofs.Common.{◌≡◌, ◌∙◌, ◌⊎◌, ◌↔◌, ◌<◌, ◌||◌, inl, inr, ℕ, Bool, true, false, refl, sym, ap, subst, List, [], ◌∷◌, Option, Some, None, IsTrue}
 use Rattle.std.specs.Prelude.{slice_get}
 use Rattle.std.specs.BTreeSet.{BTreeSet}
 use Rattle.spv_module.specs.declared.opcode.TheConstants as opcode
@@ -36,11 +36,11 @@ half_struct is n i at (IsHalfBuiltIn.within h t u ms there o p q b) =
 
 pub no_struct : (is : List PlainInst) (n : ℕ) (i : PlainInst) → slice_get is n ≡ Some i
     → (i.opcode ≡ opcode.TYPE_STRUCT → ⊥) → IsHalfBuiltIn is n → ⊥
-no_struct is n i at no h = no (half_struct is n i at h).2
+no_struct is n i at never h = never (half_struct is n i at h).2
 
 pub no_result : (is : List PlainInst) (n : ℕ) (i : PlainInst) → slice_get is n ≡ Some i
     → ((t : ℕ) (ms : List Plain) → i.operands ≡ Result t ∷ ms → ⊥) → IsHalfBuiltIn is n → ⊥
-no_result is n i at no h = let s = half_struct is n i at h in no s.0 s.1 s.3
+no_result is n i at never h = let s = half_struct is n i at h in never s.0 s.1 s.3
 
 either_true : (p q : Bool) (A B : Type 0) → (IsTrue p → A) → (IsTrue q → B) → IsTrue (p || q) → A ⊎ B
 either_true true q A B f g h = inl (f refl)
@@ -76,11 +76,43 @@ half_tells is b n i t ms p q a at o r x y = (
       elim s.4 [
         | inl k ↦ true_left p q (x.1 (
           (a.structs t).1 (subst (HasBuiltIn is) tt' (k.0, k.2)),
-          k.1,
-          subst (λ (z : ℕ). IsMember is z k.1) tt' k.3,
-          λ m. k.4 (subst (λ (z : ℕ). IsBuiltIn is z k.1) (sym tt') ((a.members t k.1).0 m)),
+          (
+            k.1,
+            subst (λ (z : ℕ). IsMember is z k.1) tt' k.3,
+            λ m. k.4 (subst (λ (z : ℕ). IsBuiltIn is z k.1) (sym tt') ((a.members t k.1).0 m)),
+          ),
         ))
         | inr u ↦ true_right p q (y.1 (id_any (IsIn b.structs) ms u.0
             (subst (λ (l : List Plain). HasId l u.0) mm u.1) ((a.structs u.0).1 u.2)))
       ],
 )
+
+-- a struct with one member of which it is not so
+pub in_part_tells : (is : List PlainInst) (b : BuiltIns) (t count : ℕ) (p : Bool)
+    → ((k : ℕ) → (k < count) ↔ IsMember is t k)
+    → (IsTrue p ↔ ((k : ℕ) × (k < count) × (¬ (HasBoth b.members t k))))
+    → IsIn b.structs t → IsTrue p ↔ (IsIn b.structs t × ((k : ℕ) × IsMember is t k × (¬ (HasBoth b.members t k))))
+in_part_tells is b t count p m h i = (
+  λ y. let k = h.0 y in (i, (k.0, (m k.0).0 k.1, k.2)),
+  λ q. h.1 (q.1.0, (m q.1.0).1 q.1.1, q.1.2),
+)
+
+-- By the first of both; by the second, where it is not so by the first.
+pub half_in_part : (is : List PlainInst) (b : BuiltIns) (n : ℕ) (i : PlainInst) (t : ℕ) (ms : List Plain) (p : Bool)
+    → AreBuiltIn is b → slice_get is n ≡ Some i → i.opcode ≡ opcode.TYPE_STRUCT → i.operands ≡ Result t ∷ ms
+    → (IsTrue p ↔ (IsIn b.structs t × ((k : ℕ) × IsMember is t k × (¬ (HasBoth b.members t k))))) → p ≡ true
+    → IsTrue true ↔ IsHalfBuiltIn is n
+half_in_part is b n i t ms p a at o r x y = (
+  λ u.
+      let s = x.0 y in
+      let c = (a.structs t).0 s.0 in
+      IsHalfBuiltIn.in_part i t c.0 s.1.0 ms at o r c.1 s.1.1 (λ m. s.1.2 ((a.members t s.1.0).1 m)),
+  λ h. refl,
+)
+
+pub half_within : (is : List PlainInst) (b : BuiltIns) (n : ℕ) (i : PlainInst) (t : ℕ) (ms : List Plain) (p q : Bool)
+    → AreBuiltIn is b → slice_get is n ≡ Some i → i.opcode ≡ opcode.TYPE_STRUCT → i.operands ≡ Result t ∷ ms
+    → (IsTrue p ↔ (IsIn b.structs t × ((k : ℕ) × IsMember is t k × (¬ (HasBoth b.members t k)))))
+    → (IsTrue q ↔ AnyId (IsIn b.structs) ms) → p ≡ false → IsTrue q ↔ IsHalfBuiltIn is n
+half_within is b n i t ms p q a at o r x y f =
+    subst (λ (z : Bool). IsTrue (z || q) ↔ IsHalfBuiltIn is n) f (half_tells is b n i t ms p q a at o r x y)

@@ -13,3 +13,6 @@ pub mod Built
 pub mod Half
 pub mod Members
 pub mod Early
+pub mod Names
+pub mod Needing
+pub mod Lines

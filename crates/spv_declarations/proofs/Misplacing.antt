@@ -1,11 +1,11 @@
 -- O7, at single instructions.
-use Rattle.std.proofs.Common.{◌≡◌, ◌∙◌, ◌⊎◌, ◌↔◌, ◌<◌, ◌≤◌, ◌&&◌, ◌||◌, inl, inr, ℕ, zero, suc, length, slice_index_or, Bool, true, false, refl, sym, subst, arith, List, [], ◌∷◌, Option, Some, None, nat_eq, nat_le, IsTrue}
+use Rattle.std.proofs.Common.{◌≡◌, ◌∙◌, ◌⊎◌, ◌↔◌, ◌<◌, ◌≤◌, ◌&&◌, ◌||◌, inl, inr, ℕ, zero, suc, length, slice_index_or, Bool, true, false, refl, sym, subst, arith, List, [], ◌∷◌, Option, Some, None, Result, Ok, Err, IfOk, nat_eq, nat_le, IsTrue}
 use Rattle.std.specs.Prelude.{slice_get, Contains}
 use Rattle.std.proofs.lemmas.Bool.{leb-true}
 use Rattle.spv_module.specs.declared.opcode.TheConstants as opcode
 use Rattle.spv_module.specs.Operand.{Plain, Id, PlainInst}
 use Rattle.spv_conditions.specs.Further.{IsGroup}
-use Rattle.spv_declarations.specs.Given.{Gives, HasId, HasIdBehind, NamesTarget, NamesMember, member_given_by, given_by}
+use Rattle.spv_declarations.specs.Given.{Gives, HasId, HasIdBehind, HasPair, NamesTarget, NamesMember, member_given_by, given_by, group_by, behind_first}
 use Rattle.spv_declarations.specs.Decorated.{Has, HasBy, HasOnMember, IsMisplaced}
 use Rattle.spv_declarations.specs.Table.{Line, is_within, is_listed, is_among, lines, never_on_members, StandsOn, IsNeverOnMembers}
 use Rattle.spv_declarations.specs.declared.said.Said.{Said}
@@ -169,3 +169,88 @@ id_any P [] x h p = absurd h
 id_any P (Id y ∷ os) x (inl e) p = inl (subst P (sym e) p)
 id_any P (Id y ∷ os) x (inr h) p = inr (id_any P os x h p)
 id_any P (_ ∷ os) x h p = id_any P os x h p
+
+same_group : (i : PlainInst) (o g h : ℕ) → group_by o i ≡ Some g → group_by o i ≡ Some h → g ≡ h
+same_group i o g h e f = let p : Some g ≡ Some h = sym e ∙ f in cc
+
+-- What a group that an instruction names says of its targets, and of its pairs.
+pub target_misplaced : (is : List PlainInst) (s : Said) (i : PlainInst) (g : ℕ) (os : List Plain) (ds : List ℕ) (b : Bool)
+    → group_by opcode.GROUP_DECORATE i ≡ Some g → os ≡ behind_first i.operands
+    → ((d : ℕ) → d < 4294967295 → Contains ds d ↔ HasBoth s.pairs g d)
+    → (IsTrue b ↔ AnyId (IsAnyMisplaced is ds) os) → IsTrue b ↔ MisplacesTarget is s i
+target_misplaced is s i g os ds b e q k t = (
+  λ y.
+      let a = any_id (IsAnyMisplaced is ds) os (t.0 y) in
+      let m = misplaced_out is a.0 ds a.2 in
+      let l = known_small m.0 (known_misplaced is m.0 a.0 m.2) in
+      (g, a.0, m.0, (e, subst (λ (z : List Plain). HasId z a.0) q a.1), l, (k m.0 l).0 m.1, m.2),
+  λ h.
+      let v = same_group i opcode.GROUP_DECORATE g h.0 e h.3.0 in
+      let c = (k h.2 h.4).1 (subst (λ (z : ℕ). HasBoth s.pairs z h.2) (sym v) h.5) in
+      t.1 (id_any (IsAnyMisplaced is ds) os h.1 (subst (λ (z : List Plain). HasId z h.1) (sym q) h.3.1)
+      (misplaced_in is h.1 ds c.0 h.2 c.1 c.2 h.6)),
+)
+
+pub no_target : (is : List PlainInst) (s : Said) (i : PlainInst) → group_by opcode.GROUP_DECORATE i ≡ None
+    → IsTrue false ↔ MisplacesTarget is s i
+no_target is s i e = (
+  λ y. let no : false ≡ true = y in absurd (cc),
+  λ h. let no : None ≡ Some h.0 = sym e ∙ h.3.0 in absurd (cc),
+)
+
+pub pair_misplaced : (s : Said) (i : PlainInst) (g : ℕ) (os : List Plain) (ds : List ℕ) (b : Bool)
+    → group_by opcode.GROUP_MEMBER_DECORATE i ≡ Some g → os ≡ behind_first i.operands
+    → ((t k : ℕ) × HasPair os t k) → ((d : ℕ) → d < 4294967295 → Contains ds d ↔ HasBoth s.pairs g d)
+    → (IsTrue b ↔ IsAnyNever ds) → IsTrue b ↔ MisplacesPair s i
+pair_misplaced s i g os ds b e q p k t = (
+  λ y.
+      let m = never_out ds (t.0 y) in
+      let l = known_small m.0 (inr m.2) in
+      (g, p.0, p.1, m.0, (e, subst (λ (z : List Plain). HasPair z p.0 p.1) q p.2), l, (k m.0 l).0 m.1, m.2),
+  λ h.
+      let v = same_group i opcode.GROUP_MEMBER_DECORATE g h.0 e h.4.0 in
+      let c = (k h.3 h.5).1 (subst (λ (z : ℕ). HasBoth s.pairs z h.3) (sym v) h.6) in
+      t.1 (never_in ds c.0 h.3 c.1 c.2 h.7),
+)
+
+pub no_pair : (s : Said) (i : PlainInst) → group_by opcode.GROUP_MEMBER_DECORATE i ≡ None
+    → IsTrue false ↔ MisplacesPair s i
+no_pair s i e = (
+  λ y. let no : false ≡ true = y in absurd (cc),
+  λ h. let no : None ≡ Some h.0 = sym e ∙ h.4.0 in absurd (cc),
+)
+
+pub no_pairs : (s : Said) (i : PlainInst) (os : List Plain) (b : Bool) → os ≡ behind_first i.operands
+    → (IsTrue b ↔ ((t k : ℕ) × HasPair os t k)) → b ≡ false → IsTrue false ↔ MisplacesPair s i
+no_pairs s i os b q t f = (
+  λ y. let no : false ≡ true = y in absurd (cc),
+  λ h.
+      let no : false ≡ true = sym f ∙ t.1 (h.1, h.2, subst (λ (z : List Plain). HasPair z h.1 h.2) (sym q) h.4.1) in
+      absurd (cc),
+)
+
+-- A test that came out false; all of them.
+pub not_so : (P : Type 0) (b : Bool) → (IsTrue b ↔ P) → b ≡ false → ¬ P
+not_so P b t f p = let no : false ≡ true = sym f ∙ t.1 p in cc
+
+pub last_tells : (l : Option ℕ) (is : List PlainInst) (s : Said) (n : ℕ) (i : PlainInst) (b : Bool) → AreSaid l is s
+    → slice_get is n ≡ Some i → ¬ (HasAnId i) → ¬ (MisplacesOwn is i) → ¬ (MisplacesMember i)
+    → ¬ (MisplacesTarget is s i) → (IsTrue b ↔ MisplacesPair s i) → IsTrue b ↔ IsMisplaced is n
+last_tells l is s n i true a at p q r u t = (λ y. by_pair l is s n i a at (t.0 y), λ m. refl)
+last_tells l is s n i false a at p q r u t = (
+  λ y. let no : false ≡ true = y in absurd (cc),
+  λ m. absurd (by_none l is s n i a at p q r u (λ v. let no : false ≡ true = t.1 v in cc) m),
+)
+
+-- an id behind the first two operands
+pub behind_tells : (os ps : List Plain) (b : Bool) → ps ≡ os → (IsTrue b ↔ AnyId (λ x. Unit {0}) ps)
+    → IsTrue b ↔ ((x : ℕ) × HasId os x)
+behind_tells os ps b e t = (
+  λ y. let a = any_id (λ x. Unit {0}) ps (t.0 y) in (a.0, subst (λ (z : List Plain). HasId z a.0) e a.1),
+  λ h. t.1 (id_any (λ x. Unit {0}) ps h.0 (subst (λ (z : List Plain). HasId z h.0) (sym e) h.1) tt),
+)
+
+-- what a call answers, weakened
+pub if_ok : {A E : Type 0} (r : Result A E) (P Q : A → Type 0) → ((a : A) → P a → Q a) → IfOk r P → IfOk r Q
+if_ok (Ok a) P Q f h = f a h
+if_ok (Err e) P Q f h = h

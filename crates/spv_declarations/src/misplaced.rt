@@ -137,7 +137,13 @@ fn misplaces(
     ensures { IfOk result (λ yes. (n : ℕ) → slice_get definitions.now n ≡ Some (plain_inst inst.now)
         → IsTrue yes ↔ IsMisplaced definitions.now n) }
 {
-    if has_id(inst) || misplaces_own(definitions, inst) || misplaces_member(inst) {
+    if has_id(inst) {
+        return Ok(true);
+    }
+    if misplaces_own(definitions, inst) {
+        return Ok(true);
+    }
+    if misplaces_member(inst) {
         return Ok(true);
     }
     if misplaces_target(alloc, definitions, said, inst)? {

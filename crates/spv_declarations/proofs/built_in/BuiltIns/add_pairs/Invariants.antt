@@ -6,8 +6,8 @@ use Rattle.spv_declarations.specs.inner.BuiltIn.{AreTheirs}
 use Rattle.spv_declarations.specs.inner.Sets.{HasBoth}
 use Rattle.spv_declarations.proofs.built_in.BuiltIns.add_pairs.Given as goal
 
-abbrev pub measure-loop-left : goal.measure-loop-left
-measure-loop-left l = length l.left
+abbrev pub decreases-loop-left : goal.decreases-loop-left
+decreases-loop-left l = length l.left
 
 abbrev pub invariant-loop-left : goal.invariant-loop-left
 invariant-loop-left l = record {
