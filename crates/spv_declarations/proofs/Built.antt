@@ -1,9 +1,10 @@
 -- The members that are built in.
-use Rattle.std.proofs.Common.{◌≡◌, ◌∙◌, ◌⊎◌, ◌↔◌, ◌<◌, ◌≤◌, inl, inr, ℕ, Bool, true, false, refl, sym, subst, arith, List, [], ◌∷◌, Option, Some, None, Result, Ok, Err, OnOk, IsTrue}
+use Rattle.std.proofs.Common.{◌≡◌, ◌∙◌, ◌⊎◌, ◌↔◌, ◌<◌, ◌≤◌, inl, inr, ℕ, Bool, true, false, refl, sym, ap, subst, arith, length, drop, List, [], ◌∷◌, Option, Some, None, Result, Ok, Err, OnOk, IsTrue}
 use Rattle.std.specs.Prelude.{slice_get}
 use Rattle.std.specs.BTreeSet.{BTreeSet}
-use Rattle.spv_module.specs.Operand.{PlainInst}
+use Rattle.spv_module.specs.Operand.{Plain, Id, Word, PlainInst}
 use Rattle.spv_conditions.specs.Further.{IsMember}
+use Rattle.spv_declarations.specs.Given.{HasPair, member_in}
 use Rattle.spv_declarations.specs.Decorated.{HasOnMember, IsBuiltIn, HasBuiltIn}
 use Rattle.spv_declarations.specs.declared.built_in.BuiltIns.{BuiltIns}
 use Rattle.spv_declarations.specs.inner.BuiltIn.{AreBuiltIn, AreTheirs}
@@ -66,3 +67,62 @@ add_nothing is t k count s m l = both_none (λ u j. IsMember is u j × (u ≡ t)
 pub always : {A E : Type 0} (r : Result A E) (P : Type 0) → P → OnOk r P
 always (Ok a) P p = p
 always (Err e) P p = tt
+
+-- the first pair of some operands, and those behind it
+pair_first : (os : List Plain) (t m : ℕ) → member_in os ≡ Some (t, m) → HasPair os t m
+pair_first (Id u ∷ Word k ∷ os) t m e =
+    let r : (u, k) ≡ (t, m) = cc in inl (ap (λ (z : ℕ × ℕ). z.0) r, ap (λ (z : ℕ × ℕ). z.1) r)
+pair_first _ t m e = cc
+
+pair_later : (os : List Plain) (t m u k : ℕ) → member_in os ≡ Some (t, m) → HasPair (drop 2 os) u k → HasPair os u k
+pair_later (Id v ∷ Word j ∷ os) t m u k e h = inr h
+pair_later _ t m u k e h = absurd cc
+
+pair_cases : (os : List Plain) (t m u k : ℕ) → member_in os ≡ Some (t, m) → HasPair os u k
+    → ((u ≡ t) × (k ≡ m)) ⊎ HasPair (drop 2 os) u k
+pair_cases (Id v ∷ Word j ∷ os) t m u k e (inl h) =
+    let r : (v, j) ≡ (t, m) = cc in
+    inl (sym h.0 ∙ ap (λ (z : ℕ × ℕ). z.0) r, sym h.1 ∙ ap (λ (z : ℕ × ℕ). z.1) r)
+pair_cases (Id v ∷ Word j ∷ os) t m u k e (inr h) = inr h
+pair_cases _ t m u k e h = absurd cc
+
+pub no_pair_left : (os : List Plain) (u k : ℕ) → member_in os ≡ None → HasPair os u k → ⊥
+no_pair_left (Id v ∷ Word j ∷ os) u k e h = cc
+no_pair_left _ u k e h = absurd h
+
+pub pair_shorter : (os rest : List Plain) (t m : ℕ) → member_in os ≡ Some (t, m) → rest ≡ drop 2 os
+    → length rest < length os
+pair_shorter (Id v ∷ Word j ∷ os) rest t m e r =
+    let l : length rest ≡ length os = ap length r in omega (arith, l)
+pair_shorter _ rest t m e r = absurd cc
+
+-- what is in a set or among pairs, when the first pair is put in
+pub pairs_step : (is : List PlainInst) (os rest : List Plain) (old new : BTreeSet (ℕ × ℕ)) (t m : ℕ)
+    (P : ℕ → ℕ → Type 0) → member_in os ≡ Some (t, m) → rest ≡ drop 2 os
+    → AddsBoth (λ u k. IsMember is u k × (u ≡ t) × (k ≡ m)) old new
+    → ((u k : ℕ) → (HasBoth old u k ⊎ (IsMember is u k × HasPair os u k)) ↔ P u k) → (u k : ℕ)
+    → (HasBoth new u k ⊎ (IsMember is u k × HasPair rest u k)) ↔ P u k
+pairs_step is os rest old new t m P e r a v u k = (
+  λ h. elim h [
+    | inl n ↦ elim ((a u k).0 n) [
+      | inl o ↦ (v u k).0 (inl o)
+      | inr p ↦ (v u k).0 (inr (p.0, rw (p.1, p.2) (pair_first os t m e)))
+    ]
+    | inr q ↦ (v u k).0 (inr (q.0, pair_later os t m u k e (subst (λ (z : List Plain). HasPair z u k) r q.1)))
+  ],
+  λ p. elim ((v u k).1 p) [
+    | inl o ↦ inl ((a u k).1 (inl o))
+    | inr q ↦ elim (pair_cases os t m u k e q.1) [
+      | inl z ↦ inl ((a u k).1 (inr (q.0, z.0, z.1)))
+      | inr z ↦ inr (q.0, subst (λ (l : List Plain). HasPair l u k) (sym r) z)
+    ]
+  ],
+)
+
+pub pairs_done : (is : List PlainInst) (os : List Plain) (s : BTreeSet (ℕ × ℕ)) (P : ℕ → ℕ → Type 0)
+    → member_in os ≡ None → ((u k : ℕ) → (HasBoth s u k ⊎ (IsMember is u k × HasPair os u k)) ↔ P u k) → (u k : ℕ)
+    → HasBoth s u k ↔ P u k
+pairs_done is os s P e v u k = (
+  λ h. (v u k).0 (inl h),
+  λ p. elim ((v u k).1 p) [ inl h ↦ h | inr q ↦ absurd (no_pair_left os u k e q.1) ],
+)

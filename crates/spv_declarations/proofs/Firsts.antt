@@ -227,27 +227,27 @@ pub before_o5 : AreBefore (rule.O3 ∷ []) rule.O5
 before_o5 = (omega arith, tt)
 
 pub before_o6 : AreBefore (rule.O5 ∷ rule.O3 ∷ []) rule.O6
-before_o6 = (omega arith, omega arith, tt)
+before_o6 = (omega arith, (omega arith, tt))
 
 pub before_o7 : AreBefore (rule.O6 ∷ rule.O5 ∷ rule.O3 ∷ []) rule.O7
-before_o7 = (omega arith, omega arith, omega arith, tt)
+before_o7 = (omega arith, (omega arith, (omega arith, tt)))
 
 pub before_o8 : AreBefore (rule.O7 ∷ rule.O6 ∷ rule.O5 ∷ rule.O3 ∷ []) rule.O8
-before_o8 = (omega arith, omega arith, omega arith, omega arith, tt)
+before_o8 = (omega arith, (omega arith, (omega arith, (omega arith, tt))))
 
 pub before_o9 : AreBefore (rule.O8 ∷ rule.O7 ∷ rule.O6 ∷ rule.O5 ∷ rule.O3 ∷ []) rule.O9
-before_o9 = (omega arith, omega arith, omega arith, omega arith, omega arith, tt)
+before_o9 = (omega arith, (omega arith, (omega arith, (omega arith, (omega arith, tt)))))
 
 pub before_o10 : AreBefore (rule.O9 ∷ rule.O8 ∷ rule.O7 ∷ rule.O6 ∷ rule.O5 ∷ rule.O3 ∷ []) rule.O10
-before_o10 = (omega arith, omega arith, omega arith, omega arith, omega arith, omega arith, tt)
+before_o10 = (omega arith, (omega arith, (omega arith, (omega arith, (omega arith, (omega arith, tt))))))
 
 pub before_o11 : AreBefore (rule.O10 ∷ rule.O9 ∷ rule.O8 ∷ rule.O7 ∷ rule.O6 ∷ rule.O5 ∷ rule.O3 ∷ []) rule.O11
-before_o11 = (omega arith, omega arith, omega arith, omega arith, omega arith, omega arith, omega arith, tt)
+before_o11 = (omega arith, (omega arith, (omega arith, (omega arith, (omega arith, (omega arith, (omega arith, tt)))))))
 
 pub before_o12 : AreBefore
     (rule.O11 ∷ rule.O10 ∷ rule.O9 ∷ rule.O8 ∷ rule.O7 ∷ rule.O6 ∷ rule.O5 ∷ rule.O3 ∷ []) rule.O12
-before_o12 = (omega arith, omega arith, omega arith, omega arith, omega arith, omega arith, omega arith, omega arith, tt)
+before_o12 = (omega arith, (omega arith, (omega arith, (omega arith, (omega arith, (omega arith, (omega arith, (omega arith, tt))))))))
 
 pub before_o13 : AreBefore
     (rule.O12 ∷ rule.O11 ∷ rule.O10 ∷ rule.O9 ∷ rule.O8 ∷ rule.O7 ∷ rule.O6 ∷ rule.O5 ∷ rule.O3 ∷ []) rule.O13
-before_o13 = (omega arith, omega arith, omega arith, omega arith, omega arith, omega arith, omega arith, omega arith, omega arith, tt)
+before_o13 = (omega arith, (omega arith, (omega arith, (omega arith, (omega arith, (omega arith, (omega arith, (omega arith, (omega arith, tt)))))))))

@@ -1,16 +1,18 @@
 -- O11, at single instructions.
-use Rattle.std.proofs.Common.{◌≡◌, ◌∙◌, ◌⊎◌, ◌↔◌, ◌<◌, ◌||◌, inl, inr, ℕ, Bool, true, false, refl, sym, ap, subst, List, [], ◌∷◌, Option, Some, None, IsTrue}
+use Rattle.std.proofs.Common.{◌≡◌, ◌∙◌, ◌⊎◌, ◌↔◌, ◌<◌, ◌||◌, inl, inr, ℕ, Bool, true, false, refl, sym, ap, subst, List, [], ◌∷◌, Option, Some, None, IsTrue, nat_eq}
+use Rattle.std.proofs.lemmas.Bool.{eqb-true, eq-eqb}
 use Rattle.std.specs.Prelude.{slice_get}
 use Rattle.std.specs.BTreeSet.{BTreeSet}
 use Rattle.spv_module.specs.declared.opcode.TheConstants as opcode
 use Rattle.spv_module.specs.Operand.{Plain, Result, Id, PlainInst}
 use Rattle.spv_conditions.specs.Further.{IsMember}
-use Rattle.spv_declarations.specs.Given.{HasId}
+use Rattle.spv_declarations.specs.Given.{HasId, behind_first}
 use Rattle.spv_declarations.specs.Decorated.{IsBuiltIn, HasBuiltIn, IsHalfBuiltIn}
 use Rattle.spv_declarations.specs.declared.built_in.BuiltIns.{BuiltIns}
-use Rattle.spv_declarations.specs.inner.BuiltIn.{AreBuiltIn}
+use Rattle.spv_declarations.specs.inner.BuiltIn.{AreBuiltIn, struct_in, struct_by}
 use Rattle.spv_declarations.specs.inner.Sets.{AnyId, IsIn, HasBoth}
 use Rattle.spv_declarations.proofs.Gathered.{one_inst}
+use Rattle.spv_declarations.proofs.Saying.{gated, opened}
 use Rattle.spv_declarations.proofs.Misplacing.{any_id, id_any}
 
 -- what stands behind the result of a struct
@@ -34,13 +36,29 @@ half_struct is n i at (IsHalfBuiltIn.within h t u ms there o p q b) =
       inr (u, q, b),
     )
 
-pub no_struct : (is : List PlainInst) (n : ℕ) (i : PlainInst) → slice_get is n ≡ Some i
-    → (i.opcode ≡ opcode.TYPE_STRUCT → ⊥) → IsHalfBuiltIn is n → ⊥
-no_struct is n i at never h = never (half_struct is n i at h).2
+result_tells : (os : List Plain) (t : ℕ) → struct_in os ≡ Some t → os ≡ Result t ∷ behind_first os
+result_tells (Result u ∷ os) t e = let p : u ≡ t = cc in rw p refl
+result_tells _ t e = cc
 
-pub no_result : (is : List PlainInst) (n : ℕ) (i : PlainInst) → slice_get is n ≡ Some i
-    → ((t : ℕ) (ms : List Plain) → i.operands ≡ Result t ∷ ms → ⊥) → IsHalfBuiltIn is n → ⊥
-no_result is n i at never h = let s = half_struct is n i at h in never s.0 s.1 s.3
+pub struct_opcode : (i : PlainInst) (t : ℕ) → struct_by i ≡ Some t → i.opcode ≡ opcode.TYPE_STRUCT
+struct_opcode i t e = eqb-true i.opcode opcode.TYPE_STRUCT
+    (gated (nat_eq i.opcode opcode.TYPE_STRUCT) (struct_in i.operands) t e)
+
+pub struct_operands : (i : PlainInst) (t : ℕ) → struct_by i ≡ Some t → i.operands ≡ Result t ∷ behind_first i.operands
+struct_operands i t e = result_tells i.operands t
+    (opened (nat_eq i.opcode opcode.TYPE_STRUCT) (struct_in i.operands) t e)
+
+pub no_struct : (is : List PlainInst) (n : ℕ) (i : PlainInst) → slice_get is n ≡ Some i → struct_by i ≡ None
+    → IsTrue false ↔ IsHalfBuiltIn is n
+no_struct is n i at e = (
+  λ y. let no : false ≡ true = y in absurd (cc),
+  λ h.
+      let s = half_struct is n i at h in
+      let o : nat_eq i.opcode opcode.TYPE_STRUCT ≡ true = eq-eqb i.opcode opcode.TYPE_STRUCT s.2 in
+      let p : struct_by i ≡ Some s.0 = rw (o, s.3) refl in
+      let no : None ≡ Some s.0 = sym e ∙ p in
+      absurd (cc),
+)
 
 either_true : (p q : Bool) (A B : Type 0) → (IsTrue p → A) → (IsTrue q → B) → IsTrue (p || q) → A ⊎ B
 either_true true q A B f g h = inl (f refl)
@@ -101,13 +119,13 @@ in_part_tells is b t count p m h i = (
 pub half_in_part : (is : List PlainInst) (b : BuiltIns) (n : ℕ) (i : PlainInst) (t : ℕ) (ms : List Plain) (p : Bool)
     → AreBuiltIn is b → slice_get is n ≡ Some i → i.opcode ≡ opcode.TYPE_STRUCT → i.operands ≡ Result t ∷ ms
     → (IsTrue p ↔ (IsIn b.structs t × ((k : ℕ) × IsMember is t k × (¬ (HasBoth b.members t k))))) → p ≡ true
-    → IsTrue true ↔ IsHalfBuiltIn is n
+    → IsTrue p ↔ IsHalfBuiltIn is n
 half_in_part is b n i t ms p a at o r x y = (
   λ u.
       let s = x.0 y in
       let c = (a.structs t).0 s.0 in
       IsHalfBuiltIn.in_part i t c.0 s.1.0 ms at o r c.1 s.1.1 (λ m. s.1.2 ((a.members t s.1.0).1 m)),
-  λ h. refl,
+  λ h. y,
 )
 
 pub half_within : (is : List PlainInst) (b : BuiltIns) (n : ℕ) (i : PlainInst) (t : ℕ) (ms : List Plain) (p q : Bool)

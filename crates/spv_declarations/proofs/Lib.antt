@@ -15,4 +15,5 @@ pub mod Members
 pub mod Early
 pub mod Names
 pub mod Needing
+pub mod Worked
 pub mod Lines

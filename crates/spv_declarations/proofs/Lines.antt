@@ -1,19 +1,20 @@
 -- The table, by the opcode of an id's definition.
-use Rattle.std.proofs.Common.{◌≡◌, ◌∙◌, ◌⊎◌, ◌↔◌, inl, inr, ℕ, Bool, true, false, sym, subst, refl, List, [], ◌∷◌, Option, Some, None, IsTrue, map}
+use Rattle.std.proofs.Common.{◌≡◌, ◌∙◌, ◌⊎◌, ◌↔◌, inl, inr, ℕ, Bool, true, false, sym, subst, refl, List, [], ◌∷◌, Option, Some, None, IsTrue}
 use Rattle.std.specs.Prelude.{IsSomeAnd}
 use Rattle.spv_module.specs.Operand.{PlainInst}
 use Rattle.spv_module.specs.Width.{definition_of}
 use Rattle.spv_declarations.specs.Table.{Line, IsSuch, IsOnSome, StandsOn, is_among, is_listed, lines}
-use Rattle.spv_declarations.specs.declared.table.TheConstants.{TABLE}
-use Rattle.spv_declarations.specs.inner.Table.{IsOnLine, line}
+use Rattle.spv_declarations.specs.inner.Table.{IsOnLine}
 
 on_some : (is : List PlainInst) (ls : List Line) (d x : ℕ) (i : PlainInst) → definition_of is x ≡ Some i
     → IsOnLine is ls d i.opcode x → IsOnSome is ls d x
 on_some is [] d x i e h = h
 on_some is (l ∷ ls) d x i e (inl h) = inl (
   h.0,
-  subst (λ (o : Option PlainInst). IsSomeAnd o (λ (j : PlainInst). IsTrue (is_among l.1.now j.opcode))) (sym e) h.1.0,
-  h.1.1,
+  (
+    subst (λ (o : Option PlainInst). IsSomeAnd o (λ (j : PlainInst). IsTrue (is_among l.1.now j.opcode))) (sym e) h.1.0,
+    h.1.1,
+  ),
 )
 on_some is (l ∷ ls) d x i e (inr h) = inr (on_some is ls d x i e h)
 
@@ -22,8 +23,10 @@ on_line : (is : List PlainInst) (ls : List Line) (d x : ℕ) (i : PlainInst) →
 on_line is [] d x i e h = h
 on_line is (l ∷ ls) d x i e (inl h) = inl (
   h.0,
-  subst (λ (o : Option PlainInst). IsSomeAnd o (λ (j : PlainInst). IsTrue (is_among l.1.now j.opcode))) e h.1.0,
-  h.1.1,
+  (
+    subst (λ (o : Option PlainInst). IsSomeAnd o (λ (j : PlainInst). IsTrue (is_among l.1.now j.opcode))) e h.1.0,
+    h.1.1,
+  ),
 )
 on_line is (l ∷ ls) d x i e (inr h) = inr (on_line is ls d x i e h)
 
@@ -52,9 +55,3 @@ stands_nowhere is d x b e f at = (
   λ y. let no : false ≡ true = y in absurd (cc),
   λ h. absurd (on_none is lines d x at (h (sym e ∙ f))),
 )
-
--- as the code reads the table
-pub by_table : (is : List PlainInst) (d opcode x : ℕ) (c : Bool)
-    → (IsTrue c ↔ IsOnLine is (map line TABLE) d opcode x) → IsTrue c ↔ IsOnLine is lines d opcode x
-unfolding lines
-by_table is d opcode x c t = t

@@ -11,13 +11,10 @@ use Rattle.std.proofs.lemmas.Map.Lookups.{exact_pairs, exact_unsigned, exact_byt
 use Rattle.std.proofs.lemmas.Map.Views.{tells_apart}
 use Rattle.spv_module.specs.Operand.{PlainInst}
 use Rattle.spv_declarations.specs.Entry.{IsRepeated, named_by}
-use Rattle.spv_declarations.specs.inner.Named.{named_cmp}
+use Rattle.spv_declarations.specs.inner.Named.{named_cmp, Name, Names, AreSeen}
 use Rattle.spv_declarations.specs.inner.Sets.{IsSaidBefore}
 use Rattle.spv_declarations.proofs.Adding.{by_test}
 use Rattle.spv_declarations.proofs.Gathered.{one_inst, said_none, said_later, said_here, said_cases}
-
-abbrev pub Name : Type 0
-Name = ℕ × Bor (List ℕ)
 
 named_total : IsTotalOrder named_cmp
 named_total = then_total (on_total (λ (p : Name). p.0) nat_cmp_total) (on_total (λ (p : Name). p.1.now) nat_list_cmp_total)
@@ -30,19 +27,11 @@ named_same p q a =
     let e = tells_apart (exact_pairs nat_cmp (slice_cmp nat_cmp) exact_unsigned exact_bytes) (p.0, p.1.now) (q.0, q.1.now) a in
     (sym (ap (λ (x : ℕ × List ℕ). x.0) e), sym (ap (λ (x : ℕ × List ℕ). x.1) e))
 
--- an instruction has the name
-abbrev pub Names : Name → PlainInst → Type 0
-Names q i = named_by i ≡ Some (q.0, q.1.now)
-
 one_name : (p q : Name) (i : PlainInst) → Names p i → Names q i → (q.0 ≡ p.0) × (q.1.now ≡ p.1.now)
 one_name p q i a b =
     let e : Some (p.0, p.1.now) ≡ Some (q.0, q.1.now) = sym a ∙ b in
     let r : (p.0, p.1.now) ≡ (q.0, q.1.now) = cc in
     (sym (ap (λ (x : ℕ × List ℕ). x.0) r), sym (ap (λ (x : ℕ × List ℕ). x.1) r))
-
--- The set has the names of the instructions before n.
-abbrev pub AreSeen : ℕ → List PlainInst → BTreeSet Name → Type 0
-AreSeen n is s = (q : Name) → IsTrue (contains named_cmp s q) ↔ IsSaidBefore n is (Names q)
 
 pub seen_none : (is : List PlainInst) (s : BTreeSet Name) → ((q : Name) → contains named_cmp s q ≡ false) → AreSeen 0 is s
 seen_none is s e q = (
@@ -113,3 +102,25 @@ not_named is n i at e r =
 pub none_more : (is : List PlainInst) (n : ℕ) → ((k : ℕ) → k < n → ¬ (IsRepeated is k)) → ¬ (IsRepeated is n) → (k : ℕ)
     → k < n + 1 → ¬ (IsRepeated is k)
 none_more is n h r = below_more _ _ h r
+
+-- what putting the name of an instruction in tells
+abbrev pub Tells : ℕ → List PlainInst → BTreeSet Name → Bool → Type 0
+Tells n is new yes = (IsTrue yes ↔ IsRepeated is n) × (yes ≡ false → AreSeen (n + 1) is new)
+
+pub tells_named : (is : List PlainInst) (n : ℕ) (i : PlainInst) (old new : BTreeSet Name) (p : Name) (yes : Bool)
+    → slice_get is n ≡ Some i → Names p i
+    → ((q : Name) → contains named_cmp new q ≡ cond (is_at (named_cmp p) q) true (contains named_cmp old q))
+    → yes ≡ contains named_cmp old p → AreSeen n is old → Tells n is new yes
+tells_named is n i old new p true at e u y s =
+    ((λ t. repeated_here is n i old p at e s (sym y), λ r. refl), λ f. seen_more is n i old new p at e u s)
+tells_named is n i old new p false at e u y s = (
+  (λ t. let no : false ≡ true = t in absurd (cc), λ r. absurd (not_repeated is n i old p at e s (sym y) r)),
+  λ f. seen_more is n i old new p at e u s,
+)
+
+pub tells_unnamed : (is : List PlainInst) (n : ℕ) (i : PlainInst) (s : BTreeSet Name) → slice_get is n ≡ Some i
+    → named_by i ≡ None → AreSeen n is s → Tells n is s false
+tells_unnamed is n i s at e h = (
+  (λ t. let no : false ≡ true = t in absurd (cc), λ r. absurd (not_named is n i at e r)),
+  λ f. seen_same is n i s at e h,
+)

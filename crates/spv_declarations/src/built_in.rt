@@ -5,13 +5,14 @@ ghost use Rattle.spv_module.specs.Module.{plain_inst, plain_operands};
 ghost use Rattle.spv_conditions.specs.Further.{IsMember};
 ghost use Rattle.spv_declarations.specs.Decorated.{IsHalfBuiltIn};
 ghost use Rattle.spv_declarations.specs.Given.{HasPair, NamesMember};
+ghost use Rattle.spv_declarations.specs.inner.BuiltIn as inner;
 ghost use Rattle.spv_declarations.specs.inner.BuiltIn.{AreBuiltIn, AreTheirs};
 ghost use Rattle.spv_declarations.specs.inner.Early.{AreEarly};
 ghost use Rattle.spv_declarations.specs.inner.First.{IsFirstBelow};
 ghost use Rattle.spv_declarations.specs.inner.Said.{AreSaid, BuildsIn};
 ghost use Rattle.spv_declarations.specs.inner.Sets.{AddsBoth, AnyId, HasBoth, IsIn, IsOf};
 
-use crate::decorated::{behind_first, group_of, member_given};
+use crate::decorated::{behind_first, behind_two, group_of, member_given, member_in};
 use crate::said::Said;
 use crate::sets::{put, put_member};
 use spv_module::{Inst, Operand, opcode};
@@ -45,6 +46,27 @@ pub fn member_count(definitions: &Definitions, t: u32) -> usize
     }
 }
 
+/// The first operand, if it is a result.
+fn struct_in(operands: &[Operand<'_>]) -> Option<u32>
+    ensures { result ≡ inner.struct_in (plain_operands operands.now) }
+{
+    match operands {
+        [Operand::Result(t), ..] => Some(*t),
+        _ => None,
+    }
+}
+
+/// The struct that an instruction declares.
+fn struct_of(inst: &Inst<'_>) -> Option<u32>
+    ensures { result ≡ inner.struct_by (plain_inst inst.now) }
+{
+    if inst.opcode == opcode::TYPE_STRUCT {
+        struct_in(inst.operands.as_slice())
+    } else {
+        None
+    }
+}
+
 impl BuiltIns {
     /// Takes note that a member has BuiltIn, if there is such a member.
     fn add(&mut self, definitions: &Definitions, t: u32, member: u32) -> Result<(), AllocError>
@@ -71,9 +93,9 @@ impl BuiltIns {
         ensures structs { OnOk result (AreTheirs self.old → AreTheirs self.new) }
     {
         let mut left = pairs;
-        while let [Operand::Id(t), Operand::Word(member), rest @ ..] = left {
-            self.add(definitions, *t, *member)?;
-            left = rest;
+        while let Some((t, member)) = member_in(left) {
+            self.add(definitions, t, member)?;
+            left = behind_two(left);
         }
         Ok(())
     }
@@ -161,15 +183,10 @@ impl BuiltIns {
         ensures { (n : ℕ) → slice_get definitions.now n ≡ Some (plain_inst inst.now)
             → IsTrue result ↔ IsHalfBuiltIn definitions.now n }
     {
-        if inst.opcode != opcode::TYPE_STRUCT {
+        let Some(t) = struct_of(inst) else {
             return false;
-        }
-        match inst.operands.as_slice() {
-            [Operand::Result(t), members @ ..] => {
-                self.is_in_part(definitions, *t) || self.has_within(members)
-            }
-            _ => false,
-        }
+        };
+        self.is_in_part(definitions, t) || self.has_within(behind_first(inst))
     }
 }
 

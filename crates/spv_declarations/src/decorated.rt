@@ -80,7 +80,7 @@ pub fn member_given(inst: &Inst<'_>) -> Option<(u32, u32, u32)>
 }
 
 /// The struct and the member that operands name.
-fn member_in(operands: &[Operand<'_>]) -> Option<(u32, u32)>
+pub fn member_in(operands: &[Operand<'_>]) -> Option<(u32, u32)>
     ensures { result ≡ spec.member_in (plain_operands operands.now) }
 {
     match operands {
@@ -154,7 +154,7 @@ fn has_id(operands: &[Operand<'_>]) -> bool
 }
 
 /// What follows the first two operands.
-fn behind_two<'i, 'a>(operands: &'i [Operand<'a>]) -> &'i [Operand<'a>]
+pub fn behind_two<'i, 'a>(operands: &'i [Operand<'a>]) -> &'i [Operand<'a>]
     ensures { plain_operands result.now ≡ drop 2 (plain_operands operands.now) }
 {
     match operands {

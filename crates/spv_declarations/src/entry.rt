@@ -1,10 +1,12 @@
 //! O3 and O5: entry points of one name, and execution modes.
 
-ghost use Rattle.std.specs.Prelude.{◌↔◌, ◌≡◌, ◌≤◌, IfOk, IsTrue, length, option_map};
+ghost use Rattle.std.specs.Prelude.{◌↔◌, ◌≡◌, ◌≤◌, ◌+◌, ℕ, List, IfOk, IsTrue, Some, false, length, option_map, slice_get};
+ghost use Rattle.spv_module.specs.Operand.{PlainInst};
 ghost use Rattle.spv_module.specs.Module.{plain_inst, plain_operands};
 ghost use Rattle.spv_declarations.specs.Entry as spec;
 ghost use Rattle.spv_declarations.specs.Entry.{IsRepeated, SetsById, TakesId};
 ghost use Rattle.spv_declarations.specs.inner.First.{IsFirstBelow};
+ghost use Rattle.spv_declarations.specs.inner.Named.{AreSeen};
 
 use crate::decorated::has_id_behind;
 use spv_module::{Inst, Operand, opcode};
@@ -38,6 +40,17 @@ fn named<'a>(inst: &Inst<'a>) -> Option<(u32, &'a str)>
     }
 }
 
+/// Puts the model and the name of an instruction in, if it is an OpEntryPoint; whether they were there.
+fn repeats<'a>(seen: &mut BTreeSet<(u32, &'a str)>, inst: &Inst<'a>) -> Result<bool, AllocError>
+    ensures { IfOk result (λ yes. (is : List PlainInst) (n : ℕ) → slice_get is n ≡ Some (plain_inst inst.now)
+        → AreSeen n is seen.old → (IsTrue yes ↔ IsRepeated is n) × (yes ≡ false → AreSeen (n + 1) is seen.new)) }
+{
+    match named(inst) {
+        Some(entry) => Ok(!seen.insert(entry)?),
+        None => Ok(false),
+    }
+}
+
 /// The first of the first `count` instructions that breaks O3 (SPIR-V Specification 1.6, OpEntryPoint).
 ///
 /// Time is near-linear in the words of these instructions.
@@ -51,10 +64,8 @@ pub fn first_repeated(
 {
     let mut seen = BTreeSet::new(alloc);
     for number in 0..count {
-        if let Some(entry) = named(definitions.inst(number)) {
-            if !seen.insert(entry)? {
-                return Ok(Some(number));
-            }
+        if repeats(&mut seen, definitions.inst(number))? {
+            return Ok(Some(number));
         }
     }
     Ok(None)

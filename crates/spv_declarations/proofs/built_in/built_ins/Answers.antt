@@ -6,9 +6,9 @@ use Rattle.spv_declarations.proofs.built_in.built_ins.Goals as goal
 
 pub loop-number-init : goal.loop-number-init
 loop-number-init c = record {
-  members = both_gather_none c.args.definitions.now (BuildsIn c.args.definitions.now) c.new-members.result
-      c.new-members.ensures.empty;
-  structs = theirs_none (record { members = c.new-members.result; structs = c.new-structs.result }) c.new-structs.ensures.empty c.new-members.ensures.empty;
+  members = both_gather_none c.args.definitions.now (BuildsIn c.args.definitions.now) c.new.result
+      c.new.ensures.empty;
+  structs = theirs_none (record { members = c.new.result; structs = c.new-2.result }) c.new-2.ensures.empty c.new.ensures.empty;
 }
 
 pub note-requires-clause-inst : goal.note-requires-clause-inst

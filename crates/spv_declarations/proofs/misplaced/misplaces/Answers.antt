@@ -25,7 +25,7 @@ returns-then-misplaces_member c = λ n at. (
 
 pub returns-then-branch : goal.returns-then-branch
 returns-then-branch c = λ n at. (
-  λ y. by_target c.requires.0 c.args.definitions.now c.args.said.now n (plain_inst c.args.inst.now) c.requires.1 at
+  λ y. by_target c.requires.said.0 c.args.definitions.now c.args.said.now n (plain_inst c.args.inst.now) c.requires.said.1 at
       (c.in_ok-misplaces_target.ensures.0 c.if-branch.true),
   λ m. refl,
 )
@@ -35,7 +35,7 @@ returns c =
     let is = c.args.definitions.now in
     let s = c.args.said.now in
     let i = plain_inst c.args.inst.now in
-    if_ok c.misplaces_pair.result _ _ (λ b t n at. last_tells c.requires.0 is s n i b c.requires.1 at
+    if_ok c.misplaces_pair.result _ _ (λ b t n at. last_tells c.requires.said.0 is s n i b c.requires.said.1 at
     (not_so (HasAnId i) c.has_id.result c.has_id.ensures c.if-has_id.false)
     (not_so (MisplacesOwn is i) c.misplaces_own.result c.misplaces_own.ensures c.if-misplaces_own.false)
     (not_so (MisplacesMember i) c.misplaces_member.result c.misplaces_member.ensures c.if-misplaces_member.false)

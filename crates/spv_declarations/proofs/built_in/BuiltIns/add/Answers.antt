@@ -13,4 +13,5 @@ returns-clause-members c = always c.put.result _ (add_there c.args.definitions.n
 
 pub returns-clause-structs : goal.returns-clause-structs
 returns-clause-structs c = on_ok c.put.result _ _
-    (λ a. theirs_more ? ? c.args.t c.args.member c.in_ok-put_member.ensures a) c.put.ensures
+    (λ a. theirs_more c.args.self.now
+    (record { members = c.put_member.new.set; structs = c.put.new.set }) c.args.t c.args.member c.in_ok-put_member.ensures a) c.put.ensures

@@ -7,7 +7,7 @@ use Rattle.spv_declarations.specs.inner.Sets.{HasBoth}
 use Rattle.spv_declarations.proofs.built_in.BuiltIns.add_pairs.Given as goal
 
 abbrev pub decreases-loop-left : goal.decreases-loop-left
-decreases-loop-left l = length l.left
+decreases-loop-left l = length (plain_operands l.left)
 
 abbrev pub invariant-loop-left : goal.invariant-loop-left
 invariant-loop-left l = record {
