@@ -1,5 +1,5 @@
 -- O11, at single instructions.
-use Rattle.std.proofs.Common.{◌≡◌, ◌∙◌, ◌⊎◌, ◌↔◌, ◌<◌, ◌||◌, inl, inr, ℕ, Bool, true, false, refl, sym, ap, subst, List, [], ◌∷◌, Option, Some, None, IsTrue, nat_eq}
+use Rattle.std.proofs.Common.{◌≡◌, ◌∙◌, ◌⊎◌, ◌↔◌, ◌<◌, ◌||◌, inl, inr, ℕ, Bool, true, false, refl, sym, ap, subst, List, [], ◌∷◌, Option, Some, None, IsTrue, nat_eq, if◌then◌else◌}
 use Rattle.std.proofs.lemmas.Bool.{eqb-true, eq-eqb}
 use Rattle.std.specs.Prelude.{slice_get}
 use Rattle.std.specs.BTreeSet.{BTreeSet}
@@ -48,6 +48,11 @@ pub struct_operands : (i : PlainInst) (t : ℕ) → struct_by i ≡ Some t → i
 struct_operands i t e = result_tells i.operands t
     (opened (nat_eq i.opcode opcode.TYPE_STRUCT) (struct_in i.operands) t e)
 
+struct_is : (os ms : List Plain) (t : ℕ) (b : Bool) → b ≡ true → os ≡ Result t ∷ ms
+    → (if b then struct_in os else None) ≡ Some t
+struct_is os ms t true b e = rw e refl
+struct_is os ms t false b e = cc
+
 pub no_struct : (is : List PlainInst) (n : ℕ) (i : PlainInst) → slice_get is n ≡ Some i → struct_by i ≡ None
     → IsTrue false ↔ IsHalfBuiltIn is n
 no_struct is n i at e = (
@@ -55,7 +60,8 @@ no_struct is n i at e = (
   λ h.
       let s = half_struct is n i at h in
       let o : nat_eq i.opcode opcode.TYPE_STRUCT ≡ true = eq-eqb i.opcode opcode.TYPE_STRUCT s.2 in
-      let p : struct_by i ≡ Some s.0 = rw (o, s.3) refl in
+      let p : struct_by i ≡ Some s.0 =
+      struct_is i.operands s.1 s.0 (nat_eq i.opcode opcode.TYPE_STRUCT) o s.3 in
       let no : None ≡ Some s.0 = sym e ∙ p in
       absurd (cc),
 )

@@ -105,12 +105,12 @@ none_more is n h r = below_more _ _ h r
 
 -- what putting the name of an instruction in tells
 abbrev pub Tells : ℕ → List PlainInst → BTreeSet Name → Bool → Type 0
-Tells n is new yes = (IsTrue yes ↔ IsRepeated is n) × (yes ≡ false → AreSeen (n + 1) is new)
+Tells n is new b = (IsTrue b ↔ IsRepeated is n) × (b ≡ false → AreSeen (n + 1) is new)
 
-pub tells_named : (is : List PlainInst) (n : ℕ) (i : PlainInst) (old new : BTreeSet Name) (p : Name) (yes : Bool)
+pub tells_named : (is : List PlainInst) (n : ℕ) (i : PlainInst) (old new : BTreeSet Name) (p : Name) (b : Bool)
     → slice_get is n ≡ Some i → Names p i
     → ((q : Name) → contains named_cmp new q ≡ cond (is_at (named_cmp p) q) true (contains named_cmp old q))
-    → yes ≡ contains named_cmp old p → AreSeen n is old → Tells n is new yes
+    → b ≡ contains named_cmp old p → AreSeen n is old → Tells n is new b
 tells_named is n i old new p true at e u y s =
     ((λ t. repeated_here is n i old p at e s (sym y), λ r. refl), λ f. seen_more is n i old new p at e u s)
 tells_named is n i old new p false at e u y s = (

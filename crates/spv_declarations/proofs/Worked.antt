@@ -33,6 +33,9 @@ own_restrict = Has.own _ refl refl (λ g. absurd (omega (arith, g)))
 pub group_aliased : HasBy decorated 3 20 3
 group_aliased = Has.by_group _ _ 2 1 refl (refl, inl refl) refl refl
 
+pub member_built_in : HasOnMember decorated 4 1 11 4
+member_built_in = HasOnMember.own _ refl refl
+
 -- an instruction that neither decorates the id so nor names a group
 not_by : (x d n : ℕ) (i : PlainInst) → slice_get decorated n ≡ Some i → (given_by i ≡ Some (x, d) → ⊥)
     → ((g : ℕ) → group_by opcode.GROUP_DECORATE i ≡ Some g → ⊥) → HasBy decorated x d n → ⊥
@@ -98,7 +101,7 @@ pub void_not : (d : ℕ) → is_listed lines d ≡ true → is_opcode_on lines d
 void_not d l f s =
     let no : false ≡ true = sym f ∙ on_opcode decorated lines d 1 _ refl (s l) in cc
 
-restrict_stands : StandsOn decorated 19 3
+pub restrict_stands : StandsOn decorated 19 3
 unfolding lines
 restrict_stands = λ t. inr (inr (inr (inl (refl, (refl, tt)))))
 

@@ -87,9 +87,13 @@ pub fn first_misdeclared(
     let definitions = Definitions::new(insts, plan, ids);
     let count = plan.before_functions();
     let linkage = survey.table().kind_named("LinkageType");
-    let found = earlier(None, Rule::O3, first_repeated(alloc, &definitions, count)?);
-    let found = earlier(found, Rule::O5, first_with_id(&definitions, count));
-    let found = first_decorated(alloc, &definitions, linkage, count, found)?;
-    let found = earlier(found, Rule::O12, first_elsewhere(&definitions, count));
-    Ok(earlier(found, Rule::O13, first_incapable(survey, count)))
+    let repeated = first_repeated(alloc, &definitions, count)?;
+    let with_id = first_with_id(&definitions, count);
+    let found = earlier(None, Rule::O3, repeated);
+    let found = earlier(found, Rule::O5, with_id);
+    let decorated = first_decorated(alloc, &definitions, linkage, count, found)?;
+    let elsewhere = first_elsewhere(&definitions, count);
+    let incapable = first_incapable(survey, count);
+    let found = earlier(decorated, Rule::O12, elsewhere);
+    Ok(earlier(found, Rule::O13, incapable))
 }

@@ -14,7 +14,6 @@ returns-in_default c = λ G is rs h b f. among_none G is rs c.args.rule c.args.b
 
 pub returns-then-found-inst : goal.returns-then-found-inst
 returns-then-found-inst c = λ G is rs h b f.
-    subst (λ (o : Option Found). IsFirstAmong G is (c.args.rule ∷ rs) o) (sym c.in-Some-before.is)
-    (among_kept G is rs c.args.rule c.in-Some-before.found c.in-Some.inst b (omega arith)
+    among_kept G is rs c.args.rule c.in-Some-before.found c.in-Some.inst b (omega arith)
     (subst (λ (o : Option ℕ). IsFirstOf (Broken G is c.args.rule) o) c.in-Some.is f)
-    (subst (λ (o : Option Found). IsFirstAmong G is rs o) c.in-Some-before.is h))
+    (subst (λ (o : Option Found). IsFirstAmong G is rs o) c.in-Some-before.is h)

@@ -10,16 +10,16 @@ pub returns-in_default : goal.returns-in_default
 returns-in_default c = λ n at. no_struct c.args.definitions.now n (plain_inst c.args.inst.now) at
     (sym c.struct_of.ensures ∙ c.in_default.is)
 
-pub returns-in-Some-then-is_in_part : goal.returns-in-Some-then-is_in_part
-returns-in-Some-then-is_in_part c = λ n at.
+pub returns-then-is_in_part : goal.returns-then-is_in_part
+returns-then-is_in_part c = λ n at.
     let i = plain_inst c.args.inst.now in
     let e = sym c.struct_of.ensures ∙ c.in-Some.is in
     half_in_part c.args.definitions.now c.args.self.now n i c.in-Some.t (behind_first i.operands) c.is_in_part.result
     c.requires at (struct_opcode i c.in-Some.t e) (struct_operands i c.in-Some.t e) c.is_in_part.ensures
     c.if-is_in_part.true
 
-pub returns-in-Some-else-is_in_part : goal.returns-in-Some-else-is_in_part
-returns-in-Some-else-is_in_part c = λ n at.
+pub returns-else-is_in_part : goal.returns-else-is_in_part
+returns-else-is_in_part c = λ n at.
     let i = plain_inst c.args.inst.now in
     let e = sym c.struct_of.ensures ∙ c.in-Some.is in
     half_within c.args.definitions.now c.args.self.now n i c.in-Some.t (behind_first i.operands) c.is_in_part.result
