@@ -251,3 +251,14 @@ before_o12 = (omega arith, (omega arith, (omega arith, (omega arith, (omega arit
 pub before_o13 : AreBefore
     (rule.O12 ∷ rule.O11 ∷ rule.O10 ∷ rule.O9 ∷ rule.O8 ∷ rule.O7 ∷ rule.O6 ∷ rule.O5 ∷ rule.O3 ∷ []) rule.O13
 before_o13 = (omega arith, (omega arith, (omega arith, (omega arith, (omega arith, (omega arith, (omega arith, (omega arith, (omega arith, tt)))))))))
+
+-- of the same instructions
+pub told_of : (G : Table) (is js : List PlainInst) (o : Option Found) → is ≡ js → IsFirstAmong G is all_rules o
+    → MatchOption o (IsUnbroken (Broken G js) of_standard) (λ f. IsFirst (Broken G js) of_standard f.rule f.inst)
+told_of G is js o e h = subst
+    (λ (k : List PlainInst). MatchOption o (IsUnbroken (Broken G k) of_standard)
+    (λ f. IsFirst (Broken G k) of_standard f.rule f.inst)) e (first_told G is o h)
+
+pub incapable_in : (G : Table) (is js : List PlainInst) (count : ℕ) (o : Option ℕ) → is ≡ js
+    → IsFirstBelow count (IsIncapable G is) o → IsFirstBelow count (IsIncapable G js) o
+incapable_in G is js count o e h = subst (λ (k : List PlainInst). IsFirstBelow count (IsIncapable G k) o) e h
