@@ -1,5 +1,5 @@
 -- O3: the names of entry points.
-use Rattle.std.proofs.Common.{◌≡◌, ◌∙◌, ◌⊎◌, ◌↔◌, ◌+◌, ◌<◌, inl, inr, ℕ, Bool, true, false, cond, refl, sym, ap, subst, arith, List, Option, Some, None, IsTrue, Bor, below_more}
+use Rattle.std.proofs.Common.{◌≡◌, ◌∙◌, ◌⊎◌, ◌↔◌, ◌+◌, ◌<◌, inl, inr, ℕ, Bool, true, false, not, cond, refl, sym, ap, subst, arith, List, Option, Some, None, IsTrue, Bor, below_more}
 use Rattle.std.specs.Prelude.{slice_get}
 use Rattle.std.specs.BTreeSet.{BTreeSet, contains}
 use Rattle.std.specs.BTreeMap.{is_at}
@@ -107,16 +107,27 @@ none_more is n h r = below_more _ _ h r
 abbrev pub Tells : ℕ → List PlainInst → BTreeSet Name → Bool → Type 0
 Tells n is new b = (IsTrue b ↔ IsRepeated is n) × (b ≡ false → AreSeen (n + 1) is new)
 
-pub tells_named : (is : List PlainInst) (n : ℕ) (i : PlainInst) (old new : BTreeSet Name) (p : Name) (b : Bool)
+of_not : (a b : Bool) → a ≡ not b → b ≡ not a
+of_not a true e = sym (ap not e)
+of_not a false e = sym (ap not e)
+
+tells_by : (is : List PlainInst) (n : ℕ) (i : PlainInst) (old new : BTreeSet Name) (p : Name) (b : Bool)
     → slice_get is n ≡ Some i → Names p i
     → ((q : Name) → contains named_cmp new q ≡ cond (is_at (named_cmp p) q) true (contains named_cmp old q))
-    → b ≡ contains named_cmp old p → AreSeen n is old → Tells n is new b
-tells_named is n i old new p true at e u y s =
-    ((λ t. repeated_here is n i old p at e s (sym y), λ r. refl), λ f. seen_more is n i old new p at e u s)
-tells_named is n i old new p false at e u y s = (
-  (λ t. let no : false ≡ true = t in absurd (cc), λ r. absurd (not_repeated is n i old p at e s (sym y) r)),
+    → contains named_cmp old p ≡ b → AreSeen n is old → Tells n is new b
+tells_by is n i old new p true at e u y s =
+    ((λ t. repeated_here is n i old p at e s y, λ r. refl), λ f. seen_more is n i old new p at e u s)
+tells_by is n i old new p false at e u y s = (
+  (λ t. let no : false ≡ true = t in absurd (cc), λ r. absurd (not_repeated is n i old p at e s y r)),
   λ f. seen_more is n i old new p at e u s,
 )
+
+pub tells_named : (is : List PlainInst) (n : ℕ) (i : PlainInst) (old new : BTreeSet Name) (p : Name) (added : Bool)
+    → slice_get is n ≡ Some i → Names p i
+    → ((q : Name) → contains named_cmp new q ≡ cond (is_at (named_cmp p) q) true (contains named_cmp old q))
+    → added ≡ not (contains named_cmp old p) → AreSeen n is old → Tells n is new (not added)
+tells_named is n i old new p added at e u y s =
+    tells_by is n i old new p (not added) at e u (of_not added (contains named_cmp old p) y) s
 
 pub tells_unnamed : (is : List PlainInst) (n : ℕ) (i : PlainInst) (s : BTreeSet Name) → slice_get is n ≡ Some i
     → named_by i ≡ None → AreSeen n is s → Tells n is s false

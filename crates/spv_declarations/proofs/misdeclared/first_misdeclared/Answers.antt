@@ -1,4 +1,7 @@
-use Rattle.std.proofs.Common.{◌≡◌, ◌∙◌, sym, subst, [], ◌∷◌, List}
+use Rattle.std.proofs.Common.{◌≡◌, ◌∙◌, ap, sym, subst, [], ◌∷◌, List}
+use Rattle.std.specs.Prelude.{codes}
+use Rattle.spv_table.specs.Table.{Table}
+use Rattle.spv_table.specs.Lookups.{number_named}
 use Rattle.spv_module.specs.Operand.{PlainInst}
 use Rattle.spv_module.specs.declared.fault.Rule.TheVariants as rule
 use Rattle.spv_declarations.specs.inner.Early.{AreEarly}
@@ -25,7 +28,8 @@ returns c =
     (of_o3 G is count c.in_ok-repeated.repeated (o3_early is count early) c.in_ok-repeated.ensures) in
     let o5 = c.earlier-found-2.ensures G is (rule.O3 ∷ []) o3 before_o5
     (of_o5 G is count c.first_with_id-with_id.result (o5_early is count early) c.first_with_id-with_id.ensures) in
-    let o11 = c.in_ok-decorated.ensures G ? o5 in
+    let o11 = c.in_ok-decorated.ensures G (c.kind_named-linkage.ensures
+    ∙ ap (λ (T : Table). number_named T (codes "LinkageType")) c.table.ensures) o5 in
     let o12 = c.earlier-found-3.ensures G is
     (rule.O11 ∷ rule.O10 ∷ rule.O9 ∷ rule.O8 ∷ rule.O7 ∷ rule.O6 ∷ rule.O5 ∷ rule.O3 ∷ []) o11 before_o12
     (of_o12 G is count c.first_elsewhere-elsewhere.result (o12_early is count early) c.first_elsewhere-elsewhere.ensures) in
