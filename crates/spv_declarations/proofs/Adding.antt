@@ -1,19 +1,18 @@
 -- Sets of ids and of pairs.
-use Rattle.std.proofs.Common.{◌≡◌, ◌↔◌, ◌∙◌, ◌⊎◌, ◌≤◌, ◌<◌, ◌||◌, inl, inr, ℕ, Bool, true, false, cond, refl, sym, ap, IsTrue, arith, List, [], ◌∷◌, map, nat_eq, Contains}
+use Rattle.std.proofs.Common.{◌≡◌, ◌↔◌, ◌∙◌, ◌⊎◌, ◌<◌, ◌||◌, inl, inr, ℕ, Bool, true, false, cond, refl, sym, ap, IsTrue, arith, List, [], ◌∷◌, map, nat_eq, Contains}
 use Rattle.std.specs.Prelude.{filter}
 use Rattle.std.specs.List.{list_any}
 use Rattle.std.specs.BTreeSet.{contains, BTreeSet, Updates, keys_between}
 use Rattle.std.specs.BTreeMap.{is_at}
-use Rattle.std.specs.BTreeMap.Range.{range_contains, IsInRange}
+use Rattle.std.specs.BTreeMap.Range.{range_contains}
 use Rattle.std.specs.declared.ops.Bound.TheVariants.{Included, Excluded}
 use Rattle.std.specs.Ordering.{nat_cmp}
 use Rattle.std.specs.Cmp.{nat_cmp_total, nat_eq_equiv, IsTotalOrder, tied_itself, then_total, on_total}
 use Rattle.std.proofs.lemmas.Bool.{eqb-true, eq-eqb}
 use Rattle.std.proofs.lemmas.Bool.Decides.{nat_tests}
-use Rattle.std.proofs.lemmas.Grind.{common_steps}
 use Rattle.std.proofs.lemmas.Map.Lookups.{exact_pairs, exact_unsigned}
 use Rattle.std.proofs.lemmas.Map.Views.{tells_apart, IsInRange-from_range_contains, range_contains-from_IsInRange, Contains-from_any, list_any-from_Contains, exact_unsigned_eq}
-use Rattle.spv_declarations.specs.inner.Sets.{pair_cmp, IsIn, HasBoth, Adds, AddsBoth}
+use Rattle.spv_declarations.specs.inner.Sets.{pair_cmp, HasBoth, Adds, AddsBoth}
 
 pair_total : IsTotalOrder pair_cmp
 pair_total = then_total (on_total (λ (p : ℕ × ℕ). p.0) nat_cmp_total) (on_total (λ (p : ℕ × ℕ). p.1) nat_cmp_total)

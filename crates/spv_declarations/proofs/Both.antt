@@ -1,5 +1,5 @@
 -- Ids that are in both of two sets.
-use Rattle.std.proofs.Common.{◌≡◌, ◌∙◌, ◌⊎◌, ◌↔◌, inl, inr, ℕ, Bool, true, false, refl, sym, subst, List, [], ◌∷◌, Option, Some, None, IsTrue}
+use Rattle.std.proofs.Common.{◌≡◌, ◌∙◌, ◌↔◌, inl, inr, ℕ, Bool, true, false, sym, subst, List, [], ◌∷◌, Some, None, IsTrue}
 use Rattle.std.specs.BTreeSet.{BTreeSet}
 use Rattle.spv_module.specs.declared.opcode.TheConstants as opcode
 use Rattle.spv_module.specs.Operand.{Plain, Id, PlainInst}

@@ -1,16 +1,15 @@
 -- The members that are built in.
-use Rattle.std.proofs.Common.{◌≡◌, ◌∙◌, ◌⊎◌, ◌↔◌, ◌<◌, ◌≤◌, inl, inr, ℕ, Bool, true, false, refl, sym, ap, subst, arith, length, drop, List, [], ◌∷◌, Option, Some, None, Result, Ok, Err, OnOk, IsTrue}
-use Rattle.std.specs.Prelude.{slice_get}
+use Rattle.std.proofs.Common.{◌≡◌, ◌∙◌, ◌⊎◌, ◌↔◌, ◌<◌, ◌≤◌, inl, inr, ℕ, refl, sym, ap, subst, arith, length, drop, List, [], ◌∷◌, Some, None, Result, Ok, Err, OnOk}
 use Rattle.std.specs.BTreeSet.{BTreeSet}
 use Rattle.spv_module.specs.Operand.{Plain, Id, Word, PlainInst}
 use Rattle.spv_conditions.specs.Further.{IsMember}
 use Rattle.spv_declarations.specs.Given.{HasPair, member_in}
-use Rattle.spv_declarations.specs.Decorated.{HasOnMember, IsBuiltIn, HasBuiltIn}
+use Rattle.spv_declarations.specs.Decorated.{IsBuiltIn}
 use Rattle.spv_declarations.specs.declared.built_in.BuiltIns.{BuiltIns}
 use Rattle.spv_declarations.specs.inner.BuiltIn.{AreBuiltIn, AreTheirs}
 use Rattle.spv_declarations.specs.inner.Early.{AreEarly}
-use Rattle.spv_declarations.specs.inner.Said.{BuildsIn, HasMemberAt}
-use Rattle.spv_declarations.specs.inner.Sets.{IsIn, HasBoth, Adds, AddsBoth, GathersBoth}
+use Rattle.spv_declarations.specs.inner.Said.{BuildsIn}
+use Rattle.spv_declarations.specs.inner.Sets.{HasBoth, Adds, AddsBoth, GathersBoth}
 use Rattle.spv_declarations.proofs.Adding.{both_same, both_none}
 use Rattle.spv_declarations.proofs.Gathered.{none_in, none_both, both_gather_all}
 use Rattle.spv_declarations.proofs.Stated.{member_at_has, member_has_some, has_member_early}

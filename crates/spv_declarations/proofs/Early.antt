@@ -1,6 +1,6 @@
 -- What stands before the functions of a module that is laid out.
 use Rattle.std.proofs.Common.{◌≡◌, ◌∙◌, ◌⊎◌, ◌+◌, ◌-◌, ◌++◌, ◌<◌, ◌≤◌, ◌&&◌, ◌||◌, inl, inr, ℕ, zero, suc, Bool, true, false, not, refl, sym, ap, subst, arith, List, [], ◌∷◌, Option, Some, None, nat_eq, nat_lt, if◌then◌else◌, length, IsTrue}
-use Rattle.std.specs.Prelude.{slice_get, filter, option_map, map, IsSomeAnd}
+use Rattle.std.specs.Prelude.{slice_get, filter, option_map, IsSomeAnd}
 use Rattle.std.specs.List.{list_any}
 use Rattle.std.proofs.lemmas.Bool.{eqb-true, cases_lt, ltb-true}
 use Rattle.std.proofs.lemmas.Option.{slice_get-map, slice_get_within}

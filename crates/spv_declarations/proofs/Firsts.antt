@@ -1,9 +1,8 @@
 -- The first broken rule, by the first instruction that breaks each.
-use Rattle.std.proofs.Common.{◌≡◌, ◌∙◌, ◌⊎◌, ◌<◌, ◌≤◌, inl, inr, ℕ, refl, sym, ap, subst, arith, List, [], ◌∷◌, Option, Some, None}
-use Rattle.std.specs.Prelude.{slice_get, MatchOption}
-use Rattle.std.proofs.lemmas.Bool.{cases_lt, cases_order}
+use Rattle.std.proofs.Common.{◌≡◌, ◌⊎◌, ◌<◌, ◌≤◌, inl, inr, ℕ, refl, sym, subst, arith, List, [], ◌∷◌, Option, Some, None}
+use Rattle.std.specs.Prelude.{MatchOption}
+use Rattle.std.proofs.lemmas.Bool.{cases_lt}
 use Rattle.spv_table.specs.Table.{Table}
-use Rattle.spv_module.specs.declared.opcode.TheConstants as opcode
 use Rattle.spv_module.specs.Operand.{PlainInst}
 use Rattle.spv_module.specs.declared.fault.Rule.{Rule}
 use Rattle.spv_module.specs.declared.fault.Rule.TheVariants as rule

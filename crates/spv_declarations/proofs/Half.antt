@@ -1,10 +1,9 @@
 -- O11, at single instructions.
-use Rattle.std.proofs.Common.{◌≡◌, ◌∙◌, ◌⊎◌, ◌↔◌, ◌<◌, ◌||◌, inl, inr, ℕ, Bool, true, false, refl, sym, ap, subst, List, [], ◌∷◌, Option, Some, None, IsTrue, nat_eq, if◌then◌else◌}
+use Rattle.std.proofs.Common.{◌≡◌, ◌∙◌, ◌⊎◌, ◌↔◌, ◌<◌, ◌||◌, inl, inr, ℕ, Bool, true, false, refl, sym, subst, List, ◌∷◌, Some, None, IsTrue, nat_eq, if◌then◌else◌}
 use Rattle.std.proofs.lemmas.Bool.{eqb-true, eq-eqb}
 use Rattle.std.specs.Prelude.{slice_get}
-use Rattle.std.specs.BTreeSet.{BTreeSet}
 use Rattle.spv_module.specs.declared.opcode.TheConstants as opcode
-use Rattle.spv_module.specs.Operand.{Plain, Result, Id, PlainInst}
+use Rattle.spv_module.specs.Operand.{Plain, Result, PlainInst}
 use Rattle.spv_conditions.specs.Further.{IsMember}
 use Rattle.spv_declarations.specs.Given.{HasId, behind_first}
 use Rattle.spv_declarations.specs.Decorated.{IsBuiltIn, HasBuiltIn, IsHalfBuiltIn}

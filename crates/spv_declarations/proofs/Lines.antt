@@ -1,9 +1,9 @@
 -- The table, by the opcode of an id's definition.
-use Rattle.std.proofs.Common.{◌≡◌, ◌∙◌, ◌⊎◌, ◌↔◌, inl, inr, ℕ, Bool, true, false, sym, subst, refl, List, [], ◌∷◌, Option, Some, None, IsTrue}
+use Rattle.std.proofs.Common.{◌≡◌, ◌∙◌, ◌↔◌, inl, inr, ℕ, Bool, true, false, sym, subst, refl, List, [], ◌∷◌, Option, Some, None, IsTrue}
 use Rattle.std.specs.Prelude.{IsSomeAnd}
 use Rattle.spv_module.specs.Operand.{PlainInst}
 use Rattle.spv_module.specs.Width.{definition_of}
-use Rattle.spv_declarations.specs.Table.{Line, IsSuch, IsOnSome, StandsOn, is_among, is_listed, lines}
+use Rattle.spv_declarations.specs.Table.{Line, IsOnSome, StandsOn, is_among, is_listed, lines}
 use Rattle.spv_declarations.specs.inner.Table.{IsOnLine}
 
 on_some : (is : List PlainInst) (ls : List Line) (d x : ℕ) (i : PlainInst) → definition_of is x ≡ Some i

@@ -1,5 +1,5 @@
 -- O6, at single instructions.
-use Rattle.std.proofs.Common.{◌≡◌, ◌∙◌, ◌⊎◌, ◌↔◌, ◌<◌, ◌≤◌, inl, inr, ℕ, true, sym, ap, subst, arith, List, Some, IsTrue, nat_le}
+use Rattle.std.proofs.Common.{◌≡◌, ◌∙◌, ◌↔◌, ◌<◌, inl, inr, ℕ, sym, subst, arith, List, Some, IsTrue, nat_le}
 use Rattle.std.proofs.lemmas.Bool.{leb-true, le-leb, cases_lt}
 use Rattle.spv_module.specs.Operand.{PlainInst}
 use Rattle.spv_conditions.specs.Further.{IsMember}

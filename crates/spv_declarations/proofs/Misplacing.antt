@@ -1,17 +1,17 @@
 -- O7, at single instructions.
-use Rattle.std.proofs.Common.{◌≡◌, ◌∙◌, ◌⊎◌, ◌↔◌, ◌<◌, ◌≤◌, ◌&&◌, ◌||◌, inl, inr, ℕ, zero, suc, length, slice_index_or, Bool, true, false, refl, sym, subst, arith, List, [], ◌∷◌, Option, Some, None, Result, Ok, Err, IfOk, nat_eq, nat_le, IsTrue}
+use Rattle.std.proofs.Common.{◌≡◌, ◌∙◌, ◌⊎◌, ◌↔◌, ◌<◌, ◌≤◌, ◌&&◌, ◌||◌, inl, inr, ℕ, zero, suc, length, slice_index_or, Bool, true, false, refl, sym, subst, arith, List, [], ◌∷◌, Option, Some, Result, Ok, Err, IfOk, nat_le, IsTrue}
 use Rattle.std.specs.Prelude.{slice_get, Contains}
 use Rattle.std.proofs.lemmas.Bool.{leb-true}
 use Rattle.spv_module.specs.declared.opcode.TheConstants as opcode
 use Rattle.spv_module.specs.Operand.{Plain, Id, PlainInst}
 use Rattle.spv_conditions.specs.Further.{IsGroup}
-use Rattle.spv_declarations.specs.Given.{Gives, HasId, HasIdBehind, HasPair, NamesTarget, NamesMember, member_given_by, given_by, group_by, behind_first}
-use Rattle.spv_declarations.specs.Decorated.{Has, HasBy, HasOnMember, IsMisplaced}
+use Rattle.spv_declarations.specs.Given.{Gives, HasId, HasIdBehind, HasPair, NamesTarget, NamesMember, member_given_by, group_by, behind_first}
+use Rattle.spv_declarations.specs.Decorated.{Has, HasOnMember, IsMisplaced}
 use Rattle.spv_declarations.specs.Table.{Line, is_within, is_listed, is_among, lines, never_on_members, StandsOn, IsNeverOnMembers}
 use Rattle.spv_declarations.specs.declared.said.Said.{Said}
 use Rattle.spv_declarations.specs.inner.Said.{IsKnown, AreSaid, HasAt, HasMemberAt}
 use Rattle.spv_declarations.specs.inner.Misplaced.{IsAnyMisplaced, IsAnyNever}
-use Rattle.spv_declarations.specs.inner.Sets.{AnyId, HasBoth, IsSaid, IsOf}
+use Rattle.spv_declarations.specs.inner.Sets.{AnyId, HasBoth}
 use Rattle.spv_declarations.proofs.Gathered.{one_inst}
 use Rattle.spv_declarations.proofs.Stated.{at_has, has_at, member_at_has, member_has_at, known_misplaced, kept_said, target_kept, pair_kept}
 
@@ -191,13 +191,6 @@ target_misplaced is s i g os ds b e q k t = (
       (misplaced_in is h.1 ds c.0 h.2 c.1 c.2 h.6)),
 )
 
-pub no_target : (is : List PlainInst) (s : Said) (i : PlainInst) → group_by opcode.GROUP_DECORATE i ≡ None
-    → IsTrue false ↔ MisplacesTarget is s i
-no_target is s i e = (
-  λ y. let no : false ≡ true = y in absurd (cc),
-  λ h. let no : None ≡ Some h.0 = sym e ∙ h.3.0 in absurd (cc),
-)
-
 pub pair_misplaced : (s : Said) (i : PlainInst) (g : ℕ) (os : List Plain) (ds : List ℕ) (b : Bool)
     → group_by opcode.GROUP_MEMBER_DECORATE i ≡ Some g → os ≡ behind_first i.operands
     → ((t k : ℕ) × HasPair os t k) → ((d : ℕ) → d < 4294967295 → Contains ds d ↔ HasBoth s.pairs g d)
@@ -211,22 +204,6 @@ pair_misplaced s i g os ds b e q p k t = (
       let v = same_group i opcode.GROUP_MEMBER_DECORATE g h.0 e h.4.0 in
       let c = (k h.3 h.5).1 (subst (λ (z : ℕ). HasBoth s.pairs z h.3) (sym v) h.6) in
       t.1 (never_in ds c.0 h.3 c.1 c.2 h.7),
-)
-
-pub no_pair : (s : Said) (i : PlainInst) → group_by opcode.GROUP_MEMBER_DECORATE i ≡ None
-    → IsTrue false ↔ MisplacesPair s i
-no_pair s i e = (
-  λ y. let no : false ≡ true = y in absurd (cc),
-  λ h. let no : None ≡ Some h.0 = sym e ∙ h.4.0 in absurd (cc),
-)
-
-pub no_pairs : (s : Said) (i : PlainInst) (os : List Plain) (b : Bool) → os ≡ behind_first i.operands
-    → (IsTrue b ↔ ((t k : ℕ) × HasPair os t k)) → b ≡ false → IsTrue false ↔ MisplacesPair s i
-no_pairs s i os b q t f = (
-  λ y. let no : false ≡ true = y in absurd (cc),
-  λ h.
-      let no : false ≡ true = sym f ∙ t.1 (h.1, h.2, subst (λ (z : List Plain). HasPair z h.1 h.2) (sym q) h.4.1) in
-      absurd (cc),
 )
 
 -- A test that came out false; all of them.

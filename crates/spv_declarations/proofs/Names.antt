@@ -1,5 +1,5 @@
 -- O3: the names of entry points.
-use Rattle.std.proofs.Common.{◌≡◌, ◌∙◌, ◌⊎◌, ◌↔◌, ◌+◌, ◌<◌, inl, inr, ℕ, Bool, true, false, not, cond, refl, sym, ap, subst, arith, List, Option, Some, None, IsTrue, Bor, below_more}
+use Rattle.std.proofs.Common.{◌≡◌, ◌∙◌, ◌↔◌, ◌+◌, inl, inr, ℕ, Bool, true, false, not, cond, refl, sym, ap, arith, List, Some, None, IsTrue}
 use Rattle.std.specs.Prelude.{slice_get}
 use Rattle.std.specs.BTreeSet.{BTreeSet, contains}
 use Rattle.std.specs.BTreeMap.{is_at}
@@ -12,9 +12,8 @@ use Rattle.std.proofs.lemmas.Map.Views.{tells_apart}
 use Rattle.spv_module.specs.Operand.{PlainInst}
 use Rattle.spv_declarations.specs.Entry.{IsRepeated, named_by}
 use Rattle.spv_declarations.specs.inner.Named.{named_cmp, Name, Names, AreSeen}
-use Rattle.spv_declarations.specs.inner.Sets.{IsSaidBefore}
 use Rattle.spv_declarations.proofs.Adding.{by_test}
-use Rattle.spv_declarations.proofs.Gathered.{one_inst, said_none, said_later, said_here, said_cases}
+use Rattle.spv_declarations.proofs.Gathered.{one_inst, said_later, said_here, said_cases}
 
 named_total : IsTotalOrder named_cmp
 named_total = then_total (on_total (λ (p : Name). p.0) nat_cmp_total) (on_total (λ (p : Name). p.1.now) nat_list_cmp_total)
@@ -32,12 +31,6 @@ one_name p q i a b =
     let e : Some (p.0, p.1.now) ≡ Some (q.0, q.1.now) = sym a ∙ b in
     let r : (p.0, p.1.now) ≡ (q.0, q.1.now) = cc in
     (sym (ap (λ (x : ℕ × List ℕ). x.0) r), sym (ap (λ (x : ℕ × List ℕ). x.1) r))
-
-pub seen_none : (is : List PlainInst) (s : BTreeSet Name) → ((q : Name) → contains named_cmp s q ≡ false) → AreSeen 0 is s
-seen_none is s e q = (
-  λ t. let no : false ≡ true = sym (e q) ∙ t in absurd (cc),
-  λ h. absurd (said_none is (Names q) h),
-)
 
 pub seen_more : (is : List PlainInst) (n : ℕ) (i : PlainInst) (old new : BTreeSet Name) (p : Name)
     → slice_get is n ≡ Some i → Names p i
@@ -98,10 +91,6 @@ not_named is n i at e r =
     let a = one_inst is n r.inst i r.there at in
     let no : None ≡ Some (r.model, r.name) = sym e ∙ (sym (ap named_by a) ∙ r.named) in
     cc
-
-pub none_more : (is : List PlainInst) (n : ℕ) → ((k : ℕ) → k < n → ¬ (IsRepeated is k)) → ¬ (IsRepeated is n) → (k : ℕ)
-    → k < n + 1 → ¬ (IsRepeated is k)
-none_more is n h r = below_more _ _ h r
 
 -- what putting the name of an instruction in tells
 abbrev pub Tells : ℕ → List PlainInst → BTreeSet Name → Bool → Type 0

@@ -1,12 +1,12 @@
 -- What single instructions say, and by which opcodes.
-use Rattle.std.proofs.Common.{◌≡◌, ◌∙◌, ◌⊎◌, ◌||◌, ◌&&◌, inl, inr, ℕ, Bool, true, false, refl, sym, ap, subst, arith, List, [], ◌∷◌, Option, Some, None, nat_eq, if◌then◌else◌}
-use Rattle.std.proofs.lemmas.Bool.{eqb-true, eq-eqb}
+use Rattle.std.proofs.Common.{◌≡◌, ◌||◌, ◌&&◌, inl, inr, ℕ, Bool, true, false, refl, sym, subst, List, ◌∷◌, Option, Some, None, nat_eq, if◌then◌else◌}
+use Rattle.std.proofs.lemmas.Bool.{eqb-true}
 use Rattle.spv_module.specs.declared.opcode.TheConstants as opcode
-use Rattle.spv_module.specs.Operand.{Plain, Id, Word, Value, Text, PlainInst}
+use Rattle.spv_module.specs.Operand.{Plain, Id, Value, Text, PlainInst}
 use Rattle.spv_capabilities.specs.Entry.{imported_by, linked_id, entered_by, second_id}
 use Rattle.spv_declarations.specs.Given.{is_decorate, is_member_decorate, is_of_member, given_in, given_by, member_given_in, member_given_by, member_in, member_by, group_by, first_in, Gives, NamesTarget, NamesMember}
 use Rattle.spv_declarations.specs.inner.Early.{is_saying, is_early}
-use Rattle.spv_declarations.specs.inner.Said.{NamesGroup, ImportsBy}
+use Rattle.spv_declarations.specs.inner.Said.{NamesGroup}
 
 pub gated : {A : Type 0} (b : Bool) (o : Option A) (a : A) → (if b then o else None) ≡ Some a → b ≡ true
 gated true o a e = refl

@@ -1,7 +1,6 @@
 -- Where rules can be broken: before the functions.
-use Rattle.std.proofs.Common.{◌≡◌, ◌∙◌, ◌⊎◌, ◌<◌, ◌≤◌, inl, inr, ℕ, Bool, true, false, refl, sym, subst, arith, List, ◌∷◌, Option, Some, None, nat_eq, if◌then◌else◌}
-use Rattle.std.specs.Prelude.{slice_get, option_map}
-use Rattle.std.proofs.lemmas.Bool.{eqb-true}
+use Rattle.std.proofs.Common.{◌≡◌, ◌∙◌, ◌<◌, inl, inr, ℕ, Bool, true, false, refl, sym, subst, List, ◌∷◌, Option, Some, None, nat_eq, if◌then◌else◌}
+use Rattle.std.specs.Prelude.{option_map}
 use Rattle.spv_table.specs.Table.{Table}
 use Rattle.spv_module.specs.declared.opcode.TheConstants as opcode
 use Rattle.spv_module.specs.Operand.{Plain, Result, Id, Word, Value, PlainInst}
@@ -10,13 +9,13 @@ use Rattle.spv_type_forms.specs.declared.form.Object.{Object}
 use Rattle.spv_type_forms.specs.declared.form.Form.TheVariants as form
 use Rattle.spv_type_forms.specs.declared.form.Scalar.TheVariants as scalar
 use Rattle.spv_type_forms.specs.Form.{form_in, float_in, vector_in, array_in, pointer_in, sampled_image_in, object_of}
-use Rattle.spv_declarations.specs.Given.{Gives, member_by, first_in, NamesMember}
-use Rattle.spv_declarations.specs.Entry.{IsRepeated, TakesId, SetsById, named_by, name_in}
-use Rattle.spv_declarations.specs.Declarations.{IsForwardElsewhere, AnnouncesElsewhere, IsIncapable, NeedsAnother, IsOfNoMember, NamesNoMember}
-use Rattle.spv_declarations.specs.Decorated.{Has, HasBy, HasOnMember, IsHalfBuiltIn, IsInitialized, IsLinkedEntry, IsMisplaced, IsSecond}
-use Rattle.spv_declarations.specs.inner.Early.{is_early, AreEarly}
-use Rattle.spv_declarations.proofs.Saying.{gated, opened, given_early, member_given_early, member_early, target_early, pair_early, by_opcode, early_by}
-use Rattle.spv_declarations.proofs.Stated.{has_some, has_by_early, member_has_some, has_member_early, has_place, member_place}
+use Rattle.spv_declarations.specs.Given.{first_in}
+use Rattle.spv_declarations.specs.Entry.{IsRepeated, TakesId, name_in}
+use Rattle.spv_declarations.specs.Declarations.{IsForwardElsewhere, IsIncapable, IsOfNoMember}
+use Rattle.spv_declarations.specs.Decorated.{HasBy, HasOnMember, IsHalfBuiltIn, IsInitialized, IsLinkedEntry, IsMisplaced, IsSecond}
+use Rattle.spv_declarations.specs.inner.Early.{AreEarly}
+use Rattle.spv_declarations.proofs.Saying.{gated, member_early, by_opcode, early_by}
+use Rattle.spv_declarations.proofs.Stated.{has_by_early, has_member_early, has_place, member_place}
 
 pub o3_early : (is : List PlainInst) (count : ℕ) → AreEarly is count → (n : ℕ) → IsRepeated is n → n < count
 o3_early is count e n r = e.each n r.inst r.there

@@ -1,13 +1,13 @@
 -- What ids and members have, and by which instruction.
-use Rattle.std.proofs.Common.{◌≡◌, ◌∙◌, ◌⊎◌, ◌↔◌, inl, inr, ℕ, Bool, true, false, refl, sym, ap, subst, arith, List, [], ◌∷◌, Option, Some, None, Result, Ok, Err, OnOk, nat_eq, IsTrue, ◌≤◌, length}
-use Rattle.std.specs.Prelude.{slice_get, Contains}
+use Rattle.std.proofs.Common.{◌≡◌, ◌∙◌, ◌↔◌, inl, inr, ℕ, Bool, true, false, refl, sym, ap, subst, arith, List, [], ◌∷◌, Option, Some, None, Result, Ok, Err, OnOk, IsTrue, ◌≤◌, length}
+use Rattle.std.specs.Prelude.{slice_get}
 use Rattle.std.specs.BTreeSet.{BTreeSet}
 use Rattle.spv_module.specs.declared.opcode.TheConstants as opcode
-use Rattle.spv_module.specs.Operand.{Plain, Id, PlainInst}
+use Rattle.spv_module.specs.Operand.{PlainInst}
 use Rattle.spv_conditions.specs.Further.{IsGroup, IsMember}
-use Rattle.spv_declarations.specs.Given.{At, is_decorate, given_by, given_in, member_given_by, member_given_in, is_member_decorate, group_by, Gives, NamesTarget, NamesMember}
+use Rattle.spv_declarations.specs.Given.{is_decorate, given_by, given_in, member_given_by, member_given_in, is_member_decorate, Gives, NamesTarget, NamesMember}
 use Rattle.spv_declarations.specs.Decorated.{Has, HasBy, HasOnMember}
-use Rattle.spv_declarations.specs.Table.{is_listed, is_among, lines, never_on_members, StandsOn, IsOnSome, IsNeverOnMembers}
+use Rattle.spv_declarations.specs.Table.{is_listed, lines, StandsOn}
 use Rattle.spv_declarations.specs.declared.said.Said.{Said}
 use Rattle.spv_declarations.specs.inner.Early.{is_early, AreEarly}
 use Rattle.spv_declarations.specs.inner.Said.{IsKnown, NamesGroup, ImportsBy, GivesGroup, ImportsGroup, AreSaid, HasAt, HasMemberAt, BuildsIn}

@@ -1,5 +1,5 @@
 -- What the tests of single instructions tell.
-use Rattle.std.proofs.Common.{◌≡◌, ◌∙◌, ◌⊎◌, ◌↔◌, ◌<◌, inl, inr, ℕ, zero, suc, length, Bool, true, false, refl, sym, ap, subst, arith, List, [], ◌∷◌, Option, Some, None, nat_eq, IsTrue}
+use Rattle.std.proofs.Common.{◌≡◌, ◌↔◌, ◌<◌, inl, inr, ℕ, zero, suc, length, Bool, true, refl, sym, ap, subst, arith, List, [], ◌∷◌, Option, Some, nat_eq, IsTrue}
 use Rattle.std.specs.Prelude.{slice_get, codes}
 use Rattle.std.specs.BTreeSet.{BTreeSet}
 use Rattle.std.proofs.lemmas.Bool.{eqb-true, eq-eqb}
@@ -11,10 +11,10 @@ use Rattle.spv_layout.specs.Place.{IsOfSection}
 use Rattle.spv_layout.proofs.Places.{section_same}
 use Rattle.spv_capabilities.specs.Entry.{entered_by}
 use Rattle.spv_declarations.specs.Given.{Gives}
-use Rattle.spv_declarations.specs.Decorated.{Has, IsEntered, IsLinkedEntry, IsInitialized, Imports, HasImport}
-use Rattle.spv_declarations.specs.inner.Initialized.{initialized_in, initialized_by, IsOutside}
+use Rattle.spv_declarations.specs.Decorated.{Has, IsLinkedEntry, IsInitialized}
+use Rattle.spv_declarations.specs.inner.Initialized.{initialized_in, IsOutside}
 use Rattle.spv_declarations.specs.inner.Said.{HasAt, ImportsBy}
-use Rattle.spv_declarations.specs.inner.Sets.{IsIn, HasAll, IsSaid}
+use Rattle.spv_declarations.specs.inner.Sets.{IsIn, HasAll}
 use Rattle.spv_declarations.proofs.Saying.{gated, opened}
 use Rattle.spv_declarations.proofs.Gathered.{one_inst}
 use Rattle.spv_declarations.proofs.Stated.{at_has, has_at, has_some}

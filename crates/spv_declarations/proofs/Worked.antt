@@ -1,12 +1,12 @@
 -- The worked examples.
-use Rattle.std.proofs.Common.{◌≡◌, ◌∙◌, ◌⊎◌, ◌≤◌, ◌<◌, ◌&&◌, ◌||◌, inl, inr, ℕ, zero, suc, Bool, true, false, refl, sym, ap, subst, arith, List, [], ◌∷◌, Option, Some, None, IsTrue}
+use Rattle.std.proofs.Common.{◌≡◌, ◌∙◌, ◌≤◌, ◌&&◌, ◌||◌, inl, inr, ℕ, zero, suc, Bool, true, false, refl, sym, ap, subst, arith, List, [], ◌∷◌, Option, Some, None, IsTrue}
 use Rattle.std.specs.Prelude.{slice_get, IsSomeAnd}
 use Rattle.spv_module.specs.declared.opcode.TheConstants as opcode
 use Rattle.spv_module.specs.Operand.{PlainInst}
 use Rattle.spv_module.specs.Width.{definition_of}
-use Rattle.spv_declarations.specs.Given.{Gives, HasIdBehind, NamesTarget, given_by, group_by}
+use Rattle.spv_declarations.specs.Given.{Gives, HasIdBehind, given_by, group_by}
 use Rattle.spv_declarations.specs.inner.Said.{HasAt, HasMemberAt}
-use Rattle.spv_declarations.specs.Decorated.{Has, HasBy, HasOnMember, IsMisplaced, IsLeastBy, IsSecond}
+use Rattle.spv_declarations.specs.Decorated.{Has, HasBy, HasOnMember, IsMisplaced, IsSecond}
 use Rattle.spv_declarations.specs.Entry.{IsRepeated}
 use Rattle.spv_declarations.specs.Example.{decorated, decorate, entries}
 use Rattle.spv_declarations.specs.Table.{Line, IsOnSome, StandsOn, is_among, is_listed, lines}

@@ -1,5 +1,5 @@
 -- What of a module stands before its functions. (For the code alone.)
-use Rattle.std.specs.Prelude.{◌≡◌, ◌<◌, ℕ, List, Option, Some, Bool, true, nat_eq, ◌||◌, slice_get}
+use Rattle.std.specs.Prelude.{◌≡◌, ◌<◌, ℕ, List, Some, Bool, true, nat_eq, ◌||◌, slice_get}
 use Rattle.spv_module.specs.declared.opcode.TheConstants as opcode
 use Rattle.spv_module.specs.Operand.{PlainInst}
 use Rattle.spv_layout.specs.Place.{IsOfSection}

@@ -1,8 +1,8 @@
 -- What is gathered of decorations. (For the code alone.)
-use Rattle.std.specs.Prelude.{◌≡◌, ◌⊎◌, ℕ, List, Option, Some, Contains, IsTrue}
+use Rattle.std.specs.Prelude.{◌≡◌, ◌⊎◌, ℕ, List, Option, Some, IsTrue}
 use Rattle.std.specs.BTreeSet.{BTreeSet}
 use Rattle.spv_module.specs.declared.opcode.TheConstants as opcode
-use Rattle.spv_module.specs.Operand.{PlainInst, Id}
+use Rattle.spv_module.specs.Operand.{PlainInst}
 use Rattle.spv_conditions.specs.Further.{IsGroup, IsMember}
 use Rattle.spv_capabilities.specs.Entry.{imported_by}
 use Rattle.spv_declarations.specs.Given.{Gives, NamesMember, NamesTarget, group_by, member_given_by}

@@ -1,6 +1,6 @@
 -- The table as the code reads it. (For the code alone.)
 use Rattle.std.specs.Borrow.{Bor}
-use Rattle.std.specs.Prelude.{◌≡◌, ◌⊎◌, ◌↔◌, ℕ, List, [], ◌∷◌, IsTrue}
+use Rattle.std.specs.Prelude.{◌⊎◌, ℕ, List, [], ◌∷◌, IsTrue}
 use Rattle.spv_module.specs.Operand.{PlainInst}
 use Rattle.spv_declarations.specs.Table.{Line, IsAsked, is_among}
 use Rattle.spv_declarations.specs.declared.table.Further.{Further}

@@ -1,4 +1,4 @@
-use Rattle.std.proofs.Common.{◌≡◌, ◌↔◌, ℕ, arith}
+use Rattle.std.proofs.Common.{arith}
 use Rattle.spv_declarations.specs.inner.Said.{BuildsIn}
 use Rattle.spv_declarations.proofs.Gathered.{both_gather_none, both_gather_more}
 use Rattle.spv_declarations.proofs.Built.{theirs_none, all_built}

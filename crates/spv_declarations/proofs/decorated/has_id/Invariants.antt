@@ -1,7 +1,6 @@
-use Rattle.std.proofs.Common.{◌↔◌, ℕ, drop}
+use Rattle.std.proofs.Common.{◌↔◌, drop}
 use Rattle.spv_module.specs.Module.{plain_operands}
-use Rattle.spv_declarations.specs.inner.Misplaced.{IsAnyMisplaced}
-use Rattle.spv_declarations.specs.inner.Sets.{AnyId, IsIn}
+use Rattle.spv_declarations.specs.inner.Sets.{AnyId}
 use Rattle.spv_declarations.proofs.decorated.has_id.Given as goal
 
 abbrev pub invariant-loop-operand : goal.invariant-loop-operand

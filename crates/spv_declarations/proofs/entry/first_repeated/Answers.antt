@@ -1,4 +1,3 @@
-use Rattle.std.proofs.Common.{arith}
 use Rattle.spv_declarations.specs.Entry.{IsRepeated}
 use Rattle.spv_declarations.proofs.Passes.{found_by, more_by}
 use Rattle.spv_declarations.proofs.entry.first_repeated.Goals as goal

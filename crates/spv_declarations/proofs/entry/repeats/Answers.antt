@@ -1,4 +1,4 @@
-use Rattle.std.proofs.Common.{◌∙◌, sym}
+use Rattle.std.proofs.Common.{sym}
 use Rattle.spv_module.specs.Module.{plain_inst}
 use Rattle.spv_declarations.proofs.Names.{tells_named, tells_unnamed}
 use Rattle.spv_declarations.proofs.entry.repeats.Goals as goal

@@ -1,7 +1,4 @@
-use Rattle.std.proofs.Common.{◌≡◌, ◌∙◌, sym, subst, arith, ℕ, List, ◌∷◌, Option, Some}
-use Rattle.spv_table.specs.Table.{Table}
-use Rattle.spv_module.specs.Operand.{PlainInst}
-use Rattle.spv_module.specs.declared.fault.Rule.{Rule}
+use Rattle.std.proofs.Common.{subst, arith, ℕ, Option}
 use Rattle.spv_declarations.specs.Broken.{Broken}
 use Rattle.spv_declarations.specs.declared.found.Found.{Found}
 use Rattle.spv_declarations.specs.inner.First.{IsFirstAmong, IsFirstOf}

@@ -1,7 +1,6 @@
 use Rattle.std.proofs.Common.{ℕ, subst}
 use Rattle.std.proofs.lemmas.Bool.{eqb-true, eq-eqb}
 use Rattle.spv_module.specs.Module.{plain_inst}
-use Rattle.spv_module.specs.Operand.{PlainInst}
 use Rattle.spv_layout.specs.Place.{IsOfSection}
 use Rattle.spv_layout.proofs.Places.{section_same}
 use Rattle.spv_declarations.specs.inner.Initialized.{IsOutside}

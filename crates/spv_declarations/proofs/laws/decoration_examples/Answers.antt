@@ -1,5 +1,4 @@
 use Rattle.std.proofs.Common.{arith, refl}
-use Rattle.spv_declarations.specs.Decorated.{HasOnMember}
 use Rattle.spv_declarations.proofs.Worked.{own_restrict, group_aliased, member_built_in}
 use Rattle.spv_declarations.proofs.laws.decoration_examples.Goals as goal
 

@@ -1,6 +1,6 @@
 use Rattle.std.proofs.Common.{◌≡◌, ◌≤◌, ◌⊎◌, inl, inr, ℕ, List, subst, arith}
 use Rattle.spv_module.specs.Operand.{PlainInst}
-use Rattle.spv_declarations.specs.Decorated.{IsLeastBy, IsSecond}
+use Rattle.spv_declarations.specs.Decorated.{IsLeastBy}
 use Rattle.spv_declarations.proofs.laws.one_second.Goals as goal
 
 least_same : (is : List PlainInst) (x y d a b : ℕ) → x ≡ y → IsLeastBy is x d a → IsLeastBy is y d b → a ≡ b

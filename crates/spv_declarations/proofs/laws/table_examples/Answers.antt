@@ -1,4 +1,4 @@
-use Rattle.std.proofs.Common.{◌≡◌, inl, inr, true, false, refl}
+use Rattle.std.proofs.Common.{◌≡◌, true, false, refl}
 use Rattle.spv_declarations.specs.Table.{lines, never_on_members}
 use Rattle.spv_declarations.proofs.Worked.{restrict_stands, void_not}
 use Rattle.spv_declarations.proofs.laws.table_examples.Goals as goal

@@ -1,4 +1,4 @@
-use Rattle.std.proofs.Common.{◌≡◌, ◌∙◌, ap, sym, subst, [], ◌∷◌, List}
+use Rattle.std.proofs.Common.{◌∙◌, ap, sym, subst, [], ◌∷◌, List}
 use Rattle.std.specs.Prelude.{codes}
 use Rattle.spv_table.specs.Table.{Table}
 use Rattle.spv_table.specs.Lookups.{number_named}

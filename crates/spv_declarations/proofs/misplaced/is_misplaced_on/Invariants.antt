@@ -1,5 +1,5 @@
 use Rattle.std.proofs.Common.{◌↔◌, drop}
-use Rattle.spv_declarations.specs.inner.Misplaced.{IsAnyMisplaced, IsAnyNever}
+use Rattle.spv_declarations.specs.inner.Misplaced.{IsAnyMisplaced}
 use Rattle.spv_declarations.proofs.misplaced.is_misplaced_on.Given as goal
 
 abbrev pub invariant-loop-decoration : goal.invariant-loop-decoration

@@ -1,6 +1,5 @@
-use Rattle.std.proofs.Common.{◌↔◌, ℕ, drop}
+use Rattle.std.proofs.Common.{◌↔◌, drop}
 use Rattle.spv_module.specs.Module.{plain_operands}
-use Rattle.spv_declarations.specs.inner.Misplaced.{IsAnyMisplaced}
 use Rattle.spv_declarations.specs.inner.Sets.{AnyId, IsIn}
 use Rattle.spv_declarations.proofs.second.is_one_in_both.Given as goal
 

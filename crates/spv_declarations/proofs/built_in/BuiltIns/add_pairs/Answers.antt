@@ -1,4 +1,4 @@
-use Rattle.std.proofs.Common.{◌≡◌, ◌∙◌, ◌⊎◌, sym, ℕ}
+use Rattle.std.proofs.Common.{◌∙◌, ◌⊎◌, sym}
 use Rattle.spv_module.specs.Module.{plain_operands}
 use Rattle.spv_conditions.specs.Further.{IsMember}
 use Rattle.spv_declarations.specs.Given.{HasPair}

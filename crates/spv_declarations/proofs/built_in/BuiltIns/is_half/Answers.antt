@@ -1,4 +1,4 @@
-use Rattle.std.proofs.Common.{◌≡◌, ◌∙◌, ◌↔◌, sym, subst, List, IsTrue}
+use Rattle.std.proofs.Common.{◌∙◌, ◌↔◌, sym, subst, List, IsTrue}
 use Rattle.spv_module.specs.Module.{plain_inst}
 use Rattle.spv_module.specs.Operand.{Plain}
 use Rattle.spv_declarations.specs.Given.{behind_first}
