@@ -135,36 +135,6 @@ among_kept G is rs r f n a le b h = (
   ],
 )
 
--- One that is broken, and lower; or alone.
-pub among_new : (G : Table) (is : List PlainInst) (rs : List Rule) (r : Rule) (f : Found) (n : ℕ) → n < f.inst
-    → IsFirstOf (Broken G is r) (Some n) → IsFirstAmong G is rs (Some f)
-    → IsFirstAmong G is (r ∷ rs) (Some (record { rule = r; inst = n }))
-among_new G is rs r f n lt b h = (
-  inl refl,
-  b.0,
-  λ q m p k. elim p [
-    | inl e ↦ at_or_below n m (rank_of r ≤ rank_of q) (least_one G is r n m b.1 (moved G is q r m e k))
-        (subst (λ (p : Rule). rank_of r ≤ rank_of p) (sym e) (let s : rank_of r ≤ rank_of r = omega arith in s))
-    | inr o ↦ elim (h.2 q m o k) [
-      | inl l ↦ inl (omega (arith, l, lt))
-      | inr e ↦ let d = e.0 in inl (omega (arith, d, lt))
-    ]
-  ],
-)
-
-pub among_first : (G : Table) (is : List PlainInst) (rs : List Rule) (r : Rule) (n : ℕ)
-    → IsFirstOf (Broken G is r) (Some n) → IsFirstAmong G is rs None
-    → IsFirstAmong G is (r ∷ rs) (Some (record { rule = r; inst = n }))
-among_first G is rs r n b h = (
-  inl refl,
-  b.0,
-  λ q m p k. elim p [
-    | inl e ↦ at_or_below n m (rank_of r ≤ rank_of q) (least_one G is r n m b.1 (moved G is q r m e k))
-        (subst (λ (p : Rule). rank_of r ≤ rank_of p) (sym e) (let s : rank_of r ≤ rank_of r = omega arith in s))
-    | inr o ↦ absurd (h q m o k)
-  ],
-)
-
 -- Of each rule the first instruction that breaks it.
 pub of_o3 : (G : Table) (is : List PlainInst) (count : ℕ) (o : Option ℕ) → ((n : ℕ) → IsRepeated is n → n < count)
     → IsFirstBelow count (IsRepeated is) o → IsFirstOf (Broken G is rule.O3) o

@@ -36,12 +36,7 @@ on_none is (l ∷ ls) d x e (inl h) = absurd
     (subst (λ (o : Option PlainInst). IsSomeAnd o (λ (j : PlainInst). IsTrue (is_among l.1.now j.opcode))) e h.1.0)
 on_none is (l ∷ ls) d x e (inr h) = on_none is ls d x e h
 
--- The decoration is on no line; it is on one, and the id has a definition, or none.
-pub stands_unlisted : (is : List PlainInst) (d x : ℕ) (b : Bool) → b ≡ is_listed lines d → b ≡ false
-    → IsTrue true ↔ StandsOn is d x
-stands_unlisted is d x b e f =
-    (λ y t. let no : false ≡ true = sym f ∙ (e ∙ t) in absurd (cc), λ h. refl)
-
+-- The decoration is on a line, and the id has a definition, or none.
 pub stands_listed : (is : List PlainInst) (d x : ℕ) (i : PlainInst) (b c : Bool) → b ≡ is_listed lines d → b ≡ true
     → definition_of is x ≡ Some i → (IsTrue c ↔ IsOnLine is lines d i.opcode x) → IsTrue c ↔ StandsOn is d x
 stands_listed is d x i b c e f at t = (
