@@ -1,5 +1,5 @@
 -- Members that are named, forward pointers, widths and the memory model: O6, O12 and O13. [2.16.1, 3.49.2, 3.49.6]
-use Rattle.std.specs.Prelude.{◌≡◌, ◌⊎◌, ℕ, List, Option, Some, None, nat_eq}
+use Rattle.std.specs.Prelude.{if◌then◌else◌, ◌≡◌, ◌⊎◌, ℕ, List, Option, Some, None, nat_eq}
 use Rattle.spv_table.specs.Table.{Table}
 use Rattle.spv_module.specs.declared.opcode.TheConstants as opcode
 use Rattle.spv_module.specs.Operand.{PlainInst}

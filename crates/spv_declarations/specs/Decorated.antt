@@ -8,7 +8,7 @@ use Rattle.spv_module.specs.Operand.{Plain, OfType, Result, Id, Value, PlainInst
 use Rattle.spv_layout.specs.Place.{IsOfSection}
 use Rattle.spv_conditions.specs.Further.{IsGroup, IsMember}
 use Rattle.spv_capabilities.specs.Entry.{entered_by, imported_by}
-use Rattle.spv_declarations.specs.Given.{Gives, HasIdBehind, NamesMember, NamesTarget, member_given_by}
+use Rattle.spv_declarations.specs.Given.{Gives, HasId, HasIdBehind, NamesMember, NamesTarget, member_given_by}
 use Rattle.spv_declarations.specs.Table.{IsNeverOnMembers, StandsOn}
 
 -- What instructions say of ids, the id x has by instruction n: that says it of x, which is no OpDecorationGroup; or it
@@ -97,5 +97,5 @@ HasBuiltIn is t = (k : ℕ) × IsBuiltIn is t k
 pub data IsHalfBuiltIn (is : List PlainInst) (n : ℕ) : Type 0 where
   in_part : (i : PlainInst) (t k j : ℕ) (ms : List Plain) → slice_get is n ≡ Some i → i.opcode ≡ opcode.TYPE_STRUCT
       → i.operands ≡ Result t ∷ ms → IsBuiltIn is t k → IsMember is t j → ¬ (IsBuiltIn is t j) → IsHalfBuiltIn is n
-  within : (i : PlainInst) (t k u : ℕ) (ms : List Plain) → slice_get is n ≡ Some i → i.opcode ≡ opcode.TYPE_STRUCT
-      → i.operands ≡ Result t ∷ ms → slice_get ms k ≡ Some (Id u) → HasBuiltIn is u → IsHalfBuiltIn is n
+  within : (i : PlainInst) (t u : ℕ) (ms : List Plain) → slice_get is n ≡ Some i → i.opcode ≡ opcode.TYPE_STRUCT
+      → i.operands ≡ Result t ∷ ms → HasId ms u → HasBuiltIn is u → IsHalfBuiltIn is n

@@ -1,5 +1,5 @@
 -- What single instructions say of ids and of members. [3.49.3]
-use Rattle.std.specs.Prelude.{◌≡◌, ◌≤◌, ℕ, List, [], ◌∷◌, Option, Some, None, Bool, nat_eq, ◌||◌, Contains, slice_get}
+use Rattle.std.specs.Prelude.{if◌then◌else◌, ◌≡◌, ℕ, List, [], ◌∷◌, Option, Some, None, Bool, nat_eq, ◌||◌, drop, slice_get}
 use Rattle.std.specs.Prelude.{◌⊎◌}
 use Rattle.spv_module.specs.declared.opcode.TheConstants as opcode
 use Rattle.spv_module.specs.Operand.{Plain, Id, Word, Value, PlainInst}
@@ -11,7 +11,7 @@ At is P n = (i : PlainInst) × (slice_get is n ≡ Some i) × P i
 -- the opcodes of OpDecorate, OpDecorateId and OpDecorateString; of OpMemberDecorate and OpMemberDecorateString; and of
 -- these and OpMemberName [3.49.2, 3.49.3]
 abbrev pub is_decorate : ℕ → Bool
-is_decorate n = nat_eq n opcode.DECORATE || nat_eq n opcode.DECORATE_ID || nat_eq n opcode.DECORATE_STRING
+is_decorate n = nat_eq n opcode.DECORATE || (nat_eq n opcode.DECORATE_ID || nat_eq n opcode.DECORATE_STRING)
 
 abbrev pub is_member_decorate : ℕ → Bool
 is_member_decorate n = nat_eq n opcode.MEMBER_DECORATE || nat_eq n opcode.MEMBER_DECORATE_STRING
@@ -59,9 +59,15 @@ behind_first [] = []
 abbrev pub Gives : ℕ → PlainInst → ℕ → Type 0
 Gives d i x = given_by i ≡ Some (x, d)
 
+-- One of the operands is the id. [own]
+abbrev pub HasId : List Plain → ℕ → Type 0
+HasId [] x = ⊥
+HasId (Id y ∷ os) x = (y ≡ x) ⊎ HasId os x
+HasId (o ∷ os) x = HasId os x
+
 -- OpGroupDecorate %g ..: one of the targets is x. [3.49.3]
 abbrev pub NamesTarget : PlainInst → ℕ → ℕ → Type 0
-NamesTarget i g x = (group_by opcode.GROUP_DECORATE i ≡ Some g) × Contains (behind_first i.operands) (Id x)
+NamesTarget i g x = (group_by opcode.GROUP_DECORATE i ≡ Some g) × HasId (behind_first i.operands) x
 
 -- OpGroupMemberDecorate %g ..: one of the pairs behind g is t and m. [3.49.3]
 abbrev pub HasPair : List Plain → ℕ → ℕ → Type 0
@@ -75,4 +81,4 @@ NamesMember i g t m =
 -- Some operand behind the first two is an id: one behind the mode of OpExecutionMode %f mode .., or behind the
 -- decoration of OpDecorate %x d ... [3.49.3, 3.49.5]
 abbrev pub HasIdBehind : List Plain → Type 0
-HasIdBehind os = (place x : ℕ) × (2 ≤ place) × (slice_get os place ≡ Some (Id x))
+HasIdBehind os = (x : ℕ) × HasId (drop 2 os) x

@@ -1,9 +1,10 @@
 //! What single instructions say of ids and of members.
 
-ghost use Rattle.std.specs.Prelude.{◌≡◌, ◌↔◌, IsTrue};
+ghost use Rattle.std.specs.Prelude.{◌≡◌, ◌↔◌, IsTrue, drop};
 ghost use Rattle.spv_module.specs.Module.{plain_inst, plain_operands};
 ghost use Rattle.spv_conditions.specs.Further.{IsGroup};
 ghost use Rattle.spv_declarations.specs.Given as spec;
+ghost use Rattle.spv_declarations.specs.inner.Sets.{AnyId};
 
 use spv_module::{Inst, Operand, opcode};
 use spv_type_forms::Definitions;
@@ -79,7 +80,7 @@ pub fn member_given(inst: &Inst<'_>) -> Option<(u32, u32, u32)>
 }
 
 /// The struct and the member that operands name.
-fn member_in(operands: &[Operand<'_>]) -> Option<(u32, u32)>
+pub fn member_in(operands: &[Operand<'_>]) -> Option<(u32, u32)>
     ensures { result ≡ spec.member_in (plain_operands operands.now) }
 {
     match operands {
@@ -140,14 +141,31 @@ pub fn is_group(definitions: &Definitions, x: u32) -> bool
     }
 }
 
-/// Whether an operand behind the first two is an id.
-pub fn has_id_behind(operands: &[Operand<'_>]) -> bool
-    ensures { IsTrue result ↔ spec.HasIdBehind (plain_operands operands.now) }
+/// Whether an operand is an id.
+fn has_id(operands: &[Operand<'_>]) -> bool
+    ensures { IsTrue result ↔ AnyId (λ x. Unit {0}) (plain_operands operands.now) }
 {
-    for place in 2..operands.len() {
-        if let Operand::Id(_) = operands[place] {
+    for operand in operands {
+        if let Operand::Id(_) = operand {
             return true;
         }
     }
     false
+}
+
+/// What follows the first two operands.
+pub fn behind_two<'i, 'a>(operands: &'i [Operand<'a>]) -> &'i [Operand<'a>]
+    ensures { plain_operands result.now ≡ drop 2 (plain_operands operands.now) }
+{
+    match operands {
+        [_, _, rest @ ..] => rest,
+        _ => &[],
+    }
+}
+
+/// Whether an operand behind the first two is an id.
+pub fn has_id_behind(operands: &[Operand<'_>]) -> bool
+    ensures { IsTrue result ↔ spec.HasIdBehind (plain_operands operands.now) }
+{
+    has_id(behind_two(operands))
 }

@@ -1,9 +1,12 @@
 //! O3 and O5: entry points of one name, and execution modes.
 
-ghost use Rattle.std.specs.Prelude.{◌↔◌, ◌≡◌, ◌≤◌, IfOk, IsTrue, length, option_map};
-ghost use Rattle.spv_module.specs.Module.{plain_inst};
-ghost use Rattle.spv_declarations.specs.Entry.{IsRepeated, SetsById, TakesId, named_by};
+ghost use Rattle.std.specs.Prelude.{◌↔◌, ◌≡◌, ◌≤◌, ◌+◌, ℕ, List, IfOk, IsTrue, Some, false, length, option_map, slice_get};
+ghost use Rattle.spv_module.specs.Operand.{PlainInst};
+ghost use Rattle.spv_module.specs.Module.{plain_inst, plain_operands};
+ghost use Rattle.spv_declarations.specs.Entry as spec;
+ghost use Rattle.spv_declarations.specs.Entry.{IsRepeated, SetsById, TakesId};
 ghost use Rattle.spv_declarations.specs.inner.First.{IsFirstBelow};
+ghost use Rattle.spv_declarations.specs.inner.Named.{AreSeen};
 
 use crate::decorated::has_id_behind;
 use spv_module::{Inst, Operand, opcode};
@@ -11,14 +14,11 @@ use spv_type_forms::Definitions;
 use std::alloc::{AllocError, Global};
 use std::collections::BTreeSet;
 
-/// The execution model and the name of an OpEntryPoint.
-fn named<'a>(inst: &Inst<'a>) -> Option<(u32, &'a str)>
-    ensures { option_map (λ p. (p.0, p.1.now)) result ≡ named_by (plain_inst inst.now) }
+/// The execution model and the name that the operands of an OpEntryPoint have.
+fn name_in<'a>(operands: &[Operand<'a>]) -> Option<(u32, &'a str)>
+    ensures { option_map (λ p. (p.0, p.1.now)) result ≡ spec.name_in (plain_operands operands.now) }
 {
-    if inst.opcode != opcode::ENTRY_POINT {
-        return None;
-    }
-    match inst.operands.as_slice() {
+    match operands {
         [
             Operand::Value { value, .. },
             Operand::Id(_),
@@ -26,6 +26,28 @@ fn named<'a>(inst: &Inst<'a>) -> Option<(u32, &'a str)>
             ..
         ] => Some((*value, *name)),
         _ => None,
+    }
+}
+
+/// The execution model and the name of an OpEntryPoint.
+fn named<'a>(inst: &Inst<'a>) -> Option<(u32, &'a str)>
+    ensures { option_map (λ p. (p.0, p.1.now)) result ≡ spec.named_by (plain_inst inst.now) }
+{
+    if inst.opcode == opcode::ENTRY_POINT {
+        name_in(inst.operands.as_slice())
+    } else {
+        None
+    }
+}
+
+/// Puts the model and the name of an instruction in, if it is an OpEntryPoint; whether they were there.
+fn repeats<'a>(seen: &mut BTreeSet<(u32, &'a str)>, inst: &Inst<'a>) -> Result<bool, AllocError>
+    ensures { IfOk result (λ yes. (is : List PlainInst) (n : ℕ) → slice_get is n ≡ Some (plain_inst inst.now)
+        → AreSeen n is seen.old → (IsTrue yes ↔ IsRepeated is n) × (yes ≡ false → AreSeen (n + 1) is seen.new)) }
+{
+    match named(inst) {
+        Some(entry) => Ok(!seen.insert(entry)?),
+        None => Ok(false),
     }
 }
 
@@ -42,10 +64,8 @@ pub fn first_repeated(
 {
     let mut seen = BTreeSet::new(alloc);
     for number in 0..count {
-        if let Some(entry) = named(definitions.inst(number)) {
-            if !seen.insert(entry)? {
-                return Ok(Some(number));
-            }
+        if repeats(&mut seen, definitions.inst(number))? {
+            return Ok(Some(number));
         }
     }
     Ok(None)

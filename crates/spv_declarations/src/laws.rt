@@ -10,7 +10,7 @@ ghost use Rattle.spv_module.specs.declared.fault.Rule.TheVariants.{O3, O5, O8};
 ghost use Rattle.spv_declarations.specs.Broken.{Broken};
 ghost use Rattle.spv_declarations.specs.Declarations.{IsForwardElsewhere, IsOfNoMember};
 ghost use Rattle.spv_declarations.specs.Decorated.{HasBy, HasOnMember, IsBuiltIn, IsMisplaced, IsSecond};
-ghost use Rattle.spv_declarations.specs.Entry.{IsRepeated, IsTwiceIn, TakesId};
+ghost use Rattle.spv_declarations.specs.Entry.{IsRepeated, TakesId};
 ghost use Rattle.spv_declarations.specs.Example.{decorated, entries, modes, pointers};
 ghost use Rattle.spv_declarations.specs.Table as spec;
 
@@ -66,13 +66,11 @@ pub fn entry_examples()
     ensures alone { ¬ (IsRepeated entries 0) }
     ensures with_id { TakesId modes 1 }
     ensures with_word { ¬ (TakesId modes 0) }
-    ensures twice { IsTwiceIn (Id 3 ∷ Id 4 ∷ Id 3 ∷ []) 3 }
-    ensures once { ¬ (IsTwiceIn (Id 3 ∷ Id 4 ∷ Id 3 ∷ []) 4) }
 {}
 
 /// As rules.
 pub fn rule_examples()
-    ensures first { (G : Table) → Broken G 6 entries O3 1 }
-    ensures not_another { (G : Table) → ¬ (Broken G 6 entries O5 1) }
-    ensures second { (G : Table) → Broken G 0 decorated O8 3 }
+    ensures first { (G : Table) → Broken G entries O3 1 }
+    ensures not_another { (G : Table) → ¬ (Broken G entries O5 1) }
+    ensures second { (G : Table) → Broken G decorated O8 3 }
 {}

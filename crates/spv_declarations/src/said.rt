@@ -1,13 +1,14 @@
 //! What groups say of their targets.
 
-ghost use Rattle.std.specs.Prelude.{◌≡◌, ◌↔◌, ◌≤◌, ◌<◌, ℕ, Contains, IfOk, IsTrue, length};
-ghost use Rattle.std.specs.BTreeSet.{contains};
-ghost use Rattle.std.specs.Ordering.{nat_cmp};
+ghost use Rattle.std.specs.Prelude.{◌≡◌, ◌↔◌, ◌≤◌, ◌<◌, ℕ, Contains, IfOk, IsTrue, OnOk, length};
 ghost use Rattle.spv_module.specs.Module.{plain_inst};
 ghost use Rattle.spv_capabilities.specs.Entry as entry;
-ghost use Rattle.spv_declarations.specs.inner.Said.{AreSaid, IsImporting, IsKept, IsSaid, NamesGroup};
+ghost use Rattle.spv_declarations.specs.inner.Early.{AreEarly};
+ghost use Rattle.spv_declarations.specs.inner.Said.{AreSaid, GivesGroup, ImportsGroup, NamesGroup};
+ghost use Rattle.spv_declarations.specs.inner.Sets.{Adds, AddsBoth, HasAll, HasBoth, IsIn};
 
 use crate::decorated::{given, group_of};
+use crate::sets::{put, put_pair};
 use crate::stands::is_known;
 use spv_capabilities::linked_id;
 use spv_module::{Inst, opcode};
@@ -38,45 +39,68 @@ pub fn imported_by(linkage: Option<u32>, inst: &Inst<'_>) -> Option<u32>
     }
 }
 
+/// Adds the id that an instruction names as a group.
+fn add_group(groups: &mut BTreeSet<u32>, inst: &Inst<'_>) -> Result<(), AllocError>
+    ensures { OnOk result (Adds (NamesGroup (plain_inst inst.now)) groups.old groups.new) }
+{
+    if let Some(group) = group_of(inst, opcode::GROUP_DECORATE) {
+        return put(groups, group);
+    }
+    if let Some(group) = group_of(inst, opcode::GROUP_MEMBER_DECORATE) {
+        return put(groups, group);
+    }
+    Ok(())
+}
+
 /// The ids that instructions name as groups.
 fn groups(alloc: Global, definitions: &Definitions, count: u32) -> Result<BTreeSet<u32>, AllocError>
-    requires { count ≤ length definitions.now }
-    ensures { IfOk result (λ s. (g : ℕ) → IsTrue (contains nat_cmp s g) ↔ IsSaid definitions.now NamesGroup count g) }
+    requires count { count ≤ length definitions.now }
+    requires early { AreEarly definitions.now count }
+    ensures { IfOk result (HasAll definitions.now NamesGroup) }
 {
     let mut groups = BTreeSet::new(alloc);
     for number in 0..count {
-        let inst = definitions.inst(number);
-        if let Some(group) = group_of(inst, opcode::GROUP_DECORATE) {
-            groups.insert(group)?;
-        }
-        if let Some(group) = group_of(inst, opcode::GROUP_MEMBER_DECORATE) {
-            groups.insert(group)?;
-        }
+        add_group(&mut groups, definitions.inst(number))?;
     }
     Ok(groups)
 }
 
-impl Said {
-    /// Takes note of what an instruction says of one of these groups.
-    fn note(
-        &mut self,
-        groups: &BTreeSet<u32>,
-        linkage: Option<u32>,
-        inst: &Inst<'_>,
-    ) -> Result<(), AllocError> {
-        let Some((group, decoration)) = given(inst) else {
-            return Ok(());
-        };
-        if !groups.contains(&group) || !is_known(decoration) {
-            return Ok(());
-        }
-        self.pairs.insert((group, decoration))?;
-        if imported_by(linkage, inst).is_some() {
-            self.importing.insert(group)?;
-        }
-        Ok(())
+/// Adds the decoration that an instruction gives one of these groups.
+fn add_given(
+    pairs: &mut BTreeSet<(u32, u32)>,
+    groups: &BTreeSet<u32>,
+    inst: &Inst<'_>,
+) -> Result<(), AllocError>
+    ensures { OnOk result (AddsBoth (GivesGroup groups.now (plain_inst inst.now)) pairs.old pairs.new) }
+{
+    let Some((group, decoration)) = given(inst) else {
+        return Ok(());
+    };
+    if groups.contains(&group) && is_known(decoration) {
+        return put_pair(pairs, group, decoration);
     }
+    Ok(())
+}
 
+/// Adds the group that an instruction imports, if it is one of these.
+fn add_imported(
+    importing: &mut BTreeSet<u32>,
+    groups: &BTreeSet<u32>,
+    linkage: Option<u32>,
+    inst: &Inst<'_>,
+) -> Result<(), AllocError>
+    ensures { OnOk result (Adds (ImportsGroup groups.now linkage (plain_inst inst.now)) importing.old importing.new) }
+{
+    let Some(group) = imported_by(linkage, inst) else {
+        return Ok(());
+    };
+    if groups.contains(&group) {
+        return put(importing, group);
+    }
+    Ok(())
+}
+
+impl Said {
     /// What the first `count` instructions say of groups that they name, where the kind LinkageType has that number.
     ///
     /// Time is near-linear in the words of these instructions. An `AllocError` comes only where a growth of memory was
@@ -87,40 +111,42 @@ impl Said {
         linkage: Option<u32>,
         count: u32,
     ) -> Result<Said, AllocError>
-        requires { count ≤ length definitions.now }
-        ensures { IfOk result (AreSaid linkage definitions.now count count) }
+        requires count { count ≤ length definitions.now }
+        requires early { AreEarly definitions.now count }
+        ensures { IfOk result (AreSaid linkage definitions.now) }
     {
         let groups = groups(alloc, definitions, count)?;
-        let mut said = Said {
-            pairs: BTreeSet::new(alloc),
-            importing: BTreeSet::new(alloc),
-        };
+        let mut pairs = BTreeSet::new(alloc);
+        let mut importing = BTreeSet::new(alloc);
         if groups.is_empty() {
-            return Ok(said);
+            return Ok(Said { pairs, importing });
         }
         for number in 0..count {
-            said.note(&groups, linkage, definitions.inst(number))?;
+            let inst = definitions.inst(number);
+            add_given(&mut pairs, &groups, inst)?;
+            add_imported(&mut importing, &groups, linkage, inst)?;
         }
-        Ok(said)
+        Ok(Said { pairs, importing })
     }
 
     /// Whether a group has a decoration of which table T speaks.
     pub fn has(&self, group: u32, decoration: u32) -> bool
-        ensures { IsTrue result ↔ IsKept self.now group decoration }
+        ensures { IsTrue result ↔ HasBoth self.now.pairs group decoration }
     {
         self.pairs.contains(&(group, decoration))
     }
 
     /// Whether a group has LinkageAttributes with the LinkageType Import.
     pub fn imports(&self, group: u32) -> bool
-        ensures { IsTrue result ↔ IsImporting self.now group }
+        ensures { IsTrue result ↔ IsIn self.now.importing group }
     {
         self.importing.contains(&group)
     }
 
     /// The decorations of a group of which table T speaks. They are few: as many as the table has.
     pub fn of(&self, alloc: Global, group: u32) -> Result<Vec<u32>, AllocError>
-        ensures { IfOk result (λ v. (d : ℕ) → d < 4294967295 → Contains v.items d ↔ IsKept self.now group d) }
+        ensures { IfOk result (λ v. (d : ℕ) → d < 4294967295
+            → Contains v.items d ↔ HasBoth self.now.pairs group d) }
     {
         let mut found = Vec::new(alloc);
         for pair in self.pairs.range((group, 0)..(group, u32::MAX)) {

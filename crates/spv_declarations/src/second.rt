@@ -1,12 +1,17 @@
 //! O8: Restrict and Aliased of one id.
 
-ghost use Rattle.std.specs.Prelude.{◌≤◌, ℕ, IfOk, Option, length};
+ghost use Rattle.std.specs.Prelude.{◌≡◌, ◌↔◌, ◌≤◌, ℕ, IfOk, IsTrue, List, OnOk, Option, false, length};
+ghost use Rattle.spv_module.specs.Module.{plain_inst, plain_operands};
+ghost use Rattle.spv_module.specs.Operand.{PlainInst};
 ghost use Rattle.spv_declarations.specs.Decorated.{IsSecond};
+ghost use Rattle.spv_declarations.specs.Given.{Gives, NamesTarget};
 ghost use Rattle.spv_declarations.specs.inner.First.{IsFirstBelow};
-ghost use Rattle.spv_declarations.specs.inner.Said.{AreSaid};
+ghost use Rattle.spv_declarations.specs.inner.Said.{AreSaid, HasAt, IsKnown};
+ghost use Rattle.spv_declarations.specs.inner.Sets.{Adds, AnyId, HasBoth, IsIn, IsOf};
 
 use crate::decorated::{behind_first, given, group_of, is_group};
 use crate::said::Said;
+use crate::sets::{put, put_all};
 use spv_module::{Inst, Operand, opcode};
 use spv_type_forms::Definitions;
 use std::alloc::{AllocError, Global};
@@ -17,66 +22,81 @@ const RESTRICT: u32 = 19;
 
 const ALIASED: u32 = 20;
 
-/// The ids that have Restrict, and those that have Aliased, by the instructions so far.
-#[derive(Drop)]
-struct Seen {
-    restricted: BTreeSet<u32>,
-    aliased: BTreeSet<u32>,
+/// Adds the targets of a group that has a decoration.
+fn add_targets(
+    set: &mut BTreeSet<u32>,
+    said: &Said,
+    inst: &Inst<'_>,
+    decoration: u32,
+) -> Result<(), AllocError>
+    ensures { OnOk result (Adds (λ x. (g : ℕ) × NamesTarget (plain_inst inst.now) g x
+        × HasBoth said.now.pairs g decoration) set.old set.new) }
+{
+    let Some(group) = group_of(inst, opcode::GROUP_DECORATE) else {
+        return Ok(());
+    };
+    if said.has(group, decoration) {
+        return put_all(set, behind_first(inst));
+    }
+    Ok(())
 }
 
-impl Seen {
-    /// Takes note that an id has one of the two. Whether it has both now.
-    fn note(&mut self, x: u32, restricts: bool, aliases: bool) -> Result<bool, AllocError> {
-        if restricts {
-            self.restricted.insert(x)?;
-        }
-        if aliases {
-            self.aliased.insert(x)?;
-        }
-        Ok(self.restricted.contains(&x) && self.aliased.contains(&x))
+/// Adds the ids that have a decoration by an instruction of the module.
+fn add_with(
+    set: &mut BTreeSet<u32>,
+    definitions: &Definitions,
+    said: &Said,
+    inst: &Inst<'_>,
+    decoration: u32,
+) -> Result<(), AllocError>
+    requires known { IsKnown decoration }
+    requires said { (l : Option ℕ) × AreSaid l definitions.now said.now }
+    requires inst { IsOf definitions.now (plain_inst inst.now) }
+    ensures { OnOk result (Adds (λ x. HasAt definitions.now (Gives decoration) x (plain_inst inst.now))
+        set.old set.new) }
+{
+    let Some((x, own)) = given(inst) else {
+        return add_targets(set, said, inst, decoration);
+    };
+    if own == decoration && !is_group(definitions, x) {
+        return put(set, x);
     }
+    Ok(())
+}
 
-    /// Takes note that each target has one of the two. Whether one has both now.
-    fn note_all(
-        &mut self,
-        targets: &[Operand<'_>],
-        restricts: bool,
-        aliases: bool,
-    ) -> Result<bool, AllocError> {
-        for target in targets {
-            if let Operand::Id(x) = target {
-                if self.note(*x, restricts, aliases)? {
-                    return Ok(true);
-                }
+/// Whether an id is in both sets.
+fn is_in_both(one: &BTreeSet<u32>, other: &BTreeSet<u32>, x: u32) -> bool
+    ensures { IsTrue result ↔ (IsIn one.now x × IsIn other.now x) }
+{
+    one.contains(&x) && other.contains(&x)
+}
+
+/// Whether one of some targets is in both sets.
+fn is_one_in_both(one: &BTreeSet<u32>, other: &BTreeSet<u32>, targets: &[Operand<'_>]) -> bool
+    ensures { IsTrue result ↔ AnyId (λ x. IsIn one.now x × IsIn other.now x) (plain_operands targets.now) }
+{
+    for target in targets {
+        if let Operand::Id(x) = target {
+            if is_in_both(one, other, *x) {
+                return true;
             }
         }
-        Ok(false)
     }
+    false
+}
 
-    /// Takes note of what an instruction says of an id. Whether it has both now.
-    fn note_own(&mut self, definitions: &Definitions, inst: &Inst<'_>) -> Result<bool, AllocError> {
-        let Some((x, decoration)) = given(inst) else {
-            return Ok(false);
-        };
-        let restricts = decoration == RESTRICT;
-        let aliases = decoration == ALIASED;
-        if (!restricts && !aliases) || is_group(definitions, x) {
-            return Ok(false);
-        }
-        self.note(x, restricts, aliases)
+/// Whether an id that an instruction decorates is in both sets.
+fn has_both(one: &BTreeSet<u32>, other: &BTreeSet<u32>, inst: &Inst<'_>) -> bool
+    ensures found { IsTrue result → (x : ℕ) × IsIn one.now x × IsIn other.now x }
+    ensures none { result ≡ false → (is : List PlainInst) (d x : ℕ) → HasAt is (Gives d) x (plain_inst inst.now)
+        → IsIn one.now x → IsIn other.now x → ⊥ }
+{
+    if let Some((x, _)) = given(inst) {
+        return is_in_both(one, other, x);
     }
-
-    /// Takes note of what an instruction says of targets. Whether one has both now.
-    fn note_targets(&mut self, said: &Said, inst: &Inst<'_>) -> Result<bool, AllocError> {
-        let Some(group) = group_of(inst, opcode::GROUP_DECORATE) else {
-            return Ok(false);
-        };
-        let restricts = said.has(group, RESTRICT);
-        let aliases = said.has(group, ALIASED);
-        if !restricts && !aliases {
-            return Ok(false);
-        }
-        self.note_all(behind_first(inst), restricts, aliases)
+    match group_of(inst, opcode::GROUP_DECORATE) {
+        Some(_group) => is_one_in_both(one, other, behind_first(inst)),
+        None => false,
     }
 }
 
@@ -90,16 +110,16 @@ pub fn first_second(
     count: u32,
 ) -> Result<Option<u32>, AllocError>
     requires count { count ≤ length definitions.now }
-    requires said { (l : Option ℕ) × AreSaid l definitions.now count count said.now }
+    requires said { (l : Option ℕ) × AreSaid l definitions.now said.now }
     ensures { IfOk result (IsFirstBelow count (IsSecond definitions.now)) }
 {
-    let mut seen = Seen {
-        restricted: BTreeSet::new(alloc),
-        aliased: BTreeSet::new(alloc),
-    };
+    let mut restricted = BTreeSet::new(alloc);
+    let mut aliased = BTreeSet::new(alloc);
     for number in 0..count {
         let inst = definitions.inst(number);
-        if seen.note_own(definitions, inst)? || seen.note_targets(said, inst)? {
+        add_with(&mut restricted, definitions, said, inst, RESTRICT)?;
+        add_with(&mut aliased, definitions, said, inst, ALIASED)?;
+        if has_both(&restricted, &aliased, inst) {
             return Ok(Some(number));
         }
     }

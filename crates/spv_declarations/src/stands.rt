@@ -1,9 +1,10 @@
 //! Whether a decoration may stand on an id.
 
-ghost use Rattle.std.specs.Prelude.{◌↔◌, IsTrue};
+ghost use Rattle.std.specs.Prelude.{◌≡◌, ◌↔◌, IsTrue, map};
 ghost use Rattle.spv_declarations.specs.Table as spec;
 ghost use Rattle.spv_declarations.specs.declared.table.Further.TheVariants as further;
 ghost use Rattle.spv_declarations.specs.inner.Said.{IsKnown};
+ghost use Rattle.spv_declarations.specs.inner.Table as inner;
 
 use crate::table::{Further, Line, NEVER_ON_MEMBERS, TABLE, is_among, is_opcode_among};
 use spv_type_forms::{Definitions, Form, Sort, has_sort};
@@ -44,12 +45,16 @@ fn is_asked(definitions: &Definitions, further: Further, x: u32) -> bool
 }
 
 /// Whether an id whose definition has that opcode is such a one as a line says.
-fn is_such(definitions: &Definitions, line: &Line, opcode: u16, x: u32) -> bool {
+fn is_such(definitions: &Definitions, line: &Line, opcode: u16, x: u32) -> bool
+    ensures { IsTrue result ↔ inner.IsOfLine definitions.now (inner.line line.now) opcode x }
+{
     is_opcode_among(line.1, opcode) && is_asked(definitions, line.2, x)
 }
 
 /// Whether a decoration is on one of some lines.
-fn is_listed_in(lines: &[Line], d: u32) -> bool {
+fn is_listed_in(lines: &[Line], d: u32) -> bool
+    ensures { result ≡ spec.is_listed (map inner.line lines.now) d }
+{
     for line in lines {
         if is_among(line.0, d) {
             return true;
@@ -60,7 +65,7 @@ fn is_listed_in(lines: &[Line], d: u32) -> bool {
 
 /// Whether a decoration is on some line.
 fn is_listed(d: u32) -> bool
-    ensures { IsTrue result ↔ IsTrue (spec.is_listed spec.lines d) }
+    ensures { result ≡ spec.is_listed spec.lines d }
 {
     is_listed_in(&TABLE, d)
 }
@@ -80,7 +85,9 @@ pub fn is_known(d: u32) -> bool
 }
 
 /// Whether an id, whose definition has that opcode, is such a one as one of some lines says that the decoration is on.
-fn is_on_some(definitions: &Definitions, lines: &[Line], d: u32, opcode: u16, x: u32) -> bool {
+fn is_on_some(definitions: &Definitions, lines: &[Line], d: u32, opcode: u16, x: u32) -> bool
+    ensures { IsTrue result ↔ inner.IsOnLine definitions.now (map inner.line lines.now) d opcode x }
+{
     for line in lines {
         if is_among(line.0, d) && is_such(definitions, line, opcode, x) {
             return true;

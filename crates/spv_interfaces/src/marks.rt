@@ -1,6 +1,6 @@
 //! What is known of some entry points together: each has a bit of a word.
 
-use crate::interface::used::Use;
+use crate::used::Use;
 use spv_flow::calls::Call;
 use std::alloc::{AllocError, Global};
 

@@ -6,16 +6,12 @@ ghost use Rattle.spv_module.specs.Module.{plain_inst, plain_operands};
 ghost use Rattle.spv_layout.specs.Place.{AreFew};
 ghost use Rattle.spv_layout.specs.Plan.{IsPlan};
 ghost use Rattle.spv_ids.specs.Outcome.{IsDefinitionOf, definition_in};
-ghost use Rattle.spv_declarations.specs.Entry.{IsMisfaced, IsNamedIn, IsOfClass, IsTwiceIn, faced_by};
-ghost use Rattle.spv_declarations.specs.inner.First.{IsFirstOf};
+ghost use Rattle.spv_interfaces.specs.Interface.{IsMisfaced, IsNamedIn, IsOfClass, IsTwiceIn, faced_by};
+ghost use Rattle.spv_interfaces.specs.inner.First.{IsFirstOf};
 
-mod marks;
-mod order;
-mod used;
-
-use crate::interface::marks::Marks;
-use crate::interface::order::callers_first;
-use crate::interface::used::{OF_ALL, Use, class_of, is_outside, uses_of, wanted};
+use crate::marks::Marks;
+use crate::order::callers_first;
+use crate::used::{OF_ALL, Use, class_of, is_outside, uses_of, wanted};
 use spv_flow::calls::{Call, calls_of, entries_of};
 use spv_ids::Ids;
 use spv_layout::Plan;
