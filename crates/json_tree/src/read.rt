@@ -18,7 +18,7 @@ use std::alloc::{AllocError, Global};
 const MAX_DEPTH: usize = 127;
 
 /// Why no tree was read.
-#[derive(Clone, Copy, Debug, Drop, PartialEq, Eq)]
+#[derive(Clone, Copy, Drop, PartialEq, Eq)]
 pub enum Refused {
     /// The text is no JSON, nests over 127 levels deep, or has a number that is no finite float.
     Invalid,

@@ -6,7 +6,7 @@ ghost use Rattle.spv_extended.specs.Reach as spec;
 use spv_module::Profile;
 
 /// How far a module is looked at.
-#[derive(Clone, Copy, Debug, PartialEq, Eq)]
+#[derive(Clone, Copy, PartialEq, Eq)]
 pub enum Reach {
     /// As far as the profile asks: of an extended instruction up to its number.
     Profile,

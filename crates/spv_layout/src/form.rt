@@ -2,7 +2,7 @@ use crate::class::Class;
 use spv_module::Profile;
 
 /// What an id is used as by an operand (own; SPIR-V Specification 1.6, section 3).
-#[derive(Clone, Copy, Debug, PartialEq, Eq)]
+#[derive(Clone, Copy, PartialEq, Eq)]
 pub enum Role {
     /// The type of a result, or a type that another type or an OpFunction names.
     OfType,

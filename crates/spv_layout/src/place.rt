@@ -10,7 +10,7 @@ use crate::span::number;
 use spv_module::{Inst, Operand};
 
 /// Where an instruction stands.
-#[derive(Clone, Copy, Debug, PartialEq, Eq)]
+#[derive(Clone, Copy, PartialEq, Eq)]
 pub struct Place {
     /// The place of its section's row: 1 to 6, 7a, 7b and 7c as 7 to 9, and 8 to 11 as 10 to 13.
     pub section: u8,

@@ -5,7 +5,7 @@ use std::alloc::{AllocError, AllocFailed};
 /// A rule of the profile, by its code: I of single instructions, P of the profile, L of layout, D of ids, Y, C, M and E
 /// of types and declarations, F and A of flow, G of calls. They stand in the order in which they are told: by stage,
 /// and within a stage at one instruction. The numbers in brackets are sections of the Khronos SPIR-V Specification 1.6.
-#[derive(Clone, Copy, Debug, PartialEq, Eq)]
+#[derive(Clone, Copy, PartialEq, Eq)]
 pub enum Rule {
     /// The first word of an instruction tells a count of 0 words. (2.3)
     I1,
@@ -96,7 +96,7 @@ pub enum Rule {
 }
 
 /// The first broken rule of a module, and where.
-#[derive(Clone, Copy, Debug, PartialEq, Eq)]
+#[derive(Clone, Copy, PartialEq, Eq)]
 pub struct Fault {
     pub rule: Rule,
     /// The number of the instruction, from 0.
@@ -106,7 +106,7 @@ pub struct Fault {
 }
 
 /// Why a layer stops.
-#[derive(Clone, Copy, Debug, PartialEq, Eq)]
+#[derive(Clone, Copy)]
 pub enum Stop {
     Fault(Fault),
     /// A growth of memory was refused.

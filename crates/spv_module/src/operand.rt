@@ -2,7 +2,7 @@
 ///
 /// It takes one word, but for a `Number`, which takes one or two, and a `Text`, which takes a word for each four octets
 /// and one more, with the rest and the zero octet. Which operands an instruction has is told by the grammar table.
-#[derive(Clone, Copy, Debug, PartialEq, Eq)]
+#[derive(Clone, Copy, Debug)]
 pub enum Operand<'a> {
     /// The id of the result's type: an operand of the kind IdResultType.
     OfType(u32),

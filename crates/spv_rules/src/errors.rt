@@ -13,7 +13,7 @@ use crate::rules::Code;
 
 /// A code that is told of what is no module: a grammar file, a text, a function that is asked for, or a
 /// module that is not encoded.
-#[derive(Clone, Copy, Debug, PartialEq, Eq)]
+#[derive(Clone, Copy, PartialEq, Eq)]
 pub enum ErrorCode {
     /// Of a grammar file.
     J1,
@@ -279,7 +279,7 @@ fn error_named(name: &str) -> Option<AnyCode>
 }
 
 /// Any code that a command prints.
-#[derive(Clone, Copy, Debug, PartialEq, Eq)]
+#[derive(Clone, Copy, PartialEq, Eq)]
 pub enum AnyCode {
     /// One of a verdict.
     Verdict(Code),

@@ -17,7 +17,7 @@ use spv_words::WordError;
 use std::alloc::{AllocError, Global};
 
 /// A code that a verdict line may have.
-#[derive(Clone, Copy, Debug, PartialEq, Eq)]
+#[derive(Clone, Copy, PartialEq, Eq)]
 pub enum Code {
     /// One of the codes on words, W1 to W9.
     Word(WordError),

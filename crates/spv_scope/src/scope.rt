@@ -8,7 +8,7 @@ use spv_extended::Reach;
 use spv_words::replace_version;
 
 /// As which version a module is read, and how far it is looked at.
-#[derive(Clone, Copy, Debug, PartialEq, Eq)]
+#[derive(Clone, Copy, PartialEq, Eq)]
 pub enum Scope {
     /// As far as the profile asks.
     Own {

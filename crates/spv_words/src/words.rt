@@ -4,7 +4,7 @@ use thiserror::Error;
 
 /// The order of the four bytes of a word. A module's order is the one in which its first word is
 /// the magic number. (2.3)
-#[derive(Clone, Copy, Debug, PartialEq, Eq)]
+#[derive(Clone, Copy, PartialEq, Eq)]
 pub enum Order {
     /// The lowest byte comes first.
     Little,
@@ -13,7 +13,7 @@ pub enum Order {
 }
 
 /// What the header of a module says after its magic number. (2.3)
-#[derive(Clone, Copy, Debug, PartialEq, Eq)]
+#[derive(Clone, Copy, PartialEq, Eq)]
 pub struct Header {
     /// Word 1, the version: 0x00010600 for version 1.6.
     pub version: u32,
