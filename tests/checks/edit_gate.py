@@ -3,6 +3,7 @@
 import os
 import re
 import shutil
+import signal
 import subprocess
 import sys
 import tempfile
@@ -86,6 +87,24 @@ def run(words, folder):
     return started.returncode, refused
 
 
+def begin_archive(folder):
+    """Begins to make the library for C beside the gate in that folder, which has the libraries that it is made of long
+    before its own end. What is printed goes to the file archive.log there."""
+    with (folder / "archive.log").open("wb") as log:
+        return subprocess.Popen([TOP / "install/archive", "--beside", folder], stdin=subprocess.DEVNULL, stdout=log,
+                                stderr=subprocess.STDOUT, start_new_session=True)
+
+
+def end_archive(folder, started, has_passed):
+    """Waits until the library for C is made, and hands on what was printed; or gives it up where the gate has failed."""
+    if has_passed:
+        started.wait()
+        print((folder / "archive.log").read_text(encoding="utf-8", errors="replace"), end="", flush=True)
+    else:
+        os.killpg(started.pid, signal.SIGKILL)
+        started.wait()
+
+
 def take_back(folder):
     """Takes what the gate left in the crates' folders out/ of a copy."""
     for made in (folder / "crates").glob("*/out"):
@@ -107,7 +126,9 @@ def gate(whole):
         with tempfile.TemporaryDirectory(prefix="spv-gate-") as room:
             folder = Path(room)
             lay_out(folder, edits)
+            archive = begin_archive(folder)
             status, refused = run(["rt", "ci"], folder)
+            end_archive(folder, archive, status == 0)
             take_back(folder)
     state.note(refused)
     return status

@@ -143,7 +143,9 @@ fn push_text<'a>(
         operands.push_reserved(Operand::Text(text));
         return Some(end - at);
     }
-    push_long(scene, operands, begin, Leaf::Text, at, end)
+    // What the call takes is put together here, since most texts are short.
+    let scene = *scene;
+    push_long(&scene, operands, begin, Leaf::Text, at, end)
 }
 
 /// Adds the operand at the front of the words from `at` up to `end`, of which there is one at least, to a list that has
@@ -192,7 +194,10 @@ pub fn push_next<'t, 'a>(
             operands.push_reserved(Operand::Mask { kind, value: first });
         }
         Leaf::Text => words = push_text(scene, operands, begin, at, end)?,
-        Leaf::ContextNumber => words = push_long(scene, operands, begin, leaf, at, end)?,
+        Leaf::ContextNumber => {
+            let scene = *scene;
+            words = push_long(&scene, operands, begin, leaf, at, end)?;
+        }
         Leaf::Nothing => return None,
     }
     Some(Pushed { words, kinds })
