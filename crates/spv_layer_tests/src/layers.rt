@@ -51,6 +51,6 @@ fn parts_of_flow(rt: HostRuntime) -> Result<(), Fail> {
     let table = Table::from_slice(rt.alloc(), PROFILE.as_bytes())?;
     let cycle = cycle_in(rt.alloc(), &table, CALL_OF_LATER_FUNCTION.words);
     drop(table);
-    assert!(rt; cycle == Ok(None));
+    assert!(rt; matches!(cycle, Ok(None)));
     Ok(())
 }

@@ -18,9 +18,9 @@ const HEADER: Header = Header {
 fn is_right(at: usize, inst: &Inst<'_>) -> bool {
     let operands = inst.operands.as_slice();
     if at == 0 {
-        inst.opcode == 128 && operands == [OfType(1), Made(2), Id(3), Id(3)].as_slice()
+        inst.opcode == 128 && matches!(operands, [OfType(1), Made(2), Id(3), Id(3)])
     } else {
-        inst.opcode == 10 && operands == [Text("abc")].as_slice()
+        inst.opcode == 10 && matches!(operands, [Text("abc")])
     }
 }
 
