@@ -1,0 +1,3 @@
+pub mod Interface
+pub mod Broken
+pub mod inner

@@ -1,0 +1,9 @@
+//! The interfaces of entry points of a kernel of OpenCL: the rule O4 (SPIR-V Specification 1.6, OpEntryPoint).
+#![tactic(auto)]
+
+mod marks;
+mod misfaced;
+mod order;
+mod used;
+
+pub use misfaced::first_misfaced;
