@@ -1,2 +1,6 @@
 -- Definitions that serve the code alone.
 pub mod First
+pub mod Wanted
+pub mod Uses
+pub mod Marks
+pub mod Entries

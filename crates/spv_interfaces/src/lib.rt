@@ -1,8 +1,11 @@
 //! The interfaces of entry points of a kernel of OpenCL: the rule O4 (SPIR-V Specification 1.6, OpEntryPoint).
 #![tactic(auto)]
 
+mod classes;
+mod entries;
 mod marks;
 mod misfaced;
+mod named;
 mod order;
 mod used;
 

@@ -1,23 +1,25 @@
 //! The variables that definitions use.
 
-use spv_ids::{argument_id, used_id};
-use spv_module::{Inst, Operand, opcode};
-use spv_type_forms::{Definitions, Form};
+ghost use Rattle.std.specs.Prelude.{◌≡◌, ◌+◌, ◌↔◌, ◌⊎◌, ◌≤◌, ◌<◌, ℕ, false, length, slice_get, IfOk, IsTrue, MatchOption, OnOk};
+ghost use Rattle.std.specs.Prelude.{◌∷◌, [], Some};
+ghost use Rattle.spv_table.specs.Table.{Table};
+ghost use Rattle.spv_module.specs.Module.{plain_inst};
+ghost use Rattle.spv_layout.specs.declared.class.Class.TheVariants.{Function};
+ghost use Rattle.spv_layout.specs.declared.form.Role as declared;
+ghost use Rattle.spv_layout.specs.Place.{IsAt};
+ghost use Rattle.spv_layout.specs.Shape.{FitsShape, IsUse};
+ghost use Rattle.spv_type_forms.specs.Definitions.{IsGlobal};
+ghost use Rattle.spv_interfaces.specs.inner.Uses.{AddsUses, AreNoted, AreUses, Fit, IsInDefinition, IsVariable, UsesBefore};
+
+use crate::classes::is_wanted;
+use spv_flow::walks::use_id;
+use spv_layout::{id_at, role};
+use spv_module::{Inst, opcode};
+use spv_type_forms::{DECLARATIONS, Definitions};
 use std::alloc::{AllocError, Global};
 
 /// The number of section 11 among the sections.
 const DEFINITIONS: u8 = 13;
-
-/// Stands for no instruction.
-const NOWHERE: u32 = u32::MAX;
-
-/// The storage classes Input and Output.
-const INPUT: u32 = 1;
-
-const OUTPUT: u32 = 3;
-
-/// From this minor version on an interface has all variables that are used.
-pub const OF_ALL: u8 = 4;
 
 /// A use of a variable in a definition.
 #[derive(Clone, Copy)]
@@ -28,140 +30,202 @@ pub struct Use {
     pub variable: u32,
 }
 
-/// The storage class of a pointer, by its type.
-pub fn class_of(definitions: &Definitions, x: u32) -> Option<u32> {
-    match definitions.form(definitions.type_of(x)?)? {
-        Form::Pointer { class, .. } => Some(class),
-        _ => None,
+/// The id that operand `n` of an instruction uses, in whatever role, if it does.
+fn used(inst: &Inst<'_>, n: usize) -> Option<u32>
+    ensures { (G : Table) → FitsShape G (plain_inst inst.now)
+        → MatchOption result ((x : ℕ) (r : declared.Role) → ¬ (IsUse G (plain_inst inst.now) n x r))
+        (λ x. (r : declared.Role) × IsUse G (plain_inst inst.now) n x r) }
+{
+    if inst.opcode != opcode::EXT_INST {
+        // Each id but a result is a use.
+        return use_id(inst, n);
+    }
+    match role(inst, n) {
+        Some(_) => id_at(inst, n),
+        None => None,
     }
 }
 
-/// Whether a storage class is Input or Output.
-pub fn is_outside(class: u32) -> bool {
-    class == INPUT || class == OUTPUT
-}
-
-/// Whether a variable that is used has to be in the interface.
-fn is_wanted(definitions: &Definitions, minor: u8, x: u32) -> bool {
-    if !definitions.is_global(x) {
+/// Whether an instruction is an OpVariable of section 9.
+fn is_variable(definitions: &Definitions, number: u32) -> bool
+    requires { number < length definitions.now }
+    ensures { result ≡ false → (x : ℕ) (g : IsGlobal definitions.now x) → ¬ (g.place ≡ number) }
+{
+    if definitions.inst(number).opcode != opcode::VARIABLE {
         return false;
     }
-    if minor >= OF_ALL {
-        return true;
-    }
-    match class_of(definitions, x) {
-        Some(class) => is_outside(class),
-        None => false,
-    }
+    definitions.place(number).section == DECLARATIONS
 }
 
-/// The id of an OpVariable.
-fn variable_in(inst: &Inst<'_>) -> Option<u32> {
-    if inst.opcode != opcode::VARIABLE {
-        return None;
-    }
-    match inst.operands.as_slice() {
-        [Operand::OfType(_), Operand::Result(x), ..] => Some(*x),
-        _ => None,
-    }
-}
-
-/// Of each of the first `count` instructions whether it is a variable that has to be in the interface where it is used;
-/// None where none is.
-pub fn wanted(
-    alloc: Global,
-    definitions: &Definitions,
-    minor: u8,
-    count: u32,
-) -> Result<Option<Vec<bool>>, AllocError> {
-    let mut marks = vec![in alloc; false; count as usize]?;
-    let mut is_one = false;
-    for number in 0..count {
-        if let Some(x) = variable_in(definitions.inst(number)) {
-            if is_wanted(definitions, minor, x) {
-                marks[number as usize] = true;
-                is_one = true;
-            }
+/// Whether there is a variable. There are `total` instructions.
+pub fn has_variable(definitions: &Definitions, total: u32) -> bool
+    requires { total ≡ length definitions.now }
+    ensures { result ≡ false → (x : ℕ) → ¬ (IsGlobal definitions.now x) }
+{
+    for number in 0..total {
+        if is_variable(definitions, number) {
+            return true;
         }
     }
-    if is_one { Ok(Some(marks)) } else { Ok(None) }
+    false
 }
 
-/// The id that the operand of a place uses.
-#[inline(always)]
-fn used_at(inst: &Inst<'_>, place: usize, operand: Operand<'_>) -> Option<u32> {
-    if inst.opcode == opcode::EXT_INST && place >= 4 {
-        argument_id(operand)
+/// The definition that an instruction is in.
+fn definition_of(definitions: &Definitions, number: u32) -> Option<u32>
+    requires { number < length definitions.now }
+    ensures { MatchOption result ((f : ℕ) → ¬ (IsInDefinition definitions.now number f))
+        (IsInDefinition definitions.now number) }
+{
+    let Some(function) = definitions.place(number).function else {
+        return None;
+    };
+    if definitions.place(function).section == DEFINITIONS {
+        Some(function)
     } else {
-        used_id(operand)
+        None
+    }
+}
+
+/// Whether it is noted that the use of a variable that was noted last is one in this definition.
+#[inline(always)]
+fn is_noted(last: &[Option<u32>], function: u32, variable: u32) -> bool
+    ensures { IsTrue result → slice_get last.now variable ≡ Some (Some function) }
+{
+    match last.get(variable as usize) {
+        Some(Some(other)) => *other == function,
+        _ => false,
+    }
+}
+
+/// Notes that a variable was used last in this definition.
+#[inline(always)]
+fn put_last(last: &mut Vec<Option<u32>>, function: u32, variable: u32)
+    ensures { (v f : ℕ) → slice_get last.new.items v ≡ Some (Some f)
+        → (slice_get last.old.items v ≡ Some (Some f)) ⊎ ((v ≡ variable) × (f ≡ function)) }
+{
+    let at = variable as usize;
+    if at < last.len() {
+        last[at] = Some(function);
     }
 }
 
 /// What is gathered of uses.
 #[derive(Drop)]
 struct Uses {
-    /// The variables that are looked for.
-    wanted: Vec<bool>,
-    /// At each of them the OpFunction of the definition whose use of it was noted last, or `NOWHERE`.
-    last: Vec<u32>,
+    /// At each variable the OpFunction of the definition whose use of it was noted last.
+    last: Vec<Option<u32>>,
     found: Vec<Use>,
 }
 
 impl Uses {
-    /// Takes note that a definition uses what an instruction defines.
+    /// Takes note that a definition uses a variable.
     #[inline(always)]
-    fn note(&mut self, function: u32, variable: u32) -> Result<(), AllocError> {
-        let at = variable as usize;
-        if at < self.wanted.len() && self.wanted[at] && self.last[at] != function {
-            self.last[at] = function;
-            self.found.push(Use { function, variable })?;
+    fn note(&mut self, function: u32, variable: u32) -> Result<(), AllocError>
+        requires { AreNoted self.old.last.items self.old.found.items }
+        ensures noted { OnOk result (AreNoted self.new.last.items self.new.found.items) }
+        ensures added { OnOk result (AddsUses (λ f v. (f ≡ function) × (v ≡ variable))
+            self.old.found.items self.new.found.items) }
+    {
+        if is_noted(self.last.as_slice(), function, variable) {
+            return Ok(());
         }
+        self.found.push(Use { function, variable })?;
+        put_last(&mut self.last, function, variable);
+        Ok(())
+    }
+
+    /// Takes note that a definition uses an id.
+    #[inline(always)]
+    fn note_id(
+        &mut self,
+        definitions: &Definitions,
+        minor: u8,
+        function: u32,
+        x: u32,
+    ) -> Result<(), AllocError>
+        requires { AreNoted self.old.last.items self.old.found.items }
+        ensures noted { OnOk result (AreNoted self.new.last.items self.new.found.items) }
+        ensures added { OnOk result (AddsUses (λ f v. (f ≡ function) × IsVariable minor definitions.now x v)
+            self.old.found.items self.new.found.items) }
+    {
+        let Some(variable) = definitions.number(x) else {
+            return Ok(());
+        };
+        if !is_wanted(definitions, minor, x) {
+            return Ok(());
+        }
+        self.note(function, variable)?;
         Ok(())
     }
 
     /// Takes note of what an instruction of a definition uses.
-    #[inline(always)]
     fn note_all(
         &mut self,
         definitions: &Definitions,
+        minor: u8,
         function: u32,
         inst: &Inst<'_>,
-    ) -> Result<(), AllocError> {
-        for (at, operand) in inst.operands.as_slice().iter().enumerate() {
-            if let Some(x) = used_at(inst, at, *operand) {
-                if let Some(variable) = definitions.number(x) {
-                    self.note(function, variable)?;
-                }
+    ) -> Result<(), AllocError>
+        requires { AreNoted self.old.last.items self.old.found.items }
+        ensures noted { OnOk result (AreNoted self.new.last.items self.new.found.items) }
+        ensures added { OnOk result ((G : Table) → FitsShape G (plain_inst inst.now)
+            → AddsUses (λ f v. (f ≡ function)
+            × UsesBefore G minor definitions.now (plain_inst inst.now) (length (plain_inst inst.now).operands) v)
+            self.old.found.items self.new.found.items) }
+    {
+        for at in 0..inst.operands.as_slice().len() {
+            if let Some(x) = used(inst, at) {
+                self.note_id(definitions, minor, function, x)?;
             }
         }
         Ok(())
     }
+
+    /// Takes note of what an instruction uses, if it is in a definition.
+    fn note_at(
+        &mut self,
+        definitions: &Definitions,
+        minor: u8,
+        number: u32,
+    ) -> Result<(), AllocError>
+        requires number { number < length definitions.now }
+        requires noted { AreNoted self.old.last.items self.old.found.items }
+        ensures noted { OnOk result (AreNoted self.new.last.items self.new.found.items) }
+        ensures added { OnOk result ((G : Table) → Fit G definitions.now
+            → AreUses G minor definitions.now number self.old.found.items
+            → AreUses G minor definitions.now (number + 1) self.new.found.items) }
+    {
+        let Some(function) = definition_of(definitions, number) else {
+            return Ok(());
+        };
+        self.note_all(definitions, minor, function, definitions.inst(number))?;
+        Ok(())
+    }
 }
 
-/// The uses of these variables in definitions, by the instructions from one on to another. Of each definition and
-/// variable there is one.
+/// The uses of variables that have to be in the interface, by the instructions from one on to the last: `total` is how
+/// many there are. Of each definition and variable there is one.
 ///
 /// Time is linear in the words of these instructions. An `AllocError` comes only where a growth of memory was refused.
 pub fn uses_of(
     alloc: Global,
     definitions: &Definitions,
-    wanted: Vec<bool>,
+    minor: u8,
     from: u32,
-    to: u32,
-) -> Result<Vec<Use>, AllocError> {
-    let last = vec![in alloc; NOWHERE; wanted.len()]?;
+    total: u32,
+) -> Result<Vec<Use>, AllocError>
+    requires total { total ≡ length definitions.now }
+    requires from { from ≤ total }
+    requires before { (n : ℕ) → n < from → ¬ (IsAt definitions.now n (Function ∷ [])) }
+    ensures { IfOk result (λ uses. (G : Table) → Fit G definitions.now
+        → AreUses G minor definitions.now total uses.items) }
+{
     let mut uses = Uses {
-        wanted,
-        last,
+        last: vec![in alloc; None; from as usize]?,
         found: Vec::new(alloc),
     };
-    for number in from..to {
-        let place = definitions.place(number);
-        if let Some(function) = place.function {
-            if place.section == DEFINITIONS {
-                uses.note_all(definitions, function, definitions.inst(number))?;
-            }
-        }
+    for number in from..total {
+        uses.note_at(definitions, minor, number)?;
     }
     Ok(uses.found)
 }

@@ -1,0 +1,4 @@
+pub mod Bits
+pub mod Marking
+pub mod Placing
+pub mod Using

@@ -1,0 +1,110 @@
+//! Entry points, and what is wrong with an interface by what is in it.
+
+ghost use Rattle.std.specs.Prelude.{◌≡◌, ◌↔◌, ◌⊎◌, ◌≤◌, ◌<◌, ℕ, IfOk, IsTrue, OnOk, length, not, option_map};
+ghost use Rattle.std.specs.BTreeSet.{contains};
+ghost use Rattle.std.specs.Ordering.{nat_cmp};
+ghost use Rattle.spv_module.specs.Module.{plain_inst, plain_operands};
+ghost use Rattle.spv_interfaces.specs.Interface.{IsTwiceIn, faced_by};
+ghost use Rattle.spv_interfaces.specs.inner.Entries.{AreUpTo, HasInner, IsUnsound};
+
+use crate::classes::{OF_ALL, is_inner};
+use spv_module::{Inst, Operand, opcode};
+use spv_type_forms::Definitions;
+use std::alloc::{AllocError, Global};
+use std::collections::BTreeSet;
+
+/// The function and the interface of an OpEntryPoint.
+pub fn entry<'m, 'a>(inst: &'m Inst<'a>) -> Option<(u32, &'m [Operand<'a>])>
+    ensures { option_map (λ p. (p.0, plain_operands p.1.now)) result ≡ faced_by (plain_inst inst.now) }
+{
+    if inst.opcode != opcode::ENTRY_POINT {
+        return None;
+    }
+    match inst.operands.as_slice() {
+        [
+            Operand::Value { .. },
+            Operand::Id(f),
+            Operand::Text(_),
+            interface @ ..,
+        ] => Some((*f, interface)),
+        _ => None,
+    }
+}
+
+/// Puts an id into a set; whether it was not there before.
+fn put(seen: &mut BTreeSet<u32>, x: u32) -> Result<bool, AllocError>
+    ensures fresh { IfOk result (λ fresh. fresh ≡ not (contains nat_cmp seen.old x)) }
+    ensures kept { OnOk result ((y : ℕ) → IsTrue (contains nat_cmp seen.new y)
+        ↔ (IsTrue (contains nat_cmp seen.old y) ⊎ (y ≡ x))) }
+{
+    Ok(seen.insert(x)?)
+}
+
+/// Whether an id stands twice in an interface.
+fn has_twice(alloc: Global, interface: &[Operand<'_>]) -> Result<bool, AllocError>
+    ensures { IfOk result (λ yes. IsTrue yes ↔ ((x : ℕ) × IsTwiceIn (plain_operands interface.now) x)) }
+{
+    let mut seen = BTreeSet::new(alloc);
+    for operand in interface {
+        if let Operand::Id(x) = operand {
+            if !put(&mut seen, *x)? {
+                return Ok(true);
+            }
+        }
+    }
+    Ok(false)
+}
+
+/// Whether a variable in an interface is neither of Input nor of Output.
+fn has_inner(definitions: &Definitions, interface: &[Operand<'_>]) -> bool
+    ensures { IsTrue result ↔ HasInner definitions.now (plain_operands interface.now) }
+{
+    for operand in interface {
+        if let Operand::Id(x) = operand {
+            if is_inner(definitions, *x) {
+                return true;
+            }
+        }
+    }
+    false
+}
+
+/// Whether an interface breaks O4 by what is in it.
+fn is_unsound(
+    alloc: Global,
+    definitions: &Definitions,
+    minor: u8,
+    interface: &[Operand<'_>],
+) -> Result<bool, AllocError>
+    ensures { IfOk result (λ yes. IsTrue yes
+        ↔ IsUnsound minor definitions.now (plain_operands interface.now)) }
+{
+    if minor >= OF_ALL {
+        has_twice(alloc, interface)
+    } else {
+        Ok(has_inner(definitions, interface))
+    }
+}
+
+/// The OpEntryPoints, in order, up to the first that breaks O4 by what is in its interface; and that one. There are
+/// `total` instructions.
+pub fn entry_points(
+    alloc: Global,
+    definitions: &Definitions,
+    minor: u8,
+    total: u32,
+) -> Result<(Vec<u32>, Option<u32>), AllocError>
+    requires { total ≡ length definitions.now }
+    ensures { IfOk result (λ r. AreUpTo minor definitions.now r.0.items r.1) }
+{
+    let mut entries = Vec::new(alloc);
+    for number in 0..total {
+        if let Some((_, interface)) = entry(definitions.inst(number)) {
+            if is_unsound(alloc, definitions, minor, interface)? {
+                return Ok((entries, Some(number)));
+            }
+            entries.push(number)?;
+        }
+    }
+    Ok((entries, None))
+}
