@@ -46,9 +46,9 @@ none_of_zero k h = no_one (bit_at 0 k) (bit_at-zero k) h.bit
 pub or_told : (a b k : ℕ) → HasBit (bit_or a b) k → HasBit a k ⊎ HasBit b k
 or_told a b k h = elim (one_of_max (bit_at a k) (bit_at b k) (bit_at (bit_or a b) k) (bit_at_or a b k)
     (bit_at-lt a k) h.bit) [
-  | inl e ↦ inl (record { bit = e })
-  | inr e ↦ inr (record { bit = e })
-]
+      | inl e ↦ inl (record { bit = e })
+      | inr e ↦ inr (record { bit = e })
+    ]
 
 pub or_left : (a b k : ℕ) → HasBit a k → HasBit (bit_or a b) k
 or_left a b k h = record {

@@ -74,6 +74,7 @@ set_rises words number w bits l e = record {
 } where
   at_most : (a b c d : ℕ) → a ≡ b → d ≡ c → b ≤ c → a ≤ d
   at_most a b c d p q r = omega arith
+
   same_most : (a d : ℕ) → d ≡ a → a ≤ d
   same_most a d p = omega arith
 

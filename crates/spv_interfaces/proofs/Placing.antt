@@ -65,7 +65,6 @@ last_itself is n f l =
       last = λ k p q h. absurd (omega (arith, p, q));
     }
 
-
 -- the class of an OpFunction
 class_there : (o : Option Class) → IsSomeAnd o (λ c. IsTrue (is_among c (Function ∷ [])))
     → (c : Class) × (o ≡ Some c) × (is_among c (Function ∷ []) ≡ true)
@@ -108,4 +107,3 @@ by_none is n never g d = never g d.of
 -- an instruction of a function stands behind its OpFunction
 pub function_below : (is : List PlainInst) (n f : ℕ) → IsOfFunction is n f → f ≤ n
 function_below is n f of = of.begun.up_to
-

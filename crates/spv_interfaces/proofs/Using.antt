@@ -1,8 +1,8 @@
 -- Uses of variables, as they are gathered.
-use Rattle.std.proofs.Common.{◌≡◌, ◌<◌, ◌≤◌, ◌+◌, ◌++◌, ◌∙◌, ◌⊎◌, ◌↔◌, inl, inr, ℕ, zero, suc, List, [], ◌∷◌, Bool, true, false, Option, Some, None, refl, sym, ap, subst, arith, length, replicate, IsTrue}
+use Rattle.std.proofs.Common.{◌≡◌, ◌<◌, ◌≤◌, ◌+◌, ◌++◌, ◌∙◌, ◌⊎◌, ◌↔◌, inl, inr, ℕ, zero, suc, List, [], ◌∷◌, Bool, true, false, Option, Some, None, refl, sym, ap, subst, arith, length}
 use Rattle.std.specs.Prelude.{slice_get, slice_set, MatchOption}
 use Rattle.std.proofs.lemmas.Bool.{cases_lt}
-use Rattle.std.proofs.lemmas.Option.{same_Some, slice_get_within}
+use Rattle.std.proofs.lemmas.Option.{none-some, slice_get_within}
 use Rattle.spv_table.specs.Table.{Table}
 use Rattle.spv_module.specs.Operand.{PlainInst}
 use Rattle.spv_layout.specs.declared.class.Class.TheVariants.{Function}
@@ -99,12 +99,16 @@ put_set (o ∷ os) g (suc w) (suc v) f h = elim (put_set os g w v f h) [
 ]
 
 -- at first nothing is noted
-pub none_noted : (n : ℕ) (uses : List Use) → AreNoted (replicate n None) uses
-none_noted n uses = record { each = λ v f h. absurd (none_there n v f h) } where
-  none_there : (n v f : ℕ) → slice_get (replicate n None) v ≡ Some (Some f) → ⊥
-  none_there zero v f h = cc
-  none_there (suc n) zero f h = cc
-  none_there (suc n) (suc v) f h = none_there n v f h
+pub none_noted : (uses : List Use) → AreNoted [] uses
+none_noted uses = record { each = λ v f h. cc }
+
+pub none_more : (last : List (Option ℕ)) (uses : List Use) → AreNoted last uses → AreNoted (last ++ None ∷ []) uses
+none_more last uses noted = record {
+  each = λ v f h. elim (pushed_cases last None v (Some f) h) [
+    | inl o ↦ noted.each v f o
+    | inr e ↦ absurd (none-some f e.1)
+  ];
+}
 
 -- Nothing is added, or by other words.
 pub adds_none : (P : ℕ → ℕ → Type 0) (uses : List Use) → ((f v : ℕ) → ¬ (P f v)) → AddsUses P uses uses
@@ -232,15 +236,17 @@ pub used_all : (G : Table) (minor : ℕ) (is : List PlainInst) (inst : PlainInst
 used_all G minor is inst g i n first old le e a =
     adds_same (Used G minor is inst g i) (Used G minor is inst g n) first old
     (λ f v p.
-        let w = use_within G inst p.1.operand p.1.id p.1.role p.1.used in
-        (p.0, record {
-          operand = p.1.operand;
-          below = omega (arith, w, e);
-          id = p.1.id;
-          role = p.1.role;
-          used = p.1.used;
-          variable = p.1.variable;
-        }))
+    let w = use_within G inst p.1.operand p.1.id p.1.role p.1.used in (
+      p.0,
+      record {
+        operand = p.1.operand;
+        below = omega (arith, w, e);
+        id = p.1.id;
+        role = p.1.role;
+        used = p.1.used;
+        variable = p.1.variable;
+      },
+    ))
     (λ f v p. (p.0, later G minor is inst n i v (omega (arith, e, le)) p.1)) a
 
 -- The instructions, one after another.

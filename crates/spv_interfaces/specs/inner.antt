@@ -4,3 +4,4 @@ pub mod Wanted
 pub mod Uses
 pub mod Marks
 pub mod Entries
+pub mod Cleared

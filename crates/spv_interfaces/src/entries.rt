@@ -1,11 +1,13 @@
 //! Entry points, and what is wrong with an interface by what is in it.
 
-ghost use Rattle.std.specs.Prelude.{◌≡◌, ◌↔◌, ◌⊎◌, ◌≤◌, ◌<◌, ℕ, IfOk, IsTrue, OnOk, length, not, option_map};
+ghost use Rattle.std.specs.Prelude.{◌≡◌, ◌↔◌, ◌⊎◌, ◌≤◌, ◌<◌, ℕ, List, IfOk, IsTrue, MatchOption, OnOk, length, not};
+ghost use Rattle.std.specs.Prelude.{option_map};
 ghost use Rattle.std.specs.BTreeSet.{contains};
 ghost use Rattle.std.specs.Ordering.{nat_cmp};
-ghost use Rattle.spv_module.specs.Module.{plain_inst, plain_operands};
+ghost use Rattle.spv_module.specs.Module.{plain_inst, plain_operand, plain_operands};
+ghost use Rattle.spv_module.specs.Operand.{Plain};
 ghost use Rattle.spv_interfaces.specs.Interface.{IsTwiceIn, faced_by};
-ghost use Rattle.spv_interfaces.specs.inner.Entries.{AreUpTo, HasInner, IsUnsound};
+ghost use Rattle.spv_interfaces.specs.inner.Entries.{AreUpTo, HasInner, IsEntry, IsUnsound, IsUnsoundAt, face_id};
 
 use crate::classes::{OF_ALL, is_inner};
 use spv_module::{Inst, Operand, opcode};
@@ -31,6 +33,17 @@ pub fn entry<'m, 'a>(inst: &'m Inst<'a>) -> Option<(u32, &'m [Operand<'a>])>
     }
 }
 
+/// The id that an operand of an interface is.
+#[inline(always)]
+pub fn id_of(operand: Operand<'_>) -> Option<u32>
+    ensures { result ≡ face_id (plain_operand operand.entry) }
+{
+    match operand {
+        Operand::Id(x) => Some(x),
+        _ => None,
+    }
+}
+
 /// Puts an id into a set; whether it was not there before.
 fn put(seen: &mut BTreeSet<u32>, x: u32) -> Result<bool, AllocError>
     ensures fresh { IfOk result (λ fresh. fresh ≡ not (contains nat_cmp seen.old x)) }
@@ -46,8 +59,9 @@ fn has_twice(alloc: Global, interface: &[Operand<'_>]) -> Result<bool, AllocErro
 {
     let mut seen = BTreeSet::new(alloc);
     for operand in interface {
-        if let Operand::Id(x) = operand {
-            if !put(&mut seen, *x)? {
+        if let Some(x) = id_of(*operand) {
+            let fresh = put(&mut seen, x)?;
+            if !fresh {
                 return Ok(true);
             }
         }
@@ -60,8 +74,8 @@ fn has_inner(definitions: &Definitions, interface: &[Operand<'_>]) -> bool
     ensures { IsTrue result ↔ HasInner definitions.now (plain_operands interface.now) }
 {
     for operand in interface {
-        if let Operand::Id(x) = operand {
-            if is_inner(definitions, *x) {
+        if let Some(x) = id_of(*operand) {
+            if is_inner(definitions, x) {
                 return true;
             }
         }
@@ -80,10 +94,29 @@ fn is_unsound(
         ↔ IsUnsound minor definitions.now (plain_operands interface.now)) }
 {
     if minor >= OF_ALL {
-        has_twice(alloc, interface)
+        Ok(has_twice(alloc, interface)?)
     } else {
         Ok(has_inner(definitions, interface))
     }
+}
+
+/// Whether an OpEntryPoint breaks O4 by what is in its interface; None of another instruction.
+fn judged(
+    alloc: Global,
+    definitions: &Definitions,
+    minor: u8,
+    number: u32,
+) -> Result<Option<bool>, AllocError>
+    requires { number < length definitions.now }
+    ensures { IfOk result (λ o. MatchOption o
+        ((f : ℕ) (os : List Plain) → ¬ (IsEntry definitions.now number f os))
+        (λ unsound. IsTrue unsound ↔ IsUnsoundAt minor definitions.now number)) }
+{
+    let Some((_, interface)) = entry(definitions.inst(number)) else {
+        return Ok(None);
+    };
+    let unsound = is_unsound(alloc, definitions, minor, interface)?;
+    Ok(Some(unsound))
 }
 
 /// The OpEntryPoints, in order, up to the first that breaks O4 by what is in its interface; and that one. There are
@@ -99,8 +132,8 @@ pub fn entry_points(
 {
     let mut entries = Vec::new(alloc);
     for number in 0..total {
-        if let Some((_, interface)) = entry(definitions.inst(number)) {
-            if is_unsound(alloc, definitions, minor, interface)? {
+        if let Some(unsound) = judged(alloc, definitions, minor, number)? {
+            if unsound {
                 return Ok((entries, Some(number)));
             }
             entries.push(number)?;

@@ -2,7 +2,9 @@
 #![tactic(auto)]
 
 mod classes;
+mod cleared;
 mod entries;
+pub mod laws;
 mod marks;
 mod misfaced;
 mod named;

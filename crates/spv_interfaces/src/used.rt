@@ -109,6 +109,17 @@ fn put_last(last: &mut Vec<Option<u32>>, function: u32, variable: u32)
     }
 }
 
+/// Nothing noted of so many instructions.
+fn nothing_noted(alloc: Global, count: u32) -> Result<Vec<Option<u32>>, AllocError>
+    ensures { IfOk result (λ last. AreNoted last.items []) }
+{
+    let mut last = Vec::with_capacity(alloc, count as usize)?;
+    for _ in 0..count {
+        last.push(None)?;
+    }
+    Ok(last)
+}
+
 /// What is gathered of uses.
 #[derive(Drop)]
 struct Uses {
@@ -218,10 +229,10 @@ pub fn uses_of(
     requires from { from ≤ total }
     requires before { (n : ℕ) → n < from → ¬ (IsAt definitions.now n (Function ∷ [])) }
     ensures { IfOk result (λ uses. (G : Table) → Fit G definitions.now
-        → AreUses G minor definitions.now total uses.items) }
+        → AreUses G minor definitions.now (length definitions.now) uses.items) }
 {
     let mut uses = Uses {
-        last: vec![in alloc; None; from as usize]?,
+        last: nothing_noted(alloc, from)?,
         found: Vec::new(alloc),
     };
     for number in from..total {

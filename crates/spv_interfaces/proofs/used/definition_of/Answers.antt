@@ -2,8 +2,8 @@ use Rattle.std.proofs.Common.{arith}
 use Rattle.spv_interfaces.proofs.Placing.{by_function, by_none, by_other, function_below}
 use Rattle.spv_interfaces.proofs.used.definition_of.Goals as goal
 
-pub place-2-requires : goal.place-2-requires
-place-2-requires c =
+pub place-requires-2 : goal.place-requires-2
+place-requires-2 c =
     let of = rw c.in-Some.is at c.place.ensures.function in
     let b = function_below c.args.definitions.now c.args.number c.in-Some.function of in
     let w = c.requires in
