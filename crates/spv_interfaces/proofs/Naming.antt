@@ -1,5 +1,5 @@
 -- The marks of entry points, and what they tell.
-use Rattle.std.proofs.Common.{◌≡◌, ◌<◌, ◌≤◌, ◌+◌, ◌-◌, ◌^◌, ◌∙◌, ◌⊎◌, ◌↔◌, inl, inr, ℕ, zero, suc, List, [], ◌∷◌, Bool, true, false, Option, Some, None, refl, sym, ap, subst, arith, length, take, drop, zero-add}
+use Rattle.std.proofs.Common.{◌≡◌, ◌<◌, ◌≤◌, ◌+◌, ◌-◌, ◌^◌, ◌∙◌, ◌⊎◌, ◌↔◌, inl, inr, ℕ, zero, suc, List, [], ◌∷◌, Bool, true, false, Option, Some, None, refl, sym, ap, subst, arith, length, length-drop, length-take, take, drop, zero-add}
 use Rattle.std.specs.Prelude.{slice_get, MatchOption}
 use Rattle.std.proofs.lemmas.Bool.{cases_lt}
 use Rattle.std.proofs.lemmas.Option.{same_Some, slice_get_within}
@@ -427,6 +427,18 @@ pub part_to : (list : List ℕ) (at n k m : ℕ) → slice_get (take n (drop at 
     → slice_get list (at + k) ≡ Some m
 part_to list at n k m h = sym (drop_get at list k) ∙ taken_to n (drop at list) k m h
 
-pub part_back : (list : List ℕ) (at n k m : ℕ) → slice_get list (at + k) ≡ Some m → k < n
-    → slice_get (take n (drop at list)) k ≡ Some m
-part_back list at n k m h l = taken_back n (drop at list) k m (drop_get at list k ∙ h) l
+taken_length : (n : ℕ) (xs : List ℕ) → length (take n xs) ≤ n
+taken_length n xs = omega (arith, length-take n xs)
+
+pub part_back : (list : List ℕ) (at n k m : ℕ) → slice_get list (at + k) ≡ Some m
+    → k < length (take n (drop at list)) → slice_get (take n (drop at list)) k ≡ Some m
+part_back list at n k m h l =
+    let w = taken_length n (drop at list) in
+    taken_back n (drop at list) k m (drop_get at list k ∙ h) (omega (arith, l, w))
+
+pub part_length : (list : List ℕ) (at to : ℕ) → at ≤ to → to ≤ length list
+    → to ≡ at + length (take (to - at) (drop at list))
+part_length list at to l m =
+    let a = length-take (to - at) (drop at list) in
+    let b = length-drop at list in
+    omega (arith, l, m, a, b)

@@ -11,6 +11,6 @@ pub returns : goal.returns
 returns c =
     let is = c.args.definitions.now in
     let os = plain_operands c.in-Some.interface.now in
-    unsound_by c.args.minor is c.args.number c.in-Some.field-0 os c.in_ok-unsound.unsound
-    (entry_here is c.args.number c.in-Some.field-0 os (plain_inst c.inst.result.now) c.inst.ensures c.in-Some.ensures)
+    unsound_by c.args.minor is c.args.number c.in-Some.field-0-0 os c.in_ok-unsound.unsound
+    (entry_here is c.args.number c.in-Some.field-0-0 os (plain_inst c.inst.result.now) c.inst.ensures c.in-Some.ensures)
     c.in_ok-unsound.ensures
