@@ -1,5 +1,5 @@
 -- Where nothing is used, nothing is unnamed.
-use Rattle.std.proofs.Common.{◌≡◌, ◌<◌, ◌≤◌, ◌∙◌, ℕ, List, [], Some, None, refl, sym, subst, length, map}
+use Rattle.std.proofs.Common.{◌≡◌, ◌<◌, ◌≤◌, ◌∙◌, ℕ, List, [], ◌∷◌, Some, None, refl, sym, subst, arith, length, map}
 use Rattle.std.specs.Prelude.{slice_get}
 use Rattle.std.proofs.lemmas.List.{length-map}
 use Rattle.spv_table.specs.Table.{Table}
@@ -56,3 +56,12 @@ calls_by is insts calls e a =
     let P : List PlainInst → Type 0 = λ js. AreCalls js (length insts) calls in
     let Q : ℕ → Type 0 = λ n. AreCalls is n calls in
     subst Q (sym l) (subst P (sym e) a)
+
+-- a list of no length
+pub no_items : (uses : List Use) → length uses ≡ 0 → uses ≡ []
+no_items [] e = refl
+no_items (u ∷ us) e = absurd (omega (arith, e))
+
+pub no_numbers : (list : List ℕ) → length list ≡ 0 → list ≡ []
+no_numbers [] e = refl
+no_numbers (n ∷ ns) e = absurd (omega (arith, e))

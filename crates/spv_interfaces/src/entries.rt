@@ -119,6 +119,15 @@ fn judged(
     Ok(Some(unsound))
 }
 
+/// What is known of the OpEntryPoints once the interface of each is looked at.
+#[derive(Drop)]
+pub struct EntryPoints {
+    /// The numbers of those up to the first that breaks O4 by what is in its interface.
+    pub sound: Vec<u32>,
+    /// The number of that one.
+    pub unsound: Option<u32>,
+}
+
 /// The OpEntryPoints, in order, up to the first that breaks O4 by what is in its interface; and that one. There are
 /// `total` instructions.
 pub fn entry_points(
@@ -126,18 +135,24 @@ pub fn entry_points(
     definitions: &Definitions,
     minor: u8,
     total: u32,
-) -> Result<(Vec<u32>, Option<u32>), AllocError>
+) -> Result<EntryPoints, AllocError>
     requires { total ≡ length definitions.now }
-    ensures { IfOk result (λ r. AreUpTo minor definitions.now r.0.items r.1) }
+    ensures { IfOk result (λ found. AreUpTo minor definitions.now found.sound.items found.unsound) }
 {
-    let mut entries = Vec::new(alloc);
+    let mut sound = Vec::new(alloc);
     for number in 0..total {
         if let Some(unsound) = judged(alloc, definitions, minor, number)? {
             if unsound {
-                return Ok((entries, Some(number)));
+                return Ok(EntryPoints {
+                    sound,
+                    unsound: Some(number),
+                });
             }
-            entries.push(number)?;
+            sound.push(number)?;
         }
     }
-    Ok((entries, None))
+    Ok(EntryPoints {
+        sound,
+        unsound: None,
+    })
 }

@@ -42,9 +42,9 @@ pub fn first_misfaced(
         → IfOk result (IsFirstOf (IsMisfaced G minor definitions.now)) }
 {
     let total = insts.len() as u32;
-    let (entries, unsound) = entry_points(alloc, definitions, minor, total)?;
-    if entries.is_empty() {
-        return Ok(unsound);
+    let found = entry_points(alloc, definitions, minor, total)?;
+    if found.sound.is_empty() {
+        return Ok(found.unsound);
     }
     let unnamed = first_unnamed(
         alloc,
@@ -53,10 +53,10 @@ pub fn first_misfaced(
         plan,
         ids,
         minor,
-        entries.as_slice(),
+        found.sound.as_slice(),
     )?;
     match unnamed {
         Some(number) => Ok(Some(number)),
-        None => Ok(unsound),
+        None => Ok(found.unsound),
     }
 }
