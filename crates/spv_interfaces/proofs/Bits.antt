@@ -1,5 +1,5 @@
 -- Bits of words.
-use Rattle.std.proofs.Common.{◌≡◌, ◌≢◌, ◌<◌, ◌≤◌, ◌-◌, ◌/◌, ◌^◌, ◌∙◌, ◌⊎◌, ◌↔◌, inl, inr, ℕ, Bool, true, false, not, nat_eq, bit_and, bit_or, w64, refl, sym, ap, arith, subst, IsTrue, min, max}
+use Rattle.std.proofs.Common.{◌≡◌, ◌<◌, ◌-◌, ◌/◌, ◌^◌, ◌∙◌, ◌⊎◌, ◌↔◌, inl, inr, ℕ, Bool, true, false, not, nat_eq, bit_and, bit_or, w64, refl, sym, ap, arith, subst, IsTrue, min, max}
 use Rattle.std.specs.Int.{bit_at, trailing_zeros}
 use Rattle.std.proofs.lemmas.Bool.{cases_lt, cases_order, eqb-true, eq-eqb}
 use Rattle.std.proofs.lemmas.Nat.{and_le_l}

@@ -14,7 +14,7 @@ use Rattle.spv_flow.specs.calls.inner.Graph.{HasCall}
 use Rattle.spv_interfaces.specs.Interface.{faced_by}
 use Rattle.spv_interfaces.specs.inner.Cleared.{AreBlank, Clears, IsCalled, IsCalledBefore, IsOfOne, IsOfOneBefore}
 use Rattle.spv_interfaces.specs.inner.Entries.{Begins, IsEntered, Names, NamesBefore, NamesIn}
-use Rattle.spv_interfaces.specs.inner.Marks.{Grows, HasBit, IsMarked, word_of}
+use Rattle.spv_interfaces.specs.inner.Marks.{Grows, IsMarked, word_of}
 use Rattle.spv_interfaces.proofs.Bits.{none_of_zero}
 use Rattle.spv_interfaces.proofs.Entering.{entry_here, no_entry, same_entry}
 use Rattle.spv_interfaces.proofs.Marking.{moved, split}

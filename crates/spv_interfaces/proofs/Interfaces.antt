@@ -1,5 +1,5 @@
 -- The ids in an interface, one after another.
-use Rattle.std.proofs.Common.{◌≡◌, ◌<◌, ◌≤◌, ◌+◌, ◌∙◌, ◌⊎◌, ◌↔◌, inl, inr, ℕ, List, [], ◌∷◌, Bool, true, false, Option, Some, None, refl, sym, ap, subst, arith, length, get_or, not, IsTrue}
+use Rattle.std.proofs.Common.{◌≡◌, ◌<◌, ◌≤◌, ◌+◌, ◌∙◌, ◌⊎◌, ◌↔◌, inl, inr, ℕ, List, Bool, true, false, Some, None, refl, sym, ap, subst, arith, length, get_or, not, IsTrue}
 use Rattle.std.specs.Prelude.{slice_get, option_map}
 use Rattle.std.specs.BTreeSet.{BTreeSet, contains}
 use Rattle.std.specs.Ordering.{nat_cmp}
@@ -8,7 +8,7 @@ use Rattle.std.proofs.lemmas.Option.{slice_get-map, slice_get-get_or, slice_get_
 use Rattle.spv_module.specs.Operand.{Plain, PlainInst, Id}
 use Rattle.spv_module.specs.declared.operand.Operand.{Operand}
 use Rattle.spv_module.specs.Module.{plain_operand, plain_operands}
-use Rattle.spv_interfaces.specs.Interface.{IsNamedIn, IsOfClass, IsTwiceIn}
+use Rattle.spv_interfaces.specs.Interface.{IsOfClass, IsTwiceIn}
 use Rattle.spv_interfaces.specs.inner.Entries.{HasInner, IsUnsound, face_id}
 
 -- An operand of a list, and the id that it is.

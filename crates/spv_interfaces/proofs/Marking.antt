@@ -1,5 +1,5 @@
 -- Marks: sets of bits, and what spreads along calls.
-use Rattle.std.proofs.Common.{◌≡◌, ◌<◌, ◌≤◌, ◌+◌, ◌-◌, ◌^◌, ◌∙◌, ◌⊎◌, ◌↔◌, inl, inr, ℕ, zero, suc, List, [], ◌∷◌, Some, refl, sym, ap, subst, arith, length, bit_or, bit_and, get_or-set_same, get_or-set_other}
+use Rattle.std.proofs.Common.{◌≡◌, ◌<◌, ◌≤◌, ◌+◌, ◌-◌, ◌^◌, ◌∙◌, ◌⊎◌, ◌↔◌, inl, inr, ℕ, zero, suc, List, [], ◌∷◌, Some, refl, sym, subst, arith, length, bit_or, bit_and, get_or-set_same, get_or-set_other}
 use Rattle.std.specs.Prelude.{slice_get, slice_set}
 use Rattle.std.proofs.Math.ListN.{length-set}
 use Rattle.std.proofs.lemmas.Bool.{cases_lt, cases_order}
@@ -10,8 +10,8 @@ use Rattle.spv_flow.specs.calls.Chain.{Chain, alone, more}
 use Rattle.spv_flow.specs.calls.inner.Graph.{HasCall, AreWithin}
 use Rattle.spv_flow.proofs.lemmas.calls.Chains.{joined, keeps}
 use Rattle.spv_interfaces.specs.declared.used.Use.{Use}
-use Rattle.spv_interfaces.specs.inner.Marks.{Adds, Grows, HasBit, IsAdded, IsClosed, IsMarked, IsMissing, IsOpen, Rises, word_of}
-use Rattle.spv_interfaces.proofs.Bits.{and_both, and_left, and_right, bit_below, has_or_not, none_of_zero, not_bit, not_told, or_left, or_right, or_told}
+use Rattle.spv_interfaces.specs.inner.Marks.{Adds, Grows, HasBit, IsClosed, IsMarked, IsMissing, IsOpen, Rises, word_of}
+use Rattle.spv_interfaces.proofs.Bits.{and_both, and_left, and_right, has_or_not, none_of_zero, not_bit, not_told, or_left, or_right, or_told}
 
 -- two numbers are the same or not
 pub split : (f g : ℕ) → (f ≡ g) ⊎ (f ≡ g → ⊥)

@@ -1,5 +1,5 @@
 -- The marks of entry points, and what they tell.
-use Rattle.std.proofs.Common.{◌≡◌, ◌<◌, ◌≤◌, ◌+◌, ◌-◌, ◌^◌, ◌∙◌, ◌⊎◌, ◌↔◌, inl, inr, ℕ, zero, suc, List, [], ◌∷◌, Bool, true, false, Option, Some, None, refl, sym, ap, subst, arith, length, length-drop, length-take, take, drop, zero-add}
+use Rattle.std.proofs.Common.{◌≡◌, ◌<◌, ◌≤◌, ◌+◌, ◌-◌, ◌^◌, ◌∙◌, ◌⊎◌, ◌↔◌, inl, inr, ℕ, zero, suc, List, [], ◌∷◌, Option, Some, None, refl, sym, ap, subst, arith, length, length-drop, length-take, take, drop, zero-add}
 use Rattle.std.specs.Prelude.{slice_get, MatchOption}
 use Rattle.std.proofs.lemmas.Bool.{cases_lt}
 use Rattle.std.proofs.lemmas.Option.{same_Some, slice_get_within}
@@ -10,17 +10,16 @@ use Rattle.spv_ids.specs.Outcome.{IsOnly}
 use Rattle.spv_type_forms.specs.Definitions.{IsGlobal}
 use Rattle.spv_flow.specs.declared.calls.graph.Call.{Call}
 use Rattle.spv_flow.specs.calls.Calls.{Calls, IsCall}
-use Rattle.spv_flow.specs.calls.Chain.{Chain}
 use Rattle.spv_flow.specs.calls.inner.Found.{AreCalls}
 use Rattle.spv_flow.specs.calls.inner.Graph.{HasCall}
 use Rattle.spv_flow.proofs.lemmas.calls.Bridge.{calls_has}
 use Rattle.spv_flow.proofs.lemmas.calls.Chains.{mapped}
 use Rattle.spv_flow.proofs.lemmas.calls.Insts.{defined_within, same_inst}
 use Rattle.spv_interfaces.specs.declared.used.Use.{Use}
-use Rattle.spv_interfaces.specs.Interface.{IsInTree, IsNamedIn, faced_by}
-use Rattle.spv_interfaces.specs.inner.Entries.{Begins, IsEntered, IsEntry, IsFirstAmong, IsUnnamed, Names, NamesBefore, NamesIn}
-use Rattle.spv_interfaces.specs.inner.Marks.{Adds, Grows, HasBit, IsAdded, IsClosed, IsMarked, IsMissing}
-use Rattle.spv_interfaces.specs.inner.Uses.{AreUses, HasUse, IsUsedIn}
+use Rattle.spv_interfaces.specs.Interface.{IsNamedIn, faced_by}
+use Rattle.spv_interfaces.specs.inner.Entries.{Begins, IsEntered, IsFirstAmong, IsUnnamed, Names, NamesBefore, NamesIn}
+use Rattle.spv_interfaces.specs.inner.Marks.{Adds, Grows, HasBit, IsClosed, IsMarked, IsMissing}
+use Rattle.spv_interfaces.specs.inner.Uses.{AreUses, HasUse}
 use Rattle.spv_interfaces.specs.inner.Wanted.{IsWanted}
 use Rattle.spv_interfaces.proofs.Bits.{pow_bit, pow_told}
 use Rattle.spv_interfaces.proofs.Entering.{entry_here, no_entry, same_entry}

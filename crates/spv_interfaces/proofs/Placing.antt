@@ -1,7 +1,6 @@
 -- Variables and definitions, by where instructions stand.
-use Rattle.std.proofs.Common.{◌≡◌, ◌<◌, ◌≤◌, ◌+◌, ◌∙◌, ◌⊎◌, inl, inr, ℕ, List, [], ◌∷◌, Bool, true, false, Option, Some, None, refl, sym, ap, subst, arith, nat_eq, nat_lt, if◌then◌else◌}
-use Rattle.std.specs.Prelude.{slice_get, IsSomeAnd, IsTrue, MatchOption}
-use Rattle.std.specs.List.{list_any}
+use Rattle.std.proofs.Common.{◌≡◌, ◌≤◌, ◌+◌, ◌∙◌, ℕ, List, [], ◌∷◌, Bool, true, false, Option, Some, None, refl, sym, ap, subst, arith, nat_eq, nat_lt, if◌then◌else◌}
+use Rattle.std.specs.Prelude.{slice_get, IsSomeAnd, IsTrue}
 use Rattle.std.proofs.lemmas.Bool.{eqb-true, eq-eqb, ltb-true}
 use Rattle.spv_module.specs.declared.opcode.TheConstants as opcode
 use Rattle.spv_module.specs.Operand.{PlainInst}
@@ -9,7 +8,7 @@ use Rattle.spv_layout.specs.declared.class.Class.{Class}
 use Rattle.spv_layout.specs.declared.class.Class.TheVariants.{Function}
 use Rattle.spv_layout.specs.Class.{is_among, class_number}
 use Rattle.spv_layout.specs.Layout.{classes}
-use Rattle.spv_layout.specs.Place.{IsAt, IsDefinition, IsLast, IsOfFunction, IsOfSection, section_of}
+use Rattle.spv_layout.specs.Place.{IsDefinition, IsLast, IsOfFunction, IsOfSection, section_of}
 use Rattle.spv_layout.proofs.Places.{last_same, section_same, function_same}
 use Rattle.spv_type_forms.specs.Definitions.{IsGlobal}
 use Rattle.spv_flow.proofs.lemmas.calls.Insts.{same_inst}

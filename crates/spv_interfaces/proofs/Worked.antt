@@ -1,5 +1,5 @@
 -- The worked example.
-use Rattle.std.proofs.Common.{◌≡◌, ◌<◌, ◌≤◌, ◌∙◌, ◌⊎◌, inl, inr, ℕ, zero, suc, List, [], ◌∷◌, Some, None, refl, sym, ap, subst, arith}
+use Rattle.std.proofs.Common.{◌≡◌, ◌<◌, ◌≤◌, ◌∙◌, inl, inr, ℕ, zero, suc, List, [], ◌∷◌, Some, refl, sym, ap, subst, arith}
 use Rattle.std.specs.Prelude.{slice_get, IsSomeAnd, IsTrue}
 use Rattle.std.proofs.lemmas.Option.{same_Some, some_pair_parts}
 use Rattle.spv_table.specs.Table.{Table}
@@ -15,15 +15,14 @@ use Rattle.spv_layout.specs.Rows.{rows}
 use Rattle.spv_layout.specs.Shape.{AreOf, Ends, HasForms, IsUse}
 use Rattle.spv_layout.specs.Layout.{classes}
 use Rattle.spv_layout.specs.Place.{IsAt, IsDefinition, IsOfFunction, IsOfSection}
-use Rattle.spv_ids.specs.Definition.{IsDefinedAt}
 use Rattle.spv_type_forms.specs.Definitions.{IsGlobal}
 use Rattle.spv_flow.specs.branches.Example.{negation}
-use Rattle.spv_flow.specs.calls.Calls.{Calls, IsCall}
-use Rattle.spv_flow.specs.calls.Chain.{Chain, alone, more}
+use Rattle.spv_flow.specs.calls.Calls.{Calls}
+use Rattle.spv_flow.specs.calls.Chain.{alone, more}
 use Rattle.spv_flow.specs.calls.Example.{function, label, call, return_op, end}
 use Rattle.spv_flow.proofs.lemmas.branches.Laid.{not_at, within_by}
 use Rattle.spv_interfaces.specs.Example.{entry, faced, variable}
-use Rattle.spv_interfaces.specs.Interface.{IsInTree, IsMisfaced, IsNamedIn, IsOfClass, IsTwiceIn, IsWrong, face_in, faced_by}
+use Rattle.spv_interfaces.specs.Interface.{IsInTree, IsMisfaced, IsNamedIn, IsOfClass, IsWrong, faced_by}
 
 -- Where its instructions stand.
 abbrev laid : List Class

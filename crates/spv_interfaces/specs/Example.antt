@@ -1,5 +1,5 @@
 -- A small module, of which the operands that no rule on interfaces looks at do not matter.
-use Rattle.std.specs.Prelude.{ℕ, List, [], ◌∷◌}
+use Rattle.std.specs.Prelude.{List, [], ◌∷◌}
 use Rattle.spv_module.specs.declared.opcode.TheConstants as opcode
 use Rattle.spv_module.specs.Operand.{Plain, PlainInst, OfType, Result, Id, Value, Text}
 use Rattle.spv_flow.specs.branches.Example.{negation}

@@ -1,5 +1,5 @@
 -- The variables that have to be in the interface where they are used. (For the code alone.)
-use Rattle.std.specs.Prelude.{◌≤◌, ◌<◌, ◌≡◌, ℕ, List, Option, option_and_then}
+use Rattle.std.specs.Prelude.{◌≤◌, ◌<◌, ℕ, List, Option, option_and_then}
 use Rattle.spv_module.specs.Operand.{PlainInst}
 use Rattle.spv_module.specs.Width.{type_of}
 use Rattle.spv_type_forms.specs.Definitions.{IsGlobal}

@@ -1,4 +1,4 @@
-use Rattle.std.proofs.Common.{sym, length}
+use Rattle.std.proofs.Common.{length}
 use Rattle.spv_flow.specs.calls.inner.Graph.{AreWithin}
 use Rattle.spv_interfaces.specs.inner.Marks.{IsOpen}
 use Rattle.spv_interfaces.proofs.Marking.{grows_on, open_grows, open_less}

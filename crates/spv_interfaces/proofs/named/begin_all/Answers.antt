@@ -1,4 +1,4 @@
-use Rattle.std.proofs.Common.{◌≡◌, ◌<◌, ◌^◌, ◌∙◌, ◌↔◌, ℕ, List, sym, ap, subst, length, get_or, arith}
+use Rattle.std.proofs.Common.{◌≡◌, ◌^◌, ◌∙◌, ◌↔◌, ℕ, subst, length, get_or, arith}
 use Rattle.std.proofs.lemmas.Option.{slice_get-get_or}
 use Rattle.spv_interfaces.specs.inner.Entries.{Begins, IsEntered, Names}
 use Rattle.spv_interfaces.specs.inner.Marks.{Adds, IsMarked}

@@ -1,4 +1,4 @@
-use Rattle.std.proofs.Common.{◌≡◌, ◌≤◌, ◌+◌, ◌-◌, take, drop, length, arith}
+use Rattle.std.proofs.Common.{◌≤◌, ◌+◌, ◌-◌, take, drop, length, arith}
 use Rattle.std.proofs.lemmas.Option.{slice_get_within}
 use Rattle.spv_interfaces.specs.inner.Entries.{IsUnnamed}
 use Rattle.spv_interfaces.proofs.Naming.{first_in_part, none_in_part, part_back, part_length, part_to}

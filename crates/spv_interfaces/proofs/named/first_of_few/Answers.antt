@@ -1,4 +1,4 @@
-use Rattle.std.proofs.Common.{◌≡◌, ◌<◌, ◌∙◌, ◌↔◌, ℕ, sym, length, arith}
+use Rattle.std.proofs.Common.{◌∙◌, sym, length, arith}
 use Rattle.std.proofs.lemmas.Option.{slice_get_within}
 use Rattle.spv_flow.proofs.lemmas.calls.Bridge.{calls_within}
 use Rattle.spv_flow.proofs.lemmas.calls.Marking.{within_moved}

@@ -1,4 +1,4 @@
-use Rattle.std.proofs.Common.{◌≡◌, ◌∙◌, ℕ, List, [], ◌∷◌, map, length, sym, subst, arith, vec_len}
+use Rattle.std.proofs.Common.{◌∙◌, List, [], ◌∷◌, map, length, sym, subst, arith, vec_len}
 use Rattle.std.proofs.lemmas.Bool.{eqb-true}
 use Rattle.spv_module.specs.Module.{plain_inst}
 use Rattle.spv_module.specs.Operand.{PlainInst}

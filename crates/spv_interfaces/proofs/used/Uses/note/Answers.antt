@@ -1,4 +1,3 @@
-use Rattle.std.proofs.Common.{refl}
 use Rattle.spv_interfaces.proofs.Using.{noted_more, use_again, use_pushed}
 use Rattle.spv_interfaces.proofs.used.Uses.note.Goals as goal
 
