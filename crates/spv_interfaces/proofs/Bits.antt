@@ -1,9 +1,11 @@
 -- Bits of words.
-use Rattle.std.proofs.Common.{◌≡◌, ◌<◌, ◌-◌, ◌/◌, ◌^◌, ◌∙◌, ◌⊎◌, ◌↔◌, inl, inr, ℕ, Bool, true, false, not, nat_eq, bit_and, bit_or, w64, refl, sym, ap, arith, subst, IsTrue, min, max}
+use Rattle.std.proofs.Common.{◌≡◌, ◌<◌, ◌-◌, ◌/◌, ◌^◌, ◌∙◌, ◌⊎◌, ◌↔◌, inl, inr, ℕ, Bool, true, false, not, nat_eq}
+use Rattle.std.proofs.Common.{bit_and, bit_or, w64, refl, sym, ap, arith, subst, IsTrue, min, max}
 use Rattle.std.specs.Int.{bit_at, trailing_zeros}
 use Rattle.std.proofs.lemmas.Bool.{cases_lt, cases_order, eqb-true, eq-eqb}
 use Rattle.std.proofs.lemmas.Nat.{and_le_l}
-use Rattle.std.proofs.lemmas.Nat.Bits.{bit_at_or, bit_at_and, bit_at_not, bit_at-lt, bit_at-zero, bit_at-pow_same, bit_at-pow_other, bit_at_above, bit_at-trailing_zeros, shr_and_one}
+use Rattle.std.proofs.lemmas.Nat.Bits.{bit_at_or, bit_at_and, bit_at_not, bit_at-lt, bit_at-zero, bit_at-pow_same}
+use Rattle.std.proofs.lemmas.Nat.Bits.{bit_at-pow_other, bit_at_above, bit_at-trailing_zeros, shr_and_one}
 use Rattle.spv_interfaces.specs.inner.Marks.{HasBit}
 
 -- A bit is 0 or 1.
@@ -108,7 +110,8 @@ pub pow_told : (k j : ℕ) → HasBit (2 ^ k) j → j ≡ k
 pow_told k j h = elim (cases_order j k) [
   | inl e ↦ e
   | inr r ↦
-      let apart : j ≡ k → ⊥ = λ e. elim r [ inl a ↦ absurd (omega (arith, a, e)) | inr b ↦ absurd (omega (arith, b, e)) ] in
+      let apart : j ≡ k → ⊥ =
+      λ e. elim r [ inl a ↦ absurd (omega (arith, a, e)) | inr b ↦ absurd (omega (arith, b, e)) ] in
       absurd (no_one (bit_at (2 ^ k) j) (bit_at-pow_other k j apart) h.bit)
 ]
 

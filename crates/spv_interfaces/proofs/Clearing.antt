@@ -1,5 +1,6 @@
 -- Words from which bits are taken.
-use Rattle.std.proofs.Common.{◌≡◌, ◌<◌, ◌≤◌, ◌+◌, ◌∙◌, ◌⊎◌, ◌↔◌, inl, inr, ℕ, List, Some, None, refl, sym, subst, arith, length, get_or-set_same, get_or-set_other}
+use Rattle.std.proofs.Common.{◌≡◌, ◌<◌, ◌≤◌, ◌+◌, ◌∙◌, ◌⊎◌, ◌↔◌, inl, inr, ℕ, List, Some, None, refl, sym, subst}
+use Rattle.std.proofs.Common.{arith, length, get_or-set_same, get_or-set_other}
 use Rattle.std.specs.Prelude.{slice_get, slice_set}
 use Rattle.std.proofs.Math.ListN.{length-set}
 use Rattle.std.proofs.lemmas.Bool.{cases_lt}

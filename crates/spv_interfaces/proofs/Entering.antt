@@ -1,5 +1,6 @@
 -- The entry points, one after another; and the first that is wrong.
-use Rattle.std.proofs.Common.{◌≡◌, ◌<◌, ◌≤◌, ◌+◌, ◌++◌, ◌∙◌, ◌↔◌, inl, inr, ℕ, List, [], ◌∷◌, Bool, Option, Some, None, refl, sym, ap, subst, arith, length, IsTrue}
+use Rattle.std.proofs.Common.{◌≡◌, ◌<◌, ◌≤◌, ◌+◌, ◌++◌, ◌∙◌, ◌↔◌, inl, inr, ℕ, List, [], ◌∷◌, Bool, Option, Some}
+use Rattle.std.proofs.Common.{None, refl, sym, ap, subst, arith, length, IsTrue}
 use Rattle.std.specs.Prelude.{slice_get}
 use Rattle.std.proofs.lemmas.Bool.{cases_lt, cases_order}
 use Rattle.std.proofs.lemmas.Option.{none-some, same_Some, slice_get_within, some_pair_parts}
@@ -8,7 +9,8 @@ use Rattle.spv_module.specs.Operand.{Plain, PlainInst}
 use Rattle.spv_flow.proofs.lemmas.calls.Insts.{same_inst}
 use Rattle.spv_flow.proofs.lemmas.calls.Lists.{pushed_cases, pushed_keeps, pushed_last}
 use Rattle.spv_interfaces.specs.Interface.{IsMisfaced, IsWrong, faced_by}
-use Rattle.spv_interfaces.specs.inner.Entries.{AreSound, AreUpTo, IsEntry, IsFirstAmong, IsUnnamed, IsUnsound, IsUnsoundAt}
+use Rattle.spv_interfaces.specs.inner.Entries.{AreSound, AreUpTo, IsEntry, IsFirstAmong, IsUnnamed, IsUnsound}
+use Rattle.spv_interfaces.specs.inner.Entries.{IsUnsoundAt}
 use Rattle.spv_interfaces.specs.inner.First.{IsFirstOf}
 use Rattle.spv_interfaces.specs.inner.Wanted.{IsWanted}
 

@@ -1,5 +1,6 @@
 -- The ids in an interface, one after another.
-use Rattle.std.proofs.Common.{◌≡◌, ◌<◌, ◌≤◌, ◌+◌, ◌∙◌, ◌⊎◌, ◌↔◌, inl, inr, ℕ, List, Bool, true, false, Some, None, refl, sym, ap, subst, arith, length, get_or, not, IsTrue}
+use Rattle.std.proofs.Common.{◌≡◌, ◌<◌, ◌≤◌, ◌+◌, ◌∙◌, ◌⊎◌, ◌↔◌, inl, inr, ℕ, List, Bool, true, false, Some, None}
+use Rattle.std.proofs.Common.{refl, sym, ap, subst, arith, length, get_or, not, IsTrue}
 use Rattle.std.specs.Prelude.{slice_get, option_map}
 use Rattle.std.specs.BTreeSet.{BTreeSet, contains}
 use Rattle.std.specs.Ordering.{nat_cmp}

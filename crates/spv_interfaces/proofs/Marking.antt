@@ -1,5 +1,7 @@
 -- Marks: sets of bits, and what spreads along calls.
-use Rattle.std.proofs.Common.{◌≡◌, ◌<◌, ◌≤◌, ◌+◌, ◌-◌, ◌^◌, ◌∙◌, ◌⊎◌, ◌↔◌, inl, inr, ℕ, zero, suc, List, [], ◌∷◌, Some, refl, sym, subst, arith, length, bit_or, bit_and, get_or-set_same, get_or-set_other}
+use Rattle.std.proofs.Common.{◌≡◌, ◌<◌, ◌≤◌, ◌+◌, ◌-◌, ◌^◌, ◌∙◌, ◌⊎◌, ◌↔◌, inl, inr, ℕ, zero, suc, List, [], ◌∷◌}
+use Rattle.std.proofs.Common.{Some, refl, sym, subst, arith, length, bit_or, bit_and, get_or-set_same}
+use Rattle.std.proofs.Common.{get_or-set_other}
 use Rattle.std.specs.Prelude.{slice_get, slice_set}
 use Rattle.std.proofs.Math.ListN.{length-set}
 use Rattle.std.proofs.lemmas.Bool.{cases_lt, cases_order}
@@ -11,7 +13,8 @@ use Rattle.spv_flow.specs.calls.inner.Graph.{HasCall, AreWithin}
 use Rattle.spv_flow.proofs.lemmas.calls.Chains.{joined, keeps}
 use Rattle.spv_interfaces.specs.declared.used.Use.{Use}
 use Rattle.spv_interfaces.specs.inner.Marks.{Adds, Grows, HasBit, IsClosed, IsMarked, IsMissing, IsOpen, Rises, word_of}
-use Rattle.spv_interfaces.proofs.Bits.{and_both, and_left, and_right, has_or_not, none_of_zero, not_bit, not_told, or_left, or_right, or_told}
+use Rattle.spv_interfaces.proofs.Bits.{and_both, and_left, and_right, has_or_not, none_of_zero, not_bit, not_told}
+use Rattle.spv_interfaces.proofs.Bits.{or_left, or_right, or_told}
 
 -- two numbers are the same or not
 pub split : (f g : ℕ) → (f ≡ g) ⊎ (f ≡ g → ⊥)
@@ -195,7 +198,8 @@ open_less calls old mid new c within o a r s =
     let le = r.each c.callee in
     let apart : word_of old c.callee ≡ word_of mid c.callee → ⊥ =
     λ e. o.to (moved (word_of mid c.callee) (word_of old c.callee) o.bit (sym e) here) in
-    let lt : word_of old c.callee < word_of mid c.callee = strictly (word_of old c.callee) (word_of mid c.callee) le apart in
+    let lt : word_of old c.callee < word_of mid c.callee =
+    strictly (word_of old c.callee) (word_of mid c.callee) le apart in
     let one = less_room old mid c.callee r.count r.each lt o.fits in
     let other = no_more_room mid new s.count s.each in
     omega (arith, one, other)
@@ -256,10 +260,12 @@ missing_more reached named uses i old r n u at e f l k below h =
         | inr at_least ↦
             let b = t.below in
             let here : t.place ≡ i = omega (arith, b, at_least) in
-            let there : slice_get uses i ≡ Some t.use_there = subst (λ (j : ℕ). slice_get uses j ≡ Some t.use_there) here t.there in
+            let there : slice_get uses i ≡ Some t.use_there =
+            subst (λ (j : ℕ). slice_get uses j ≡ Some t.use_there) here t.there in
             let same : t.use_there ≡ u = same_Some t.use_there u (sym there ∙ at) in
             let has : IsMarked reached u.function k = subst (λ (v : Use). IsMarked reached v.function k) same t.has in
-            let lacks : ¬ (IsMarked named u.variable k) = subst (λ (v : Use). ¬ (IsMarked named v.variable k)) same t.lacks in
+            let lacks : ¬ (IsMarked named u.variable k) =
+            subst (λ (v : Use). ¬ (IsMarked named v.variable k)) same t.lacks in
             or_right old (bit_and r m) k (and_both r m k (moved (word_of reached u.function) r k (sym e) has)
             (not_bit n k l below (λ g. lacks (moved n (word_of named u.variable) k f g))))
       ],

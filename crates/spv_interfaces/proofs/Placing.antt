@@ -1,5 +1,6 @@
 -- Variables and definitions, by where instructions stand.
-use Rattle.std.proofs.Common.{◌≡◌, ◌≤◌, ◌+◌, ◌∙◌, ℕ, List, [], ◌∷◌, Bool, true, false, Option, Some, None, refl, sym, ap, subst, arith, nat_eq, nat_lt, if◌then◌else◌}
+use Rattle.std.proofs.Common.{◌≡◌, ◌≤◌, ◌+◌, ◌∙◌, ℕ, List, [], ◌∷◌, Bool, true, false, Option, Some, None, refl}
+use Rattle.std.proofs.Common.{sym, ap, subst, arith, nat_eq, nat_lt, if◌then◌else◌}
 use Rattle.std.specs.Prelude.{slice_get, IsSomeAnd, IsTrue}
 use Rattle.std.proofs.lemmas.Bool.{eqb-true, eq-eqb, ltb-true}
 use Rattle.spv_module.specs.declared.opcode.TheConstants as opcode
@@ -18,7 +19,8 @@ use Rattle.spv_interfaces.specs.inner.Uses.{IsInDefinition}
 pub no_variable : (is : List PlainInst) (n : ℕ) (i : PlainInst) → slice_get is n ≡ Some i
     → (i.opcode ≡ opcode.VARIABLE → ⊥) → (x : ℕ) (g : IsGlobal is x) → ¬ (g.place ≡ n)
 no_variable is n i there other x g e =
-    let at : slice_get is n ≡ Some g.defined.inst = subst (λ (m : ℕ). slice_get is m ≡ Some g.defined.inst) e g.defined.there in
+    let at : slice_get is n ≡ Some g.defined.inst =
+    subst (λ (m : ℕ). slice_get is m ≡ Some g.defined.inst) e g.defined.there in
     let same = same_inst is n g.defined.inst i at there in
     other (subst (λ (j : PlainInst). j.opcode ≡ opcode.VARIABLE) same g.variable)
 
@@ -46,11 +48,13 @@ definition_moved : (is : List PlainInst) (f g : ℕ) → f ≡ g → IsDefinitio
 definition_moved is f g e d = subst (λ (h : ℕ). IsDefinition is h) e d
 
 -- an OpFunction in section 11 is a definition's
-of_section : (is : List PlainInst) (n s f : ℕ) → s ≡ 13 → IsOfSection is n s → IsLast is Function n f → IsDefinition is f
+of_section : (is : List PlainInst) (n s f : ℕ) → s ≡ 13 → IsOfSection is n s → IsLast is Function n f
+    → IsDefinition is f
 of_section is n _ f e (IsOfSection.early c s h k) l = let w = low_section c s k in absurd (omega (arith, e, w))
 of_section is n _ f e (IsOfSection.global c h k g) l = absurd (omega (arith, e))
 of_section is n _ f e (IsOfSection.declaration c g h k m x) l = absurd (omega (arith, e))
-of_section is n _ f e (IsOfSection.definition c g h k m d) l = definition_moved is g f (last_same is Function n g f m l) d
+of_section is n _ f e (IsOfSection.definition c g h k m d) l =
+    definition_moved is g f (last_same is Function n g f m l) d
 
 -- the last OpFunction up to one is itself
 last_itself : (is : List PlainInst) (n f : ℕ) → IsLast is Function n f → IsLast is Function f f

@@ -1,5 +1,6 @@
 -- Uses of variables, as they are gathered.
-use Rattle.std.proofs.Common.{◌≡◌, ◌<◌, ◌≤◌, ◌+◌, ◌++◌, ◌∙◌, ◌⊎◌, inl, inr, ℕ, zero, suc, List, [], ◌∷◌, Option, Some, None, refl, sym, ap, subst, arith, length}
+use Rattle.std.proofs.Common.{◌≡◌, ◌<◌, ◌≤◌, ◌+◌, ◌++◌, ◌∙◌, ◌⊎◌, inl, inr, ℕ, zero, suc, List, [], ◌∷◌, Option}
+use Rattle.std.proofs.Common.{Some, None, refl, sym, ap, subst, arith, length}
 use Rattle.std.specs.Prelude.{slice_get, slice_set}
 use Rattle.std.proofs.lemmas.Bool.{cases_lt}
 use Rattle.std.proofs.lemmas.Option.{none-some}
@@ -16,7 +17,8 @@ use Rattle.spv_ids.specs.Outcome.{IsOnly}
 use Rattle.spv_flow.proofs.lemmas.branches.Labelled.{use_in, use_at, use_within}
 use Rattle.spv_flow.proofs.lemmas.calls.Lists.{pushed_cases, pushed_keeps, pushed_last}
 use Rattle.spv_interfaces.specs.declared.used.Use.{Use}
-use Rattle.spv_interfaces.specs.inner.Uses.{AddsUses, AreNoted, AreUses, HasUse, IsInDefinition, IsUsedIn, IsVariable, UsesBefore}
+use Rattle.spv_interfaces.specs.inner.Uses.{AddsUses, AreNoted, AreUses, HasUse, IsInDefinition, IsUsedIn}
+use Rattle.spv_interfaces.specs.inner.Uses.{IsVariable, UsesBefore}
 use Rattle.spv_interfaces.specs.inner.Wanted.{IsWanted}
 
 -- A list with one use more.

@@ -1,6 +1,7 @@
 //! What is known of some entry points together: each has a bit of a word.
 
-ghost use Rattle.std.specs.Prelude.{◌≡◌, ◌+◌, ◌≤◌, ◌<◌, ◌↔◌, ◌⊎◌, ℕ, length, IfOk, IsTrue, MatchOption, Some, slice_get};
+ghost use Rattle.std.specs.Prelude.{◌≡◌, ◌+◌, ◌≤◌, ◌<◌, ◌↔◌, ◌⊎◌, ℕ, length, IfOk, IsTrue, MatchOption, Some};
+ghost use Rattle.std.specs.Prelude.{slice_get};
 ghost use Rattle.spv_flow.specs.calls.inner.Graph.{AreWithin};
 ghost use Rattle.spv_interfaces.specs.inner.Marks.{Adds, Grows, HasBit, IsClosed, IsMarked, IsMissing, IsOpen, Rises};
 ghost use Rattle.spv_interfaces.specs.inner.Marks.{word_of};

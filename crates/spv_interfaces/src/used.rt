@@ -1,6 +1,7 @@
 //! The variables that definitions use.
 
-ghost use Rattle.std.specs.Prelude.{◌≡◌, ◌+◌, ◌↔◌, ◌⊎◌, ◌≤◌, ◌<◌, ℕ, false, length, slice_get, IfOk, IsTrue, MatchOption, OnOk};
+ghost use Rattle.std.specs.Prelude.{◌≡◌, ◌+◌, ◌↔◌, ◌⊎◌, ◌≤◌, ◌<◌, ℕ, false, length, slice_get, IfOk, IsTrue};
+ghost use Rattle.std.specs.Prelude.{MatchOption, OnOk};
 ghost use Rattle.std.specs.Prelude.{◌∷◌, [], Some};
 ghost use Rattle.spv_table.specs.Table.{Table};
 ghost use Rattle.spv_module.specs.Module.{plain_inst};
@@ -9,7 +10,8 @@ ghost use Rattle.spv_layout.specs.declared.form.Role as declared;
 ghost use Rattle.spv_layout.specs.Place.{IsAt};
 ghost use Rattle.spv_layout.specs.Shape.{FitsShape, IsUse};
 ghost use Rattle.spv_type_forms.specs.Definitions.{IsGlobal};
-ghost use Rattle.spv_interfaces.specs.inner.Uses.{AddsUses, AreNoted, AreUses, Fit, IsInDefinition, IsVariable, UsesBefore};
+ghost use Rattle.spv_interfaces.specs.inner.Uses.{AddsUses, AreNoted, AreUses, Fit, IsInDefinition, IsVariable};
+ghost use Rattle.spv_interfaces.specs.inner.Uses.{UsesBefore};
 
 use crate::classes::is_wanted;
 use spv_flow::walks::use_id;

@@ -3,7 +3,8 @@ use Rattle.std.proofs.lemmas.List.{length-map}
 use Rattle.std.proofs.lemmas.Bool.{false≢true}
 use Rattle.spv_module.specs.declared.operand.Operand.TheVariants as code
 use Rattle.spv_module.specs.Module.{plain_operand, plain_operands}
-use Rattle.spv_interfaces.proofs.Interfaces.{id_there, inner_here, no_id_there, operand_there, outside_all, outside_more, outside_past}
+use Rattle.spv_interfaces.proofs.Interfaces.{id_there, inner_here, no_id_there, operand_there, outside_all}
+use Rattle.spv_interfaces.proofs.Interfaces.{outside_more, outside_past}
 use Rattle.spv_interfaces.proofs.entries.has_inner.Goals.{in-Some+else-is_inner, in_default}
 use Rattle.spv_interfaces.proofs.entries.has_inner.Goals as goal
 

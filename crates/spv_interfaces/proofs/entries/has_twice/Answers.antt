@@ -2,7 +2,8 @@ use Rattle.std.proofs.Common.{◌≡◌, ◌≤◌, ◌∙◌, false, true, sym,
 use Rattle.std.proofs.lemmas.List.{length-map}
 use Rattle.spv_module.specs.declared.operand.Operand.TheVariants as code
 use Rattle.spv_module.specs.Module.{plain_operand, plain_operands}
-use Rattle.spv_interfaces.proofs.Interfaces.{id_there, no_id_there, not_seen, once_all, once_more, once_past, operand_there, seen_before, seen_more, seen_past, twice_here}
+use Rattle.spv_interfaces.proofs.Interfaces.{id_there, no_id_there, not_seen, once_all, once_more, once_past}
+use Rattle.spv_interfaces.proofs.Interfaces.{operand_there, seen_before, seen_more, seen_past, twice_here}
 use Rattle.spv_interfaces.proofs.entries.has_twice.Goals.{in-Some+in_ok-fresh+else-not-fresh, in_default}
 use Rattle.spv_interfaces.proofs.entries.has_twice.Goals as goal
 

@@ -12,4 +12,5 @@ loop-call-preserved c =
     let new = c.follow.new.words.items in
     grows_on calls c.args.words.now.items old new c.loop-call.invariant
     (grows_by calls old new c.loop-call.call-index _
-    (slice_get-get_or calls c.loop-call.call-index _ c.loop-call-test.true) c.follow.ensures.adds c.follow.ensures.rises)
+    (slice_get-get_or calls c.loop-call.call-index _ c.loop-call-test.true) c.follow.ensures.adds
+    c.follow.ensures.rises)
