@@ -59,7 +59,7 @@ fn is_variable(definitions: &Definitions, number: u32) -> bool
     definitions.place(number).section == DECLARATIONS
 }
 
-/// Whether there is a variable. There are `total` instructions.
+/// Whether there may be a variable: false only where there is none. There are `total` instructions.
 pub fn has_variable(definitions: &Definitions, total: u32) -> bool
     requires { total ≡ length definitions.now }
     ensures { result ≡ false → (x : ℕ) → ¬ (IsGlobal definitions.now x) }
