@@ -105,9 +105,6 @@ once_past os i none once y t l = elim (cases_lt t.second i) [
       none y (once_at os i y t e)
 ]
 
-pub once_none : (os : List Plain) → AreOnce os 0
-once_none os y t l = absurd (omega (arith, l))
-
 pub twice_here : (os : List Plain) (i x : ℕ) → IsBefore os i x → slice_get os i ≡ Some (Id x)
     → (y : ℕ) × IsTwiceIn os y
 twice_here os i x b at = (x, record { first = b.0; second = i; order = b.1; one = b.2; other = at })

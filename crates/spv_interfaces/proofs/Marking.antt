@@ -81,22 +81,6 @@ set_rises words number w bits l e = record {
   same_most : (a d : ℕ) → d ≡ a → a ≤ d
   same_most a d p = omega arith
 
--- nothing is written, where there is no word
-pub set_none : (words : List ℕ) (number bits : ℕ) → length words ≤ number → Adds bits (λ f. f ≡ number) words words
-set_none words number bits g = record {
-  count = refl;
-  each = λ f k. (
-    λ h. inl h,
-    λ h. elim h [
-      | inl old ↦ old
-      | inr a ↦
-          let w = a.within in
-          let s = a.so in
-          absurd (omega (arith, w, s, g))
-    ],
-  );
-}
-
 pub rises_not : (words : List ℕ) → Rises words words
 rises_not words = record { count = refl; each = λ f. omega arith }
 

@@ -9,8 +9,6 @@ use Rattle.spv_module.specs.Operand.{PlainInst}
 use Rattle.spv_layout.specs.declared.place.Place.{Place}
 use Rattle.spv_layout.specs.Plan.{IsPlan}
 use Rattle.spv_type_forms.specs.Definitions.{IsGlobal}
-use Rattle.spv_flow.specs.declared.calls.graph.Call.{Call}
-use Rattle.spv_flow.specs.calls.inner.Found.{AreCalls, ArePlaces}
 use Rattle.spv_interfaces.specs.declared.used.Use.{Use}
 use Rattle.spv_interfaces.specs.inner.Entries.{IsFirstAmong, IsUnnamed}
 use Rattle.spv_interfaces.specs.inner.Uses.{AreUses, Fit}
@@ -43,19 +41,8 @@ none_unused G minor is entries uses e used k n at w =
 pub fit_by : (G : Table) (is js : List PlainInst) (places : List Place) → is ≡ js → IsPlan G js places → Fit G is
 fit_by G is js places e plan = subst (λ (ks : List PlainInst). Fit G ks) (sym e) (record { each = plan.fits })
 
-pub places_by : (is : List PlainInst) (places : List Place) → (G : Table) × IsPlan G is places → ArePlaces is places
-places_by is places (G, plan) = record { count = plan.count; place = plan.place }
-
 pub same_length : (is : List PlainInst) (insts : List Inst) → is ≡ map plain_inst insts → length is ≡ length insts
 same_length is insts e = subst (λ (js : List PlainInst). length js ≡ length insts) (sym e) (length-map insts plain_inst)
-
-pub calls_by : (is : List PlainInst) (insts : List Inst) (calls : List Call) → is ≡ map plain_inst insts
-    → AreCalls (map plain_inst insts) (length insts) calls → AreCalls is (length is) calls
-calls_by is insts calls e a =
-    let l = same_length is insts e in
-    let P : List PlainInst → Type 0 = λ js. AreCalls js (length insts) calls in
-    let Q : ℕ → Type 0 = λ n. AreCalls is n calls in
-    subst Q (sym l) (subst P (sym e) a)
 
 -- a list of no length
 pub no_items : (uses : List Use) → length uses ≡ 0 → uses ≡ []
