@@ -14,7 +14,7 @@ use Rattle.spv_module.proofs.Tags.{one_variant}
 use Rattle.spv_words.specs.contracts.words.WordError as word
 use Rattle.spv_rules.specs.declared.rules.Code.{Code}
 use Rattle.spv_rules.specs.declared.rules.Code.TheVariants.{Word, Rule}
-use Rattle.spv_rules.specs.declared.table.TheConstants.{WORD_ROWS, FORM_ROWS, TYPE_ROWS}
+use Rattle.spv_rules.specs.declared.table.TheConstants.{WORD_ROWS, FORM_ROWS, TYPE_ROWS, STANDARD_ROWS}
 use Rattle.spv_rules.specs.Rules.{IsNamed, name_of, number_of, place_of, section_of, sentence_of, without_last}
 use Rattle.spv_rules.specs.Table.{Row, Text, row_count, rows}
 use Rattle.spv_rules.specs.inner.Held.{Held, plain}
@@ -78,21 +78,30 @@ how_many = refl
 
 pub in_words : (rs : List Held) (n : ℕ) (d : Held) → map plain rs ≡ WORD_ROWS.now → n < length rs → slice_get rows n ≡ Some (plain (get_or rs n d))
 unfolding rows
-in_words rs n d e l = within_part WORD_ROWS.now (FORM_ROWS.now ++ TYPE_ROWS.now) rs n d e (rw (sym (of_length rs WORD_ROWS.now e)) l)
+in_words rs n d e l = within_part WORD_ROWS.now (FORM_ROWS.now ++ TYPE_ROWS.now ++ STANDARD_ROWS.now) rs n d e (rw (sym (of_length rs WORD_ROWS.now e)) l)
 
 pub in_forms : (ws rs : List Held) (n k : ℕ) (d : Held) → map plain ws ≡ WORD_ROWS.now → map plain rs ≡ FORM_ROWS.now → n ≡ length ws + k
     → k < length rs → slice_get rows n ≡ Some (plain (get_or rs k d))
 unfolding rows
 in_forms ws rs n k d w e h l =
-    past_part WORD_ROWS.now (FORM_ROWS.now ++ TYPE_ROWS.now) n k (rw (sym (of_length ws WORD_ROWS.now w)) h) ∙
-    within_part FORM_ROWS.now TYPE_ROWS.now rs k d e (rw (sym (of_length rs FORM_ROWS.now e)) l)
+    past_part WORD_ROWS.now (FORM_ROWS.now ++ TYPE_ROWS.now ++ STANDARD_ROWS.now) n k (rw (sym (of_length ws WORD_ROWS.now w)) h) ∙
+    within_part FORM_ROWS.now (TYPE_ROWS.now ++ STANDARD_ROWS.now) rs k d e (rw (sym (of_length rs FORM_ROWS.now e)) l)
 
 pub in_types : (ws fs rs : List Held) (n k : ℕ) (d : Held) → map plain ws ≡ WORD_ROWS.now → map plain fs ≡ FORM_ROWS.now → map plain rs ≡ TYPE_ROWS.now
     → n ≡ length ws + (length fs + k) → k < length rs → slice_get rows n ≡ Some (plain (get_or rs k d))
 unfolding rows
 in_types ws fs rs n k d w f e h l =
-    past_part WORD_ROWS.now (FORM_ROWS.now ++ TYPE_ROWS.now) n (length fs + k) (rw (sym (of_length ws WORD_ROWS.now w)) h) ∙
-    past_part FORM_ROWS.now TYPE_ROWS.now (length fs + k) k (ap (λ m. m + k) (of_length fs FORM_ROWS.now f)) ∙
+    past_part WORD_ROWS.now (FORM_ROWS.now ++ TYPE_ROWS.now ++ STANDARD_ROWS.now) n (length fs + k) (rw (sym (of_length ws WORD_ROWS.now w)) h) ∙
+    past_part FORM_ROWS.now (TYPE_ROWS.now ++ STANDARD_ROWS.now) (length fs + k) k (ap (λ m. m + k) (of_length fs FORM_ROWS.now f)) ∙
+    within_part TYPE_ROWS.now STANDARD_ROWS.now rs k d e (rw (sym (of_length rs TYPE_ROWS.now e)) l)
+
+pub in_standard : (ws fs ts rs : List Held) (n k : ℕ) (d : Held) → map plain ws ≡ WORD_ROWS.now → map plain fs ≡ FORM_ROWS.now → map plain ts ≡ TYPE_ROWS.now
+    → map plain rs ≡ STANDARD_ROWS.now → n ≡ length ws + (length fs + (length ts + k)) → k < length rs → slice_get rows n ≡ Some (plain (get_or rs k d))
+unfolding rows
+in_standard ws fs ts rs n k d w f t e h l =
+    past_part WORD_ROWS.now (FORM_ROWS.now ++ TYPE_ROWS.now ++ STANDARD_ROWS.now) n (length fs + (length ts + k)) (rw (sym (of_length ws WORD_ROWS.now w)) h) ∙
+    past_part FORM_ROWS.now (TYPE_ROWS.now ++ STANDARD_ROWS.now) (length fs + (length ts + k)) (length ts + k) (ap (λ m. m + (length ts + k)) (of_length fs FORM_ROWS.now f)) ∙
+    past_part TYPE_ROWS.now STANDARD_ROWS.now (length ts + k) k (ap (λ m. m + k) (of_length ts TYPE_ROWS.now t)) ∙
     ap (λ zs. slice_get zs k) (sym e) ∙ slice_get-map plain rs k ∙ ap (option_map plain) (slice_get-get_or rs k d l)
 
 -- ---- a row by its code
