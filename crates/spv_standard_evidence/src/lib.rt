@@ -1,0 +1,7 @@
+//! What shows that a rule of the standard beyond the profile is broken at an instruction: O1 to O3 and O5 to O23 (SPIR-V
+//! Specification 1.6).
+#![tactic(auto)]
+
+mod operands;
+
+pub use operands::operand_evidence;
