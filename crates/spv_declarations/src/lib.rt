@@ -21,6 +21,7 @@ mod sets;
 mod stands;
 mod table;
 
+pub use entry::named;
 pub use found::Found;
 pub use misdeclared::first_misdeclared;
 pub use stands::stands_on;

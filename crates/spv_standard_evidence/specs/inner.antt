@@ -1,2 +1,4 @@
 -- Definitions that serve the code alone.
 pub mod Operands
+pub mod Declarations
+pub mod Limits

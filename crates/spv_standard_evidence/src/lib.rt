@@ -2,6 +2,11 @@
 //! Specification 1.6).
 #![tactic(auto)]
 
+mod declarations;
+pub mod laws;
+mod limits;
 mod operands;
 
+pub use declarations::declaration_evidence;
+pub use limits::limit_evidence;
 pub use operands::operand_evidence;

@@ -95,8 +95,8 @@ pub fn operand_evidence(
         → IfOk result (IsEvidence G (plain_insts «module».now) rule inst) }
 {
     let definitions = Definitions::new(module.insts.as_slice(), plan, ids);
-    if rule == Rule::O23 {
-        return Ok(Evidence::Operand { operand: 2 });
+    match rule {
+        Rule::O23 => Ok(Evidence::Operand { operand: 2 }),
+        _ => broken_by(alloc, &definitions, rule, definitions.inst(inst)),
     }
-    broken_by(alloc, &definitions, rule, definitions.inst(inst))
 }

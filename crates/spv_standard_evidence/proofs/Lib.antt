@@ -1,0 +1,4 @@
+pub mod Scoped
+pub mod Switched
+pub mod Operated
+pub mod Limited
