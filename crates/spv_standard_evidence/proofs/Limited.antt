@@ -6,7 +6,9 @@ use Rattle.std.proofs.lemmas.Bool.{cases_eq, eqb-true, ne_eqb, false≢true}
 use Rattle.std.proofs.lemmas.Option.{none-some, same_Some}
 use Rattle.spv_module.specs.declared.opcode.TheConstants as opcode
 use Rattle.spv_module.specs.Operand.{PlainInst}
+use Rattle.spv_module.specs.declared.fault.Rule.{Rule}
 use Rattle.spv_module.specs.declared.fault.Rule.TheVariants.{O22}
+use Rattle.spv_evidence.specs.declared.evidence.Evidence.{Evidence}
 use Rattle.spv_evidence.specs.declared.evidence.Evidence.TheVariants.{Past}
 use Rattle.spv_limits.specs.declared.table.Limit.{Limit}
 use Rattle.spv_limits.specs.declared.table.Limit.TheVariants as limit
@@ -121,3 +123,6 @@ pub past_inst : (is : List PlainInst) (n : ℕ) (i : PlainInst) → slice_get is
     → Passes is n i
 past_inst is n i there (Broken.past m h) =
     subst (λ (j : PlainInst). Passes is n j) (same_Some h.0 i (sym h.1 ∙ there)) h.2
+
+pub limits_suffice : (is : List PlainInst) (r : Rule) (n : ℕ) (e : Evidence) → IsEvidence is r n e → Broken is r n
+limits_suffice is _ _ _ (IsEvidence.past n i p t) = Broken.past n (i, t, p)
