@@ -1,9 +1,9 @@
 -- Limits that show that O22 is broken.
-use Rattle.std.proofs.Common.{◌≡◌, ◌≢◌, ◌<◌, ◌∙◌, ◌&&◌, ◌||◌, nat_eq, ◌⊎◌, ◌↔◌, ℕ, List, Bool, true, false, Some, None, Option, IsTrue}
+use Rattle.std.proofs.Common.{◌≡◌, ◌≢◌, ◌<◌, ◌∙◌, ◌&&◌, ◌||◌, nat_eq, ◌⊎◌, ◌↔◌, ℕ, List, Bool, true, false, Some, None, Option, IsTrue, length}
 use Rattle.std.proofs.Common.{refl, sym, subst, ap, inl, inr}
 use Rattle.std.specs.Prelude.{slice_get}
 use Rattle.std.proofs.lemmas.Bool.{cases_eq, eqb-true, ne_eqb, false≢true}
-use Rattle.std.proofs.lemmas.Option.{none-some, same_Some}
+use Rattle.std.proofs.lemmas.Option.{none-some, same_Some, slice_get_within}
 use Rattle.spv_module.specs.declared.opcode.TheConstants as opcode
 use Rattle.spv_module.specs.Operand.{PlainInst}
 use Rattle.spv_module.specs.declared.fault.Rule.{Rule}
@@ -126,3 +126,6 @@ past_inst is n i there (Broken.past m h) =
 
 pub limits_suffice : (is : List PlainInst) (r : Rule) (n : ℕ) (e : Evidence) → IsEvidence is r n e → Broken is r n
 limits_suffice is _ _ _ (IsEvidence.past n i p t) = Broken.past n (i, t, p)
+
+pub past_within : (is : List PlainInst) (n : ℕ) → Broken is O22 n → n < length is
+past_within is n (Broken.past m h) = slice_get_within is m h.0 h.1
