@@ -2,3 +2,4 @@ pub mod Scoped
 pub mod Switched
 pub mod Operated
 pub mod Limited
+pub mod Declared

@@ -2,11 +2,9 @@
 
 ghost use Rattle.std.specs.Prelude.{◌≡◌, ◌↔◌, ℕ, IsTrue, Some, slice_get};
 ghost use Rattle.spv_table.specs.Table.{Table};
-ghost use Rattle.spv_module.specs.Module.{plain_inst, plain_insts};
+ghost use Rattle.spv_module.specs.Module.{plain_inst};
 ghost use Rattle.spv_module.specs.Operand.{Id};
 ghost use Rattle.spv_module.specs.declared.fault.Rule.TheVariants as rules;
-ghost use Rattle.spv_layout.specs.Plan.{IsPlan};
-ghost use Rattle.spv_ids.specs.Outcome.{IsDefinitionOf, definition_in};
 ghost use Rattle.spv_declarations.specs.Broken.{Broken};
 ghost use Rattle.spv_declarations.specs.Declarations.{IsIncapable};
 ghost use Rattle.spv_declarations.specs.Entry.{IsRepeated};
@@ -17,9 +15,7 @@ ghost use Rattle.spv_standard_evidence.specs.inner.Declarations.{AreNamesakes, I
 
 use spv_declarations::named;
 use spv_evidence::Evidence;
-use spv_ids::Ids;
-use spv_layout::Plan;
-use spv_module::{Inst, Module, Operand, Rule, opcode};
+use spv_module::{Inst, Operand, Rule, opcode};
 use spv_type_forms::Definitions;
 
 /// Whether two instructions are OpEntryPoints of one execution model and one name.
@@ -88,32 +84,21 @@ fn capability_evidence(definitions: &Definitions, number: u32) -> Evidence
     }
 }
 
-/// What shows that one of the rules O3, O5, O6, O12 or O13 is broken at the instruction of a number, from 0. `plan` and
-/// `ids` are what `lay_out` and `number` answered of the module.
+/// What shows that one of the rules O3, O5, O6, O12 or O13 is broken at the instruction of a number, from 0.
 ///
 /// Time is linear in the words before and those of the instruction. It takes no memory.
-pub fn declaration_evidence(
-    module: &Module<'_>,
-    plan: &Plan,
-    ids: &Ids,
-    rule: Rule,
-    inst: u32,
-) -> Evidence
-    requires plan { (G : Table) × IsPlan G (plain_insts «module».now) plan.now }
-    requires ids { (x : ℕ) → IsDefinitionOf (plain_insts «module».now) x (definition_in ids.now x) }
+pub fn declaration_evidence(definitions: &Definitions, rule: Rule, inst: u32) -> Evidence
     requires rule { IsUndecorated rule }
-    requires broken { (G : Table) × Broken G (plain_insts «module».now) rule inst }
-    ensures { (G : Table) → Broken G (plain_insts «module».now) rule inst
-        → IsEvidence G (plain_insts «module».now) rule inst result }
+    requires broken { (G : Table) × Broken G definitions.now rule inst }
+    ensures { (G : Table) → Broken G definitions.now rule inst → IsEvidence G definitions.now rule inst result }
 {
-    let definitions = Definitions::new(module.insts.as_slice(), plan, ids);
     match rule {
-        Rule::O3 => entry_evidence(&definitions, inst),
+        Rule::O3 => entry_evidence(definitions, inst),
         Rule::O5 => Evidence::Operand {
             operand: id_behind(definitions.inst(inst)),
         },
         Rule::O12 => Evidence::Operand { operand: 0 },
-        Rule::O13 => capability_evidence(&definitions, inst),
+        Rule::O13 => capability_evidence(definitions, inst),
         _ => Evidence::Operand { operand: 1 },
     }
 }

@@ -1,11 +1,8 @@
 //! What shows that O22 is broken: the number that is passed.
 
-ghost use Rattle.std.specs.Prelude.{◌≡◌, ◌↔◌, ◌<◌, ◌≤◌, ℕ, IsTrue, Some, length, slice_get};
-ghost use Rattle.spv_table.specs.Table.{Table};
-ghost use Rattle.spv_module.specs.Module.{plain_inst, plain_insts};
+ghost use Rattle.std.specs.Prelude.{◌≡◌, ◌↔◌, ◌<◌, ◌≤◌, IsTrue, Some, length, slice_get};
+ghost use Rattle.spv_module.specs.Module.{plain_inst};
 ghost use Rattle.spv_module.specs.declared.fault.Rule.TheVariants.{O22};
-ghost use Rattle.spv_layout.specs.Plan.{IsPlan};
-ghost use Rattle.spv_ids.specs.Outcome.{IsDefinitionOf, definition_in};
 ghost use Rattle.spv_limits.specs.declared.table.Limit.TheVariants as limit;
 ghost use Rattle.spv_limits.specs.Broken.{Broken};
 ghost use Rattle.spv_limits.specs.Counted as counted;
@@ -15,10 +12,8 @@ ghost use Rattle.spv_standard_evidence.specs.Limits.{IsEvidence, limit_by};
 ghost use Rattle.spv_standard_evidence.specs.inner.Limits as inner;
 
 use spv_evidence::Evidence;
-use spv_ids::Ids;
-use spv_layout::Plan;
 use spv_limits::{Limit, has_long_text, most};
-use spv_module::{Inst, Module, opcode};
+use spv_module::{Inst, opcode};
 use spv_type_forms::Definitions;
 
 /// Whether an OpFunction stands before the instruction of a number.
@@ -71,16 +66,13 @@ fn passed(definitions: &Definitions, number: u32, inst: &Inst<'_>) -> Limit
 }
 
 /// What shows that O22 is broken at the instruction of a number, from 0: the greatest number that is allowed, which it
-/// passes. `plan` and `ids` are what `lay_out` and `number` answered of the module.
+/// passes.
 ///
 /// Time is linear in the instructions before. It takes no memory.
-pub fn limit_evidence(module: &Module<'_>, plan: &Plan, ids: &Ids, inst: u32) -> Evidence
-    requires plan { (G : Table) × IsPlan G (plain_insts «module».now) plan.now }
-    requires ids { (x : ℕ) → IsDefinitionOf (plain_insts «module».now) x (definition_in ids.now x) }
-    requires broken { Broken (plain_insts «module».now) O22 inst }
-    ensures { IsEvidence (plain_insts «module».now) O22 inst result }
+pub fn limit_evidence(definitions: &Definitions, inst: u32) -> Evidence
+    requires { Broken definitions.now O22 inst }
+    ensures { IsEvidence definitions.now O22 inst result }
 {
-    let definitions = Definitions::new(module.insts.as_slice(), plan, ids);
-    let limit = passed(&definitions, inst, definitions.inst(inst));
+    let limit = passed(definitions, inst, definitions.inst(inst));
     Evidence::Past { most: most(limit) }
 }

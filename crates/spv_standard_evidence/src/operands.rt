@@ -1,12 +1,10 @@
 //! What shows that one of the rules O14 to O20 or O23 is broken: the operands of the instruction.
 
-ghost use Rattle.std.specs.Prelude.{◌≡◌, ℕ, IfOk, List};
+ghost use Rattle.std.specs.Prelude.{◌≡◌, IfOk, List};
 ghost use Rattle.spv_table.specs.Table.{Table};
-ghost use Rattle.spv_module.specs.Module.{plain_inst, plain_insts};
+ghost use Rattle.spv_module.specs.Module.{plain_inst};
 ghost use Rattle.spv_module.specs.Operand.{PlainInst};
 ghost use Rattle.spv_module.specs.declared.fault.Rule.TheVariants as rules;
-ghost use Rattle.spv_layout.specs.Plan.{IsPlan};
-ghost use Rattle.spv_ids.specs.Outcome.{IsDefinitionOf, definition_in};
 ghost use Rattle.spv_kernel_operands.specs.Broken.{Broken, IsBrokenBy};
 ghost use Rattle.spv_kernel_operands.specs.Pointers as spec;
 ghost use Rattle.spv_standard_evidence.specs.Operands.{IsEvidence, Shows};
@@ -17,9 +15,7 @@ mod switch;
 use scopes::scope_evidence;
 use switch::switch_evidence;
 use spv_evidence::Evidence;
-use spv_ids::Ids;
-use spv_layout::Plan;
-use spv_module::{Inst, Module, Rule, opcode};
+use spv_module::{Inst, Rule, opcode};
 use spv_type_forms::Definitions;
 use std::alloc::{AllocError, Global};
 
@@ -76,27 +72,22 @@ fn broken_by(
 }
 
 /// What shows that one of the rules O14 to O20 or O23 is broken at the instruction of a number, from 0: the operand, or
-/// two operands, that break it. `plan` and `ids` are what `lay_out` and `number` answered of the module.
+/// two operands, that break it.
 ///
 /// Time is linear in the operands of the instruction, but for a logarithm. An `AllocError` comes only where a growth of
 /// memory was refused.
 pub fn operand_evidence(
     alloc: Global,
-    module: &Module<'_>,
-    plan: &Plan,
-    ids: &Ids,
+    definitions: &Definitions,
     rule: Rule,
     inst: u32,
 ) -> Result<Evidence, AllocError>
-    requires plan { (G : Table) × IsPlan G (plain_insts «module».now) plan.now }
-    requires ids { (x : ℕ) → IsDefinitionOf (plain_insts «module».now) x (definition_in ids.now x) }
-    requires broken { (G : Table) × Broken G (plain_insts «module».now) rule inst }
-    ensures { (G : Table) → Broken G (plain_insts «module».now) rule inst
-        → IfOk result (IsEvidence G (plain_insts «module».now) rule inst) }
+    requires { (G : Table) × Broken G definitions.now rule inst }
+    ensures { (G : Table) → Broken G definitions.now rule inst
+        → IfOk result (IsEvidence G definitions.now rule inst) }
 {
-    let definitions = Definitions::new(module.insts.as_slice(), plan, ids);
     match rule {
         Rule::O23 => Ok(Evidence::Operand { operand: 2 }),
-        _ => broken_by(alloc, &definitions, rule, definitions.inst(inst)),
+        _ => broken_by(alloc, definitions, rule, definitions.inst(inst)),
     }
 }
