@@ -21,7 +21,8 @@ mod sets;
 mod stands;
 mod table;
 
+pub use decorated::{given, group_of, has_id_behind, member_given};
 pub use entry::named;
 pub use found::Found;
 pub use misdeclared::first_misdeclared;
-pub use stands::stands_on;
+pub use stands::{is_never_on_members, stands_on};

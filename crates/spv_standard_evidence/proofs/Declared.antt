@@ -2,6 +2,7 @@
 use Rattle.std.proofs.Common.{◌≡◌, ◌≢◌, ◌<◌, ◌≤◌, ◌+◌, ◌∙◌, ◌⊎◌, ℕ, zero, suc, List, [], ◌∷◌, Some, None, length, drop}
 use Rattle.std.proofs.Common.{refl, sym, ap, subst, inl, inr, arith}
 use Rattle.std.specs.Prelude.{slice_get}
+use Rattle.std.proofs.lemmas.Bool.{cases_lt}
 use Rattle.std.proofs.lemmas.Option.{none-some, same_Some, slice_get_within}
 use Rattle.spv_table.specs.Table.{Table}
 use Rattle.spv_module.specs.declared.opcode.TheConstants as opcode
@@ -154,3 +155,21 @@ there_5 is n h = slice_get_within is n h.0 h.1
 
 pub there_13 : (G : Table) (is : List PlainInst) (n : ℕ) → IsIncapable G is n → n < length is
 there_13 G is n h = slice_get_within is n h.0 h.1
+
+-- instructions before one that are no namesakes: one more; and all
+pub namesakes_more : (is : List PlainInst) (k : ℕ) (i j : PlainInst) → slice_get is k ≡ Some j → ¬ (AreNamesakes i j)
+    → ((m : ℕ) (p : PlainInst) → m < k → slice_get is m ≡ Some p → ¬ (AreNamesakes i p))
+    → (m : ℕ) (p : PlainInst) → m < k + 1 → slice_get is m ≡ Some p → ¬ (AreNamesakes i p)
+namesakes_more is k i j there not before m p lt e = elim (cases_lt m k) [
+  | inl less ↦ before m p less e
+  | inr more ↦
+      let same : m ≡ k = omega (arith, lt, more) in
+      let at : slice_get is k ≡ Some p = subst (λ (n : ℕ). slice_get is n ≡ Some p) same e in
+      subst (λ (q : PlainInst). ¬ (AreNamesakes i q)) (same_Some j p (sym there ∙ at)) not
+]
+
+pub no_namesake : (is : List PlainInst) (n k : ℕ) (i : PlainInst) → slice_get is n ≡ Some i → n ≤ k
+    → ((m : ℕ) (p : PlainInst) → m < k → slice_get is m ≡ Some p → ¬ (AreNamesakes i p)) → IsRepeated is n → ⊥
+no_namesake is n k i there all none r =
+    let lower = r.lower in
+    none r.before r.other (omega (arith, lower, all)) r.other_there (namesake is n i r there)

@@ -2,3 +2,5 @@
 pub mod Operands
 pub mod Declarations
 pub mod Limits
+pub mod Versions
+pub mod Placements

@@ -6,7 +6,13 @@ mod declarations;
 pub mod laws;
 mod limits;
 mod operands;
+mod order;
+mod placements;
+mod versions;
 
 pub use declarations::declaration_evidence;
 pub use limits::limit_evidence;
 pub use operands::operand_evidence;
+pub use order::order_evidence;
+pub use placements::placement_evidence;
+pub use versions::version_evidence;

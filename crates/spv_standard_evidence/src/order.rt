@@ -45,11 +45,13 @@ pub fn order_evidence(
         → IsUnbroken (flow.Broken fork G (plain_insts «module».now)) of_branches
         → IfOk result (IsEvidence G (plain_insts «module».now) rule inst) }
 {
+    let insts = module.insts.as_slice();
+    let globals = plan.before_functions();
     let code = Code {
-        insts: module.insts.as_slice(),
+        insts,
         plan,
         ids,
-        globals: plan.before_functions(),
+        globals,
     };
     match rule {
         Rule::O1 => Ok(Evidence::OnTheWay {
