@@ -1,10 +1,13 @@
 -- What a version does not have, and what shows it.
 use Rattle.std.proofs.Common.{◌≡◌, ◌≢◌, ◌<◌, ◌≤◌, ◌⊎◌, ◌∙◌, ℕ, zero, suc, List, [], ◌∷◌, Bool, true, false, Option, Some, None}
-use Rattle.std.proofs.Common.{Contains, length, refl, sym, inl, inr, arith}
+use Rattle.std.proofs.Common.{◌+◌, Contains, get_or, length, option_map, refl, sym, ap, subst, inl, inr, arith}
 use Rattle.std.specs.Prelude.{count_by, slice_get}
-use Rattle.std.proofs.lemmas.Option.{get_or_from_slice_get, slice_get_within}
+use Rattle.std.proofs.lemmas.Bool.{cases_lt}
+use Rattle.std.proofs.lemmas.Option.{get_or_from_slice_get, same_Some, slice_get-get_or, slice_get-map, slice_get_within}
 use Rattle.spv_table.specs.Table.{Table}
 use Rattle.spv_module.specs.declared.opcode.TheConstants as opcode
+use Rattle.spv_module.specs.declared.operand.Operand.{Operand as Read}
+use Rattle.spv_module.specs.Module.{plain_operand, plain_operands}
 use Rattle.spv_module.specs.Operand.{Plain, PlainInst}
 use Rattle.spv_module.specs.declared.fault.Rule.{Rule}
 use Rattle.spv_module.specs.declared.fault.Rule.TheVariants.{O21}
@@ -188,3 +191,20 @@ pub versions_suffice : (G : Table) (minor : ℕ) (is : List PlainInst) (r : Rule
     → IsEvidence G minor is r n e → Broken G minor is r n
 versions_suffice G minor is _ _ _ (IsEvidence.late n i e t s) =
     Broken.late n (i, t, shows_late G minor is i e s)
+
+pub none_more : (flags : List Bool) (ns : List (Option ℕ)) (os : List Plain) (k : ℕ) (o : Plain)
+    → slice_get os k ≡ Some o → ¬ (IsOperandHit flags ns o)
+    → ((j : ℕ) (p : Plain) → j < k → slice_get os j ≡ Some p → ¬ (IsOperandHit flags ns p))
+    → (j : ℕ) (p : Plain) → j < k + 1 → slice_get os j ≡ Some p → ¬ (IsOperandHit flags ns p)
+none_more flags ns os k o there not before j p lt e = elim (cases_lt j k) [
+  | inl less ↦ before j p less e
+  | inr more ↦
+      let same : j ≡ k = omega (arith, lt, more) in
+      let at : slice_get os k ≡ Some p = subst (λ (n : ℕ). slice_get os n ≡ Some p) same e in
+      subst (λ (q : Plain). ¬ (IsOperandHit flags ns q)) (same_Some o p (sym there ∙ at)) not
+]
+
+-- an operand as it is read
+pub operand_there : (os : List Read) (k : ℕ) (d : Read) → k < length os
+    → slice_get (plain_operands os) k ≡ Some (plain_operand (get_or os k d))
+operand_there os k d lt = slice_get-map plain_operand os k ∙ ap (option_map plain_operand) (slice_get-get_or os k d lt)

@@ -52,7 +52,7 @@ fn bit_hit(missing: &Missing, kind: Kind, mask: u32) -> Option<Hit>
 }
 
 /// The value of a kind, or the first set bit of a mask, that is missing.
-fn hit(missing: &Missing, kind: Kind, is_mask: bool, value: u32) -> Option<Hit>
+fn hit_of(missing: &Missing, kind: Kind, is_mask: bool, value: u32) -> Option<Hit>
     ensures { MatchOption result (¬ (IsHit missing.now.lines kind is_mask value))
         (λ h. IsHitBy missing.now.lines kind is_mask value h.number h.line) }
 {
@@ -80,7 +80,7 @@ fn hit_at(
     if !is_number(numbers.numbers[place], number) {
         return None;
     }
-    hit(missing, kinds()[place], is_mask, value)
+    hit_of(missing, kinds()[place], is_mask, value)
 }
 
 /// The value of the kind of that number, or the first set bit of a mask, that is missing.

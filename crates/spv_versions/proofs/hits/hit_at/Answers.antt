@@ -14,5 +14,5 @@ returns c =
     let many = as_many c.kinds.result.now c.kinds.ensures in
     let there : c.args.place < length c.kinds.result.now = omega (arith, many) in
     hit_by c.args.missing.now.lines c.args.numbers.now.numbers c.args.number c.args.is_mask c.args.value c.args.place
-    c.kinds.result.now _ c.hit.result c.kinds.ensures (slice_get-get_or c.kinds.result.now c.args.place _ there)
-    (c.is_number.ensures.0 c.if-not-is_number.false) c.hit.ensures
+    c.kinds.result.now _ c.hit_of.result c.kinds.ensures (slice_get-get_or c.kinds.result.now c.args.place _ there)
+    (c.is_number.ensures.0 c.if-not-is_number.false) c.hit_of.ensures
