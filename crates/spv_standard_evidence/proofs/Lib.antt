@@ -6,3 +6,4 @@ pub mod Declared
 pub mod Versioned
 pub mod Placed
 pub mod Ordered
+pub mod Worked

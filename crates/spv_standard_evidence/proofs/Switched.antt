@@ -17,7 +17,7 @@ use Rattle.spv_standard_evidence.specs.Operands.{AreEqual, IsWide, Shows, litera
 use Rattle.spv_standard_evidence.specs.inner.Operands.{AreNarrow, IsWider}
 
 -- an operand and its place among the literals: of one with a place, the literal there
-record Placed (os : List Plain) (p x : ℕ) : Type 0 where
+pub record Placed (os : List Plain) (p x : ℕ) : Type 0 where
   pub operand : ℕ
   pub literal : literal_at os operand ≡ Some x
 
@@ -42,7 +42,7 @@ placed [] p x h = absurd (none-some x h)
 placed (o ∷ os) p x h = place_in o os (literal_in o) p x refl (λ q. placed os q x) h
 
 -- and the other way round
-record Index (os : List Plain) (k x : ℕ) : Type 0 where
+pub record Index (os : List Plain) (k x : ℕ) : Type 0 where
   pub place : ℕ
   pub there : slice_get (literals_of os) place ≡ Some x
 
@@ -232,7 +232,7 @@ firsts_none os k kept e h = record {
 
 pub apart_new : (os : List Plain) (k n : ℕ) (kept : ℕ → ℕ) → literal_at os k ≡ Some n → kept n ≡ 0
     → AreFirsts os k kept → AreApart os k → AreApart os (k + 1)
-apart_new os k n kept e zero firsts h = record {
+apart_new os k n kept e empty firsts h = record {
   none = λ p q l t. elim (cases_lt q k) [
     | inl less ↦ h.none p q less t
     | inr more ↦
@@ -241,7 +241,7 @@ apart_new os k n kept e zero firsts h = record {
         (sym (subst (λ (x : ℕ). literal_at os x ≡ Some t.literal) same t.other) ∙ e) in
         let below : p < k = let b = t.before in omega (arith, b, same) in
         let some : 0 < kept t.literal = firsts.each p t.literal below t.one in
-        let none : kept t.literal ≡ 0 = ap kept literal ∙ zero in
+        let none : kept t.literal ≡ 0 = ap kept literal ∙ empty in
         omega (arith, some, none)
   ];
 }
@@ -308,3 +308,12 @@ no_firsts os kept empty = record {
 
 pub none_apart : (os : List Plain) → AreApart os 0
 none_apart os = record { none = λ p q l t. omega (arith, l) }
+
+-- no literal is wider, where none of the operands is
+pub narrow_by : (os : List Plain) (w n : ℕ) → length os ≤ n → ((j : ℕ) → j < n → ¬ (IsWider os w j)) → AreNarrow os w
+narrow_by os w n all none = λ k x e.
+    let within = within_literal os k x e in
+    elim (cases_lt x (2 ^ w)) [
+      | inl less ↦ less
+      | inr more ↦ absurd (none k (omega (arith, within, all)) (x, e, more))
+    ]
