@@ -7,3 +7,4 @@ pub mod Versioned
 pub mod Placed
 pub mod Ordered
 pub mod Worked
+pub mod Sufficing
