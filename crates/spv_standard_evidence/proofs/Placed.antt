@@ -107,8 +107,8 @@ pair_no_group i g h e f =
 
 member_code : (i : PlainInst) (p : ℕ × ℕ × ℕ) → member_given_by i ≡ Some p
     → (i.opcode ≡ opcode.MEMBER_DECORATE) ⊎ (i.opcode ≡ opcode.MEMBER_DECORATE_STRING)
-member_code i p e = by (nat_eq i.opcode opcode.MEMBER_DECORATE) refl (nat_eq i.opcode opcode.MEMBER_DECORATE_STRING) refl
-where
+member_code i p e =
+    by (nat_eq i.opcode opcode.MEMBER_DECORATE) refl (nat_eq i.opcode opcode.MEMBER_DECORATE_STRING) refl where
   by : (a : Bool) → nat_eq i.opcode opcode.MEMBER_DECORATE ≡ a → (b : Bool)
       → nat_eq i.opcode opcode.MEMBER_DECORATE_STRING ≡ b
       → (i.opcode ≡ opcode.MEMBER_DECORATE) ⊎ (i.opcode ≡ opcode.MEMBER_DECORATE_STRING)

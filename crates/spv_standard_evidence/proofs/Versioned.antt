@@ -1,14 +1,14 @@
 -- What a version does not have, and what shows it.
 use Rattle.std.proofs.Common.{◌≡◌, ◌≢◌, ◌<◌, ◌≤◌, ◌⊎◌, ◌∙◌, ℕ, zero, suc, List, [], ◌∷◌, Bool, true, false, Option, Some, None}
 use Rattle.std.proofs.Common.{◌+◌, Contains, get_or, length, option_map, refl, sym, ap, subst, inl, inr, arith}
-use Rattle.std.specs.Prelude.{count_by, slice_get}
+use Rattle.std.specs.Prelude.{MatchOption, count_by, slice_get}
 use Rattle.std.proofs.lemmas.Bool.{cases_lt}
 use Rattle.std.proofs.lemmas.Option.{get_or_from_slice_get, same_Some, slice_get-get_or, slice_get-map, slice_get_within}
 use Rattle.spv_table.specs.Table.{Table}
 use Rattle.spv_module.specs.declared.opcode.TheConstants as opcode
 use Rattle.spv_module.specs.declared.operand.Operand.{Operand as Read}
 use Rattle.spv_module.specs.Module.{plain_operand, plain_operands}
-use Rattle.spv_module.specs.Operand.{Plain, PlainInst}
+use Rattle.spv_module.specs.Operand.{Plain, PlainInst, Mask, Value}
 use Rattle.spv_module.specs.declared.fault.Rule.{Rule}
 use Rattle.spv_module.specs.declared.fault.Rule.TheVariants.{O21}
 use Rattle.spv_versions.specs.Broken.{Broken}
@@ -19,6 +19,7 @@ use Rattle.spv_versions.specs.Missing as late
 use Rattle.spv_versions.specs.Named.{HasNumber}
 use Rattle.spv_versions.specs.Named as named
 use Rattle.spv_versions.specs.Table.{Line, lines}
+use Rattle.spv_versions.specs.inner.Hits.{IsAnyHitBy}
 use Rattle.spv_versions.specs.inner.Lines.{IsListed, IsListedAt}
 use Rattle.spv_versions.specs.inner.Told.{AreHit, AreNumbers, AreTold, IsInstHit, IsOperandHit}
 use Rattle.spv_versions.proofs.Lateness.{known, late_inst, number_hit}
@@ -208,3 +209,26 @@ none_more flags ns os k o there not before j p lt e = elim (cases_lt j k) [
 pub operand_there : (os : List Read) (k : ℕ) (d : Read) → k < length os
     → slice_get (plain_operands os) k ≡ Some (plain_operand (get_or os k d))
 operand_there os k d lt = slice_get-map plain_operand os k ∙ ap (option_map plain_operand) (slice_get-get_or os k d lt)
+
+-- a value or a bit that is missing, of an operand
+pub lack_value : (flags : List Bool) (ns : List (Option ℕ)) (i : PlainInst) (k j v w l : ℕ)
+    → slice_get i.operands k ≡ Some (Value j v) → IsAnyHitBy flags ns j false v w l
+    → IsLackOf flags ns i (lister.Value k) l
+lack_value flags ns i k j v w l e (p, (q, at, n, (same, li))) =
+    (j, v, e, (p, (q, at, n, (refl, subst (λ (x : ℕ). IsListedAt lines flags q x l) same li))))
+
+pub lack_bit : (flags : List Bool) (ns : List (Option ℕ)) (i : PlainInst) (k j m b l : ℕ)
+    → slice_get i.operands k ≡ Some (Mask j m) → IsAnyHitBy flags ns j true m b l
+    → IsLackOf flags ns i (lister.Bit k b) l
+lack_bit flags ns i k j m b l e h = (j, m, e, h)
+
+-- what an instruction has beside its opcode
+pub lack_or : (flags : List Bool) (ns : List (Option ℕ)) (i : PlainInst) (o : Option (Lister × ℕ))
+    → ¬ (IsListed lines flags kind.Opcode i.opcode)
+    → MatchOption o (¬ (AreHit flags ns i.operands)) (λ p. IsLackOf flags ns i p.0 p.1)
+    → MatchOption o (¬ (IsInstHit flags ns i)) (λ p. IsLackOf flags ns i p.0 p.1)
+lack_or flags ns i None not h = inst_hit flags ns i not h
+lack_or flags ns i (Some p) not h = h
+
+pub lack_in : (os ps : List Plain) (k : ℕ) (o : Plain) → os ≡ ps → slice_get os k ≡ Some o → slice_get ps k ≡ Some o
+lack_in os ps k o same e = subst (λ (xs : List Plain). slice_get xs k ≡ Some o) same e

@@ -1,13 +1,13 @@
 //! What shows that O21 is broken: an opcode, a value or a bit that the version does not have, or a form.
 
-ghost use Rattle.std.specs.Prelude.{◌≡◌, ◌↔◌, ◌≤◌, ℕ, List, IsTrue, MatchOption, Some, count_by, length, slice_get};
+ghost use Rattle.std.specs.Prelude.{◌≡◌, ◌↔◌, ◌≤◌, ℕ, List, IsTrue, MatchOption, Some, count_by, false, length, slice_get, true};
 ghost use Rattle.spv_table.specs.Table as tables;
 ghost use Rattle.spv_module.specs.Module.{plain_inst, plain_operand};
-ghost use Rattle.spv_module.specs.Operand.{PlainInst};
+ghost use Rattle.spv_module.specs.Operand.{Mask, PlainInst, Value};
 ghost use Rattle.spv_module.specs.declared.fault.Rule.TheVariants.{O21};
 ghost use Rattle.spv_versions.specs.Broken.{Broken};
 ghost use Rattle.spv_versions.specs.Missing.{is_mask};
-ghost use Rattle.spv_versions.specs.inner.Told.{AreHit, IsInstHit, IsOperandHit};
+ghost use Rattle.spv_versions.specs.inner.Told.{AreHit, IsAnyHit, IsInstHit, IsOperandHit};
 ghost use Rattle.spv_evidence.specs.declared.evidence.Evidence.TheVariants as evidence;
 ghost use Rattle.spv_standard_evidence.specs.Versions.{IsEvidence, Shows};
 ghost use Rattle.spv_standard_evidence.specs.inner.Versions.{IsForm, IsLackOf, IsMaskAt};
@@ -18,7 +18,49 @@ use spv_table::Table;
 use spv_type_forms::Definitions;
 use spv_versions::{Kind, Kinds, Missing, any_hit};
 
-/// What an operand has that is missing: its value, or its first such bit; and the line that says so. `k` is its number.
+/// The value of a kind that is missing, as operand `k`, and the line that says so.
+fn value_lack(
+    missing: &Missing,
+    kinds: &Kinds,
+    kind: u32,
+    value: u32,
+    k: u32,
+) -> Option<(Lister, u32)>
+    ensures { (i : PlainInst) → slice_get i.operands k ≡ Some (Value kind value)
+        → MatchOption result (¬ (IsAnyHit missing.now.lines kinds.now.numbers kind false value))
+        (λ p. IsLackOf missing.now.lines kinds.now.numbers i p.0 p.1) }
+{
+    match any_hit(missing, kinds, kind, false, value) {
+        Some(hit) => Some((Lister::Value { operand: k }, hit.line)),
+        None => None,
+    }
+}
+
+/// The first set bit of a mask of a kind that is missing, in the same way.
+fn bit_lack(
+    missing: &Missing,
+    kinds: &Kinds,
+    kind: u32,
+    mask: u32,
+    k: u32,
+) -> Option<(Lister, u32)>
+    ensures { (i : PlainInst) → slice_get i.operands k ≡ Some (Mask kind mask)
+        → MatchOption result (¬ (IsAnyHit missing.now.lines kinds.now.numbers kind true mask))
+        (λ p. IsLackOf missing.now.lines kinds.now.numbers i p.0 p.1) }
+{
+    match any_hit(missing, kinds, kind, true, mask) {
+        Some(hit) => {
+            let lister = Lister::Bit {
+                operand: k,
+                bit: hit.number,
+            };
+            Some((lister, hit.line))
+        }
+        None => None,
+    }
+}
+
+/// What an operand has that is missing. `k` is its number.
 fn operand_lack(
     missing: &Missing,
     kinds: &Kinds,
@@ -30,18 +72,8 @@ fn operand_lack(
         (λ p. IsLackOf missing.now.lines kinds.now.numbers i p.0 p.1) }
 {
     match operand {
-        Operand::Value { kind, value } => {
-            let hit = any_hit(missing, kinds, kind, false, value)?;
-            Some((Lister::Value { operand: k }, hit.line))
-        }
-        Operand::Mask { kind, value } => {
-            let hit = any_hit(missing, kinds, kind, true, value)?;
-            let lister = Lister::Bit {
-                operand: k,
-                bit: hit.number,
-            };
-            Some((lister, hit.line))
-        }
+        Operand::Value { kind, value } => value_lack(missing, kinds, kind, value, k),
+        Operand::Mask { kind, value } => bit_lack(missing, kinds, kind, value, k),
         _ => None,
     }
 }
