@@ -1,8 +1,9 @@
 -- Decorations that may not stand where they do, and what shows it.
-use Rattle.std.proofs.Common.{◌≡◌, ◌≢◌, ◌<◌, ◌≤◌, ◌+◌, ◌∙◌, ◌⊎◌, ◌||◌, if◌then◌else◌, nat_eq, ℕ, zero, suc, List, [], ◌∷◌}
+use Rattle.std.proofs.Common.{◌≡◌, ◌≢◌, ◌<◌, ◌≤◌, ◌+◌, ◌∙◌, ◌↔◌, ◌++◌, ◌⊎◌, ◌||◌, IsTrue, not, if◌then◌else◌, nat_eq, ℕ, zero, suc, List, [], ◌∷◌}
 use Rattle.std.proofs.Common.{Bool, true, false, Option, Some, None, Contains, length, refl, sym, ap, subst, inl, inr, arith}
-use Rattle.std.specs.Prelude.{slice_get}
-use Rattle.std.proofs.lemmas.Bool.{cases_lt, eqb-true}
+use Rattle.std.specs.Prelude.{MatchOption, slice_get}
+use Rattle.std.proofs.lemmas.Bool.{cases_lt, eqb-true, false≢true}
+use Rattle.std.proofs.lemmas.List.Elements.{Contains-append_cases, Contains-append_left, Contains-append_right}
 use Rattle.std.proofs.lemmas.Option.{none-some, same_Some, slice_get_within}
 use Rattle.spv_table.specs.Table.{Table}
 use Rattle.spv_module.specs.declared.opcode.TheConstants as opcode
@@ -18,7 +19,7 @@ use Rattle.spv_declarations.specs.Table.{IsNeverOnMembers, StandsOn}
 use Rattle.spv_standard_evidence.specs.Declarations.{HasIdAt, IsEvidence, Misplaces}
 use Rattle.spv_standard_evidence.specs.inner.Declarations.{IsIdAt}
 use Rattle.spv_standard_evidence.specs.inner.Placements.{AreAllFine, AreFine, IsBadTarget, IsGivenBadly, IsGivenNever}
-use Rattle.spv_standard_evidence.specs.inner.Placements.{IsGivenNeverAt}
+use Rattle.spv_standard_evidence.specs.inner.Placements.{IsGivenNeverAt, IsLookedAt}
 use Rattle.spv_standard_evidence.proofs.Declared.{place_of}
 
 -- the ways in which an instruction breaks O7
@@ -247,3 +248,55 @@ not_all_fine is os g n seen all h bad =
     let w = slice_get_within is bad.place bad.inst bad.there in
     h.fine bad.decoration (h.each bad.place bad.inst bad.decoration (omega (arith, w, all)) bad.there bad.gives)
     bad.operand bad.bad
+
+-- what is among one is that
+one_of : (d e : ℕ) → Contains (d ∷ []) e → d ≡ e
+one_of d e (zero, lt, same) = same
+one_of d e (suc k, lt, same) = absurd (omega (arith, lt))
+
+-- operands on which the decoration may stand
+pub fine_by : (is : List PlainInst) (os : List Plain) (d n : ℕ) → length os ≤ n
+    → ((j : ℕ) → j < n → ¬ (IsBadTarget is os d j)) → AreFine is os d
+fine_by is os d n all none = λ k bad.
+    let w = slice_get_within os k (Id bad.1.0) bad.1.1 in
+    none k (omega (arith, w, all)) bad
+
+-- a decoration that was looked at before; one that was not
+pub looked_before : (is : List PlainInst) (os : List Plain) (d : ℕ) (seen : List ℕ) → AreAllFine is os seen
+    → Contains seen d → IsLookedAt is os d seen seen None
+looked_before is os d seen fine has = (fine, has, λ e h. h)
+
+all_fine : (is : List PlainInst) (os : List Plain) (d : ℕ) (old : List ℕ) → AreAllFine is os old → AreFine is os d
+    → AreAllFine is os (old ++ d ∷ [])
+all_fine is os d old fine more = λ e h. elim (Contains-append_cases old (d ∷ []) e h) [
+  | inl a ↦ fine e a
+  | inr b ↦ subst (λ (x : ℕ). AreFine is os x) (one_of d e b) more
+]
+
+pub looked_now : (is : List PlainInst) (os : List Plain) (d : ℕ) (old new : List ℕ) (o : Option ℕ)
+    → new ≡ old ++ d ∷ [] → AreAllFine is os old → MatchOption o (AreFine is os d) (IsBadTarget is os d)
+    → IsLookedAt is os d old new o
+looked_now is os d old new (Some k) same fine bad = bad
+looked_now is os d old new None same fine more = subst (λ (xs : List ℕ). IsLookedAt is os d old xs None) (sym same) (
+  all_fine is os d old fine more,
+  Contains-append_right old (d ∷ []) d (0, omega arith, refl),
+  λ e h. Contains-append_left old (d ∷ []) e h,
+)
+
+-- an id on which a decoration may stand, or not
+pub bad_at : (is : List PlainInst) (os : List Plain) (d k x : ℕ) (r : Bool) → slice_get os k ≡ Some (Id x)
+    → IsTrue r ↔ StandsOn is d x
+    → IsTrue (not r) ↔ ((y : ℕ) × (slice_get os k ≡ Some (Id y)) × ¬ (StandsOn is d y))
+bad_at is os d k x true e s = (
+  λ t. absurd (false≢true t),
+  λ h.
+      let one : Some (Id x) ≡ Some (Id h.0) = sym e ∙ h.1 in
+      let same : x ≡ h.0 = cc in
+      absurd (h.2 (subst (λ (y : ℕ). StandsOn is d y) same (s.0 refl))),
+)
+bad_at is os d k x false e s = (λ t. (x, e, λ stands. absurd (false≢true (s.1 stands))), λ h. refl)
+
+pub never_found : (is : List PlainInst) (g n d : ℕ) (i : PlainInst) → slice_get is n ≡ Some i → Gives d i g
+    → IsNeverOnMembers d → IsGivenNeverAt is g n
+never_found is g n d i there gives never =
+    (record { place = n; inst = i; there = there; decoration = d; gives = gives; never = never }, refl)

@@ -1,6 +1,6 @@
 //! What shows that O7 is broken: a decoration that may not stand where it does.
 
-ghost use Rattle.std.specs.Prelude.{◌≡◌, ◌↔◌, ℕ, IfOk, IsTrue, MatchOption, Some, length, slice_get};
+ghost use Rattle.std.specs.Prelude.{◌≡◌, ◌↔◌, ℕ, Contains, IfOk, IsTrue, MatchOption, Some, length, slice_get};
 ghost use Rattle.spv_table.specs.Table.{Table};
 ghost use Rattle.spv_module.specs.declared.fault.Rule.TheVariants.{O7};
 ghost use Rattle.spv_module.specs.declared.opcode.TheConstants as opcodes;
@@ -56,6 +56,18 @@ fn bad_target(definitions: &Definitions, inst: &Inst<'_>, decoration: u32) -> Op
     None
 }
 
+/// Whether a number is one of some.
+fn is_among(numbers: &[u32], number: u32) -> bool
+    ensures { IsTrue result ↔ Contains numbers.now number }
+{
+    for one in numbers {
+        if *one == number {
+            return true;
+        }
+    }
+    false
+}
+
 /// The same of a decoration that was not looked at before. `seen` are those that were.
 fn new_target(
     seen: &mut Vec<u32>,
@@ -67,7 +79,7 @@ fn new_target(
     ensures { IfOk result (λ o. inner.IsLookedAt definitions.now (plain_inst inst.now).operands decoration
         seen.old.items seen.new.items o) }
 {
-    if seen.as_slice().contains(&decoration) {
+    if is_among(seen.as_slice(), decoration) {
         return Ok(None);
     }
     seen.push(decoration)?;
