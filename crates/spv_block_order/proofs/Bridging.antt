@@ -5,7 +5,6 @@ use Rattle.std.specs.Prelude.{Any, All, Contains, slice_get, slice_index, slice_
 use Rattle.std.specs.Prelude.{unwrap_or, drop}
 use Rattle.std.proofs.lemmas.Bool.{cases_lt, cases_order}
 use Rattle.std.proofs.lemmas.List.Elements.{All-take, All-drop, All-contains}
-use Rattle.std.proofs.lemmas.Option.{slice_get_within}
 use Rattle.spv_table.specs.Table.{Table}
 use Rattle.spv_module.specs.Operand.{PlainInst}
 use Rattle.spv_layout.specs.Place.{IsOfFunction}
@@ -327,7 +326,7 @@ higher_by G is f starts graph g ok c n h at early high =
     })
 
 pub early_at_within : (G : Table) (is : List PlainInst) (f n : ℕ) → IsEarlyIn G is f n → n < length is
-early_at_within G is f n e = slice_get_within is n e.label.inst e.label.there
+early_at_within G is f n e = (walk_within G is f e.way.past n e.way.walk).begun.within
 
 -- the function of a walk, by its OpFunction and by its last instruction
 pub walk_function : (G : Table) (is : List PlainInst) (f : ℕ) (past : List ℕ) (n : ℕ) → IsWalk G is f past n
