@@ -119,12 +119,14 @@ none_counted : (o : Plain) (os : List Plain) (m : Bool) → is_mask o ≡ m → 
     → count_by is_mask os ≡ 0 → count_by is_mask (o ∷ os) ≡ 0
 none_counted o os m e f none = rw (e ∙ f) none
 
+masks_front : (o : Plain) (os : List Plain) (m : Bool) → is_mask o ≡ m → ¬ (IsMaskAt (o ∷ os) 0)
+    → count_by is_mask os ≡ 0 → count_by is_mask (o ∷ os) ≡ 0
+masks_front o os true e not none = absurd (not (o, refl, e))
+masks_front o os false e not none = none_counted o os false e refl none
+
 pub no_masks : (os : List Plain) → ((k : ℕ) → ¬ (IsMaskAt os k)) → count_by is_mask os ≡ 0
 no_masks [] none = refl
-no_masks (o ∷ os) none = by (is_mask o) refl where
-  by : (m : Bool) → is_mask o ≡ m → count_by is_mask (o ∷ os) ≡ 0
-  by true e = absurd (none 0 (o, refl, e))
-  by false e = none_counted o os false e refl (no_masks os (λ k at. none (suc k) at))
+no_masks (o ∷ os) none = masks_front o os (is_mask o) refl (none 0) (no_masks os (λ k at. none (suc k) at))
 
 pub mask_there : (os : List Plain) (n : ℕ) → length os ≤ n → 2 ≤ count_by is_mask os
     → ((k : ℕ) → k < n → ¬ (IsMaskAt os k)) → ⊥
