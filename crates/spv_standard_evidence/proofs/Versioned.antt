@@ -28,7 +28,7 @@ use Rattle.spv_evidence.specs.declared.evidence.Evidence.TheVariants.{Late, Oper
 use Rattle.spv_evidence.specs.declared.evidence.Lister.{Lister}
 use Rattle.spv_evidence.specs.declared.evidence.Lister.TheVariants as lister
 use Rattle.spv_standard_evidence.specs.Versions.{HasNumberBy, IsEvidence, IsMissingBy, Shows}
-use Rattle.spv_standard_evidence.specs.inner.Versions.{IsForm, IsLackOf, IsMaskAt}
+use Rattle.spv_standard_evidence.specs.inner.Versions.{IsForm, IsLackOf, IsMaskAt, mask_at}
 
 -- a line that is told to be missing
 missing_by : (minor : ℕ) (is : List PlainInst) (flags : List Bool) (b : Bool) (k : Kind) (v l : ℕ)
@@ -234,3 +234,14 @@ lack_or flags ns i (Some p) not h = h
 
 pub lack_in : (os ps : List Plain) (k : ℕ) (o : Plain) → os ≡ ps → slice_get os k ≡ Some o → slice_get ps k ≡ Some o
 lack_in os ps k o same e = subst (λ (xs : List Plain). slice_get xs k ≡ Some o) same e
+
+-- whether the operand of a number is a mask
+pub mask_tells : (os : List Plain) (k : ℕ) → IsMaskAt os k → mask_at os k ≡ true
+mask_tells os k (o, there, e) = rw there e
+
+mask_by : (os : List Plain) (k : ℕ) (o : Option Plain) → slice_get os k ≡ o → mask_at os k ≡ true → IsMaskAt os k
+mask_by os k None there t = absurd (let no : false ≡ true = rw there at t in cc)
+mask_by os k (Some o) there t = let e : is_mask o ≡ true = rw there at t in (o, there, e)
+
+pub mask_from : (os : List Plain) (k : ℕ) → mask_at os k ≡ true → IsMaskAt os k
+mask_from os k t = mask_by os k (slice_get os k) refl t

@@ -1,16 +1,17 @@
 //! What shows that O21 is broken: an opcode, a value or a bit that the version does not have, or a form.
 
-ghost use Rattle.std.specs.Prelude.{◌≡◌, ◌↔◌, ◌≤◌, ℕ, List, IsTrue, MatchOption, Some, count_by, false, length, slice_get, true};
+ghost use Rattle.std.specs.Prelude.{◌≡◌, ◌↔◌, ◌≤◌, ◌⊎◌, ℕ, List, IsTrue, MatchOption, Some, count_by, false, length, slice_get, true};
 ghost use Rattle.spv_table.specs.Table as tables;
+ghost use Rattle.spv_module.specs.declared.opcode.TheConstants as opcodes;
 ghost use Rattle.spv_module.specs.Module.{plain_inst, plain_operand};
 ghost use Rattle.spv_module.specs.Operand.{Mask, PlainInst, Value};
 ghost use Rattle.spv_module.specs.declared.fault.Rule.TheVariants.{O21};
 ghost use Rattle.spv_versions.specs.Broken.{Broken};
-ghost use Rattle.spv_versions.specs.Missing.{is_mask};
+ghost use Rattle.spv_versions.specs.Missing as spec;
 ghost use Rattle.spv_versions.specs.inner.Told.{AreHit, IsAnyHit, IsInstHit, IsOperandHit};
 ghost use Rattle.spv_evidence.specs.declared.evidence.Evidence.TheVariants as evidence;
 ghost use Rattle.spv_standard_evidence.specs.Versions.{IsEvidence, Shows};
-ghost use Rattle.spv_standard_evidence.specs.inner.Versions.{IsForm, IsLackOf, IsMaskAt};
+ghost use Rattle.spv_standard_evidence.specs.inner.Versions.{IsForm, IsLackOf, IsMaskAt, mask_at};
 
 use spv_evidence::{Evidence, Lister};
 use spv_module::{Inst, Operand, opcode};
@@ -105,19 +106,29 @@ fn lack_of(missing: &Missing, kinds: &Kinds, inst: &Inst<'_>) -> Option<(Lister,
     }
 }
 
+/// Whether an operand is a mask.
+fn is_mask(operand: Operand<'_>) -> bool
+    ensures { result ≡ spec.is_mask (plain_operand operand.entry) }
+{
+    match operand {
+        Operand::Mask { .. } => true,
+        _ => false,
+    }
+}
+
 /// Whether the operand of a number is a mask.
 fn is_mask_at(inst: &Inst<'_>, k: usize) -> bool
-    ensures { IsTrue result ↔ IsMaskAt (plain_inst inst.now).operands k }
+    ensures { result ≡ mask_at (plain_inst inst.now).operands k }
 {
     match inst.operands.as_slice().get(k) {
-        Some(Operand::Mask { .. }) => true,
-        _ => false,
+        Some(operand) => is_mask(*operand),
+        None => false,
     }
 }
 
 /// The first operand that is a mask.
 fn mask_place(inst: &Inst<'_>) -> u32
-    requires { 2 ≤ count_by is_mask (plain_inst inst.now).operands }
+    requires { 2 ≤ count_by spec.is_mask (plain_inst inst.now).operands }
     ensures { IsMaskAt (plain_inst inst.now).operands result }
 {
     for k in 0..inst.operands.as_slice().len() {
@@ -128,17 +139,26 @@ fn mask_place(inst: &Inst<'_>) -> u32
     unreachable!()
 }
 
+/// Whether an opcode is that of a copy of memory.
+fn is_copy(code: u16) -> bool
+    ensures { IsTrue result ↔ ((code ≡ opcodes.COPY_MEMORY) ⊎ (code ≡ opcodes.COPY_MEMORY_SIZED)) }
+{
+    match code {
+        opcode::COPY_MEMORY | opcode::COPY_MEMORY_SIZED => true,
+        _ => false,
+    }
+}
+
 /// The operand by which an instruction has a form that came with a later version.
 fn form_place(inst: &Inst<'_>) -> u32
     requires { (minor : ℕ) × (is : List PlainInst) × IsForm minor is (plain_inst inst.now) }
     ensures { (G : tables.Table) (minor : ℕ) (is : List PlainInst) → IsForm minor is (plain_inst inst.now)
         → Shows G minor is (plain_inst inst.now) (evidence.Operand result) }
 {
-    match inst.opcode {
-        opcode::COPY_MEMORY | opcode::COPY_MEMORY_SIZED => mask_place(inst),
-        opcode::SELECT => 0,
-        _ => 1,
+    if is_copy(inst.opcode) {
+        return mask_place(inst);
     }
+    if inst.opcode == opcode::SELECT { 0 } else { 1 }
 }
 
 /// What shows that O21 is broken at the instruction of a number, from 0, of a module of version 1.`minor`: the opcode,

@@ -1,6 +1,6 @@
 -- What an instruction has that is missing, by what is told of the module. (For the code alone.)
 use Rattle.std.specs.Prelude.{◌≡◌, ◌<◌, ◌≤◌, ◌⊎◌, ℕ, List, ◌∷◌, Option, Some, Bool, true, false, IsTrue, codes}
-use Rattle.std.specs.Prelude.{count_by, nat_eq, slice_get}
+use Rattle.std.specs.Prelude.{count_by, nat_eq, option_map, slice_get, unwrap_or}
 use Rattle.std.specs.List.{starts_with}
 use Rattle.spv_module.specs.declared.opcode.TheConstants as opcode
 use Rattle.spv_module.specs.Operand.{Plain, OfType, Result, Id, Text, Value, Mask, PlainInst}
@@ -27,6 +27,9 @@ IsLackOf flags ns i lister.Access l = ⊥
 -- the operand of that number is a mask
 abbrev pub IsMaskAt : List Plain → ℕ → Type 0
 IsMaskAt os k = (o : Plain) × (slice_get os k ≡ Some o) × (is_mask o ≡ true)
+
+abbrev pub mask_at : List Plain → ℕ → Bool
+mask_at os k = unwrap_or (option_map is_mask (slice_get os k)) false
 
 -- an instruction has a form that came with a later version
 pub data IsForm (minor : ℕ) (is : List PlainInst) (i : PlainInst) : Type 0 where

@@ -1,12 +1,18 @@
-use Rattle.std.proofs.Common.{◌≤◌, length, ap, below_more, arith}
-use Rattle.std.proofs.lemmas.Bool.{iff_false}
+use Rattle.std.proofs.Common.{◌≤◌, ◌∙◌, length, sym, ap, below_more, arith}
+use Rattle.std.proofs.lemmas.Bool.{false≢true}
 use Rattle.std.proofs.lemmas.List.{length-map}
 use Rattle.spv_module.specs.Module.{plain_inst, plain_operand}
-use Rattle.spv_standard_evidence.proofs.Versioned.{mask_there}
+use Rattle.spv_standard_evidence.proofs.Versioned.{mask_from, mask_tells, mask_there}
 use Rattle.spv_standard_evidence.proofs.versions.mask_place.Goals as goal
 
+pub returns-then-is_mask_at : goal.returns-then-is_mask_at
+returns-then-is_mask_at c =
+    mask_from (plain_inst c.args.inst.now).operands c.loop-k.k (sym c.is_mask_at.ensures ∙ c.if-is_mask_at.true)
+
 pub loop-k-preserved : goal.loop-k-preserved
-loop-k-preserved c = below_more _ _ c.loop-k.invariant (iff_false c.is_mask_at.ensures c.if-is_mask_at.false)
+loop-k-preserved c = below_more _ _ c.loop-k.invariant (λ h.
+    false≢true (sym c.if-is_mask_at.false ∙ c.is_mask_at.ensures
+    ∙ mask_tells (plain_inst c.args.inst.now).operands c.loop-k.k h))
 
 pub unreachable-requires : goal.unreachable-requires
 unreachable-requires c =
