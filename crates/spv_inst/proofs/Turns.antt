@@ -25,6 +25,7 @@ use Rattle.spv_module.specs.Width.{switch_width, context_width, first_id}
 use Rattle.spv_module.specs.Spelling.{Takes, Match, mask_parameters}
 use Rattle.spv_module.specs.Refusal.{IsLeaf, ShapeRefuses, Misfit}
 use Rattle.spv_inst.specs.inner.Sofar.{Sofar}
+use Rattle.spv_inst.specs.inner.Turn.{Turn}
 use Rattle.spv_inst.specs.Flat.{due, Due, OneOf, MaybeOf, ManyOf}
 use Rattle.spv_inst.specs.inner.Flat.{Fails}
 use Rattle.spv_inst.specs.Reading.{enumerants_at}
@@ -265,15 +266,6 @@ length-between ws at end h =
 
 pub none_between : (ws : List ℕ) (at end : ℕ) → end ≤ at → between ws at end ≡ []
 none_between ws at end h = let e : end - at ≡ 0 = omega arith in rw e refl
-
--- what the loop keeps
-pub record Turn (G : Table) (defined : Definitions) (known : Known) (before : List PlainInst) (opcode : ℕ)
-    (pattern : List Item) (image : List ℕ) (first at end : ℕ) (out : List Plain) (ds : List Due) : Type 0 where
-  pub from : first ≤ at
-  pub upto : at ≤ end
-  pub sofar : Sofar G (start before opcode) (map due pattern) (between image first end) out ds (between image at end)
-      (at - first)
-  pub near : IsNear defined known (after (start before opcode) out)
 
 -- the context within an instruction
 pub here_is : (b : List PlainInst) (p : ℕ) (out : List Plain)

@@ -10,4 +10,5 @@ pub mod Pushed
 pub mod Reading
 pub mod Sofar
 pub mod Step
+pub mod Turn
 pub mod Written

@@ -3,7 +3,7 @@
 ghost use Rattle.std.specs.Prelude.{◌≡◌, ◌≤◌, ◌<◌, ◌+◌, ◌-◌, List, []};
 ghost use Rattle.std.specs.Prelude.{false, length, map, take, drop, IfOk, IfErr, IsTrue, OnOk, vec_len, vec_capacity};
 ghost use Rattle.spv_table.specs.Table.{Item, IsWhole};
-ghost use Rattle.spv_inst.specs.inner.Pending.{due_first, items_of, settled};
+ghost use Rattle.spv_inst.specs.inner.Pending.{due_first, items_of, pending_due, settled};
 ghost use Rattle.spv_inst.specs.Flat.{due};
 ghost use Rattle.spv_table.specs.inner.Form.{form_of};
 ghost use Rattle.spv_module.specs.Instruction.{IsInstruction};
@@ -12,6 +12,7 @@ ghost use Rattle.spv_module.specs.Module.{plain_operands};
 ghost use Rattle.spv_module.specs.Operand.{PlainInst, start};
 ghost use Rattle.spv_inst.specs.inner.Reading.{between};
 ghost use Rattle.spv_inst.specs.inner.Sofar.{Sofar, SofarAt};
+ghost use Rattle.spv_inst.specs.inner.Turn.{Turn};
 ghost use Rattle.spv_module.specs.Spelling.{Match};
 ghost use Rattle.spv_inst.specs.inner.Step.{IsMisfit, IsDeadFrom};
 
@@ -21,7 +22,7 @@ use crate::known::{known_after, known_of};
 use crate::pairs::read_pairs;
 use crate::pending::Pending;
 use crate::plain::Rest;
-use crate::reader::{Place, Scene, take_operand};
+use crate::reader::{Known, Place, Scene, take_operand};
 use crate::repeated::read_run;
 use crate::singles::{read_parameters, read_singles};
 use crate::words::read_words;
@@ -48,6 +49,68 @@ fn fault_at(number: u32, rule: Rule, word: u32) -> Stop
         inst: number,
         word,
     })
+}
+
+/// Where the reading of an instruction stands: what is known of it, and the number of its next word.
+#[derive(Clone, Copy)]
+pub struct Reached {
+    pub known: Known,
+    pub at: u32,
+}
+
+/// Reads the next operand of an instruction, of which words are left, by the stack of pending operands, and adds it to
+/// the list. After an error nothing is said of what is left of the list.
+#[inline(always)]
+fn read_next<'t, 'a>(
+    scene: &Scene<'t, '_, 'a>,
+    pending: &mut Pending<'t>,
+    operands: &mut Vec<Operand<'a>>,
+    place: Place,
+    begin: usize,
+    known: Known,
+    at: u32,
+) -> Result<Reached, Stop>
+    requires forms { scene.now.forms.now ≡ map form_of scene.now.table.now.kinds }
+    requires left { at < place.end }
+    requires fits { place.end ≤ length scene.now.image.now }
+    requires room { begin ≤ length operands.now.items }
+    // The turn of the loop goes on to the next one.
+    ensures turn { (before : List PlainInst) (pattern : List Item)
+        → Turn scene.now.table.now scene.now.definitions.now known before place.opcode pattern scene.now.image.now
+        place.first at place.end (plain_operands (drop begin operands.old.items))
+        (pending_due scene.now.table.now pending.old)
+        → IfOk result
+        (λ r. Turn scene.now.table.now scene.now.definitions.now r.known before place.opcode pattern scene.now.image.now
+        place.first r.at place.end (plain_operands (drop begin operands.new.items))
+        (pending_due scene.now.table.now pending.new)) }
+    ensures further { IfOk result (λ r. (at < r.at) × (r.at ≤ place.end)) }
+    ensures kept { OnOk result (take begin operands.new.items ≡ take begin operands.old.items) }
+    ensures more { OnOk result (length operands.new.items ≡ length operands.old.items + 1) }
+    // A fault tells what refuses the words.
+    ensures misfit { (before : List PlainInst) (pattern : List Item)
+        → Turn scene.now.table.now scene.now.definitions.now known before place.opcode pattern scene.now.image.now
+        place.first at place.end (plain_operands (drop begin operands.old.items))
+        (pending_due scene.now.table.now pending.old)
+        → IfErr result
+        (λ e. IsMisfit scene.now.table.now (start before place.opcode) pattern
+        (between scene.now.image.now place.first place.end) place.number place.first e) }
+{
+    let Some(asked) = pending.next_leaf(scene.table, scene.forms, true)? else {
+        return Err(fault_at(place.number, Rule::I5, at));
+    };
+    match take_operand(scene, known, asked.slot, asked.leaf, at, place.end) {
+        Ok(taken) => {
+            pending.open(scene.table, &taken.operand)?;
+            let known = known_after(known, &operands[begin..], &taken.operand);
+            operands.push(taken.operand)?;
+            let next = at + taken.words;
+            Ok(Reached { known, at: next })
+        }
+        Err(refusal) => {
+            let word = at + refusal.word;
+            Err(fault_at(place.number, refusal.rule, word))
+        }
+    }
 }
 
 /// Reads what is left of an instruction after some operands, by the stack of pending operands, which is begun anew:
@@ -93,18 +156,9 @@ fn read_rest<'t, 'a>(
     let mut at = rest.at;
     pending.resume(rest.kinds, rest.items)?;
     while at < place.end {
-        let Some(asked) = pending.next_leaf(scene.table, scene.forms, true)? else {
-            return Err(fault_at(place.number, Rule::I5, at));
-        };
-        match take_operand(scene, known, asked.slot, asked.leaf, at, place.end) {
-            Ok(taken) => {
-                pending.open(scene.table, &taken.operand)?;
-                known = known_after(known, &operands[begin..], &taken.operand);
-                operands.push(taken.operand)?;
-                at += taken.words;
-            }
-            Err(refusal) => return Err(fault_at(place.number, refusal.rule, at + refusal.word)),
-        }
+        let next = read_next(scene, pending, operands, place, begin, known, at)?;
+        known = next.known;
+        at = next.at;
     }
     match pending.next_leaf(scene.table, scene.forms, false)? {
         Some(_) => Err(fault_at(place.number, Rule::I4, at)),

@@ -7,7 +7,7 @@ use Rattle.spv_inst.specs.inner.Pending.{pending_due, due_first}
 use Rattle.spv_inst.specs.Flat.{due}
 use Rattle.spv_inst.specs.inner.Reading.{between}
 use Rattle.spv_inst.specs.inner.Sofar.{Sofar}
-use Rattle.spv_inst.proofs.Turns.{Turn}
+use Rattle.spv_inst.specs.inner.Turn.{Turn}
 use Rattle.spv_inst.proofs.instruction.read_rest.Given as goal
 
 abbrev pub invariant-loop-at : goal.invariant-loop-at
