@@ -1,23 +1,24 @@
 //! The ids of a module.
 
-ghost use Rattle.std.specs.Prelude.{◌≡◌, ◌≤◌, ℕ, List, IfOk, IfErr, length};
+ghost use Rattle.std.specs.Prelude.{◌≡◌, ◌≤◌, ℕ, List, IfOk, IfErr, MatchOption, length, map};
 ghost use Rattle.spv_table.specs.Table.{Table};
 ghost use Rattle.spv_module.specs.Operand.{PlainInst};
-ghost use Rattle.spv_module.specs.Module.{plain_insts};
-ghost use Rattle.spv_layout.specs.Place.{IsShort};
+ghost use Rattle.spv_module.specs.Module.{plain_inst, plain_insts};
+ghost use Rattle.spv_layout.specs.Place.{AreFew, IsShort};
 ghost use Rattle.spv_layout.specs.Plan.{IsPlan};
 ghost use Rattle.spv_ids.specs.declared.notes.Notes as declared;
-ghost use Rattle.spv_ids.specs.inner.Known.{AreFirst};
+ghost use Rattle.spv_ids.specs.inner.Faulty.{AreClean, IsFirstFault};
+ghost use Rattle.spv_ids.specs.inner.Known.{AreFirst, IsEnd};
 ghost use Rattle.spv_ids.specs.inner.Outcome.{IsNear, near_in};
 ghost use Rattle.spv_ids.specs.inner.Survey.{ArePlaces, AreGlobal};
 ghost use Rattle.spv_ids.specs.Outcome.{AreIds, IsRefusal, definition_in};
 
-use crate::definitions::{find_definitions, later_definitions};
+use crate::definitions::{Firsts, find_definitions, later_definitions};
 use crate::notes::Notes;
-use crate::survey::{DECLARATIONS, Survey};
+use crate::survey::{DECLARATIONS, Found, Survey};
 use spv_layout::Plan;
-use spv_module::{Module, Stop};
-use std::alloc::Global;
+use spv_module::{Inst, Module, Stop};
+use std::alloc::{AllocError, Global};
 
 /// The definitions of a module's ids (SPIR-V Specification 1.6, section 2.16): each id that is used has exactly one, in
 /// order and in scope.
@@ -96,6 +97,39 @@ fn globals(plan: &Plan, count: u32, end: u32) -> u32
     }
 }
 
+/// The first broken rule of a module, if it breaks one. `firsts` is what `find_definitions` answered of it.
+///
+/// An `AllocError` comes only where a growth of memory was refused.
+fn first_broken(
+    alloc: Global,
+    insts: &[Inst<'_>],
+    bound: u32,
+    plan: &Plan,
+    firsts: &Firsts,
+) -> Result<Option<Found>, AllocError>
+    requires most { AreFew insts.now }
+    requires places { ArePlaces (map plain_inst insts.now) plan.now }
+    requires firsts { AreFirst bound (map plain_inst insts.now) firsts.now.end firsts.now.definitions }
+    requires end { IsEnd bound (map plain_inst insts.now) firsts.now.end }
+    requires within { firsts.now.end ≤ length insts.now }
+    ensures { IfOk result (λ o. MatchOption o
+        (AreClean bound (map plain_inst insts.now) (length (map plain_inst insts.now)))
+        (λ f. IsFirstFault bound (map plain_inst insts.now) f.rule f.inst)) }
+{
+    let places = insts.len().min(bound as usize);
+    let later = later_definitions(alloc, insts, plan, firsts.end, places)?;
+    let survey = Survey {
+        insts,
+        plan,
+        bound,
+        end: firsts.end,
+        firsts: &firsts.definitions,
+        later: &later,
+        globals: globals(plan, insts.len() as u32, firsts.end),
+    };
+    survey.first_fault(alloc)
+}
+
 /// The definitions of a module's ids. `plan` is what `lay_out` answered of that module.
 ///
 /// Time is linear in the words of the module; where ids are sparse, each takes the time of a search among the few
@@ -125,18 +159,7 @@ pub fn number(alloc: Global, module: &Module<'_>, plan: &Plan) -> Result<Ids, St
     let insts = module.insts.as_slice();
     let bound = module.header.bound;
     let firsts = find_definitions(alloc, insts, bound)?;
-    let places = insts.len().min(bound as usize);
-    let later = later_definitions(alloc, insts, plan, firsts.end, places)?;
-    let survey = Survey {
-        insts,
-        plan,
-        bound,
-        end: firsts.end,
-        firsts: &firsts.definitions,
-        later: &later,
-        globals: globals(plan, insts.len() as u32, firsts.end),
-    };
-    if let Some(found) = survey.first_fault(alloc)? {
+    if let Some(found) = first_broken(alloc, insts, bound, plan, &firsts)? {
         return Err(plan.stop_at(found.rule, found.inst));
     }
     Ok(Ids {

@@ -24,8 +24,8 @@ find_definitions-requires-clause-results c =
     let a = places_of p.0 (plain_insts c.args.module.now) c.args.plan.now p.1 in
     rw c.as_slice-insts.ensures.value a.early
 
-pub later_definitions-requires-clause-most : goal.later_definitions-requires-clause-most
-later_definitions-requires-clause-most c =
+pub first_broken-requires-clause-most : goal.first_broken-requires-clause-most
+first_broken-requires-clause-most c =
     let v = c.as_slice-insts.ensures.value in
     let xs = c.as_slice-insts.result.now in
     let s = short_list (map plain_inst xs) in
@@ -33,40 +33,10 @@ later_definitions-requires-clause-most c =
     let q : IsShort (map plain_inst xs) = rw v c.requires.words in
     omega arith
 
-pub later_definitions-requires-clause-places : goal.later_definitions-requires-clause-places
-later_definitions-requires-clause-places c =
+pub first_broken-requires-clause-places : goal.first_broken-requires-clause-places
+first_broken-requires-clause-places c =
     let p = c.requires.plan in
     rw c.as_slice-insts.ensures.value (places_of p.0 (plain_insts c.args.module.now) c.args.plan.now p.1)
-
-pub overflow_cast-insts : goal.overflow_cast-insts
-overflow_cast-insts c =
-    let v = c.as_slice-insts.ensures.value in
-    let xs = c.as_slice-insts.result.now in
-    let s = short_list (map plain_inst xs) in
-    let l = length-map xs plain_inst in
-    let q : IsShort (map plain_inst xs) = rw v c.requires.words in
-    omega arith
-
-pub first_fault-requires-clause-survey : goal.first_fault-requires-clause-survey
-first_fault-requires-clause-survey c =
-    let v = c.as_slice-insts.ensures.value in
-    let xs = c.as_slice-insts.result.now in
-    let s = short_list (map plain_inst xs) in
-    let l = length-map xs plain_inst in
-    let q : IsShort (map plain_inst xs) = rw v c.requires.words in
-    let is = map plain_inst xs in
-    let p = c.requires.plan in
-    let a : ArePlaces is c.args.plan.now = rw v (places_of p.0 (plain_insts c.args.module.now) c.args.plan.now p.1) in
-    let w = c.in_ok-firsts.ensures.within in
-    let f = c.in_ok-firsts.ensures.firsts in
-    record {
-      places = a;
-      most = omega arith;
-      within = omega arith;
-      firsts = f;
-      later = c.in_ok-later.ensures;
-      globals = c.globals.ensures is c.args.module.now.header.bound c.in_ok-firsts.firsts.definitions a (sym l) f;
-    }
 
 pub stop_at-requires : goal.stop_at-requires
 stop_at-requires c =
