@@ -9,8 +9,8 @@ use Rattle.spv_type_forms.specs.declared.form.Scalar.{Scalar}
 use Rattle.spv_type_forms.specs.declared.form.Scalar.TheVariants as scalar
 use Rattle.spv_type_forms.specs.declared.form.Form.{Form}
 use Rattle.spv_type_forms.specs.declared.form.Form.TheVariants as form
-use Rattle.spv_type_forms.specs.declared.form.Object.{Object}
-use Rattle.spv_type_forms.specs.declared.form.Object.TheVariants as object
+use Rattle.spv_type_kinds.specs.declared.kinds.Object.{Object}
+use Rattle.spv_type_kinds.specs.declared.kinds.Object.TheVariants as object
 use Rattle.spv_type_forms.specs.declared.form.Sort.{Sort}
 use Rattle.spv_type_forms.specs.declared.form.Sort.TheVariants as sort
 use Rattle.spv_type_forms.specs.declared.form.Components.{Components}

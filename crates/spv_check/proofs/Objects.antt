@@ -16,7 +16,7 @@ use Rattle.spv_type_forms.specs.Objects.{image_of, addressing_of, size_in, IsSiz
 use Rattle.spv_type_forms.specs.Objects.{AreOfRange, IsRangeStruct, IsRange}
 use Rattle.spv_type_forms.specs.Parts.{length_of, members_of}
 use Rattle.spv_type_forms.specs.Types.{components_of, HasSort, IsInt, IsSomeInt, IsPointer}
-use Rattle.spv_conditions.specs.declared.condition.Images.{Images}
+use Rattle.spv_type_kinds.specs.declared.kinds.Images.{Images}
 use Rattle.spv_conditions.specs.declared.asked.Texels.{Texels}
 use Rattle.spv_conditions.specs.declared.asked.Texels.TheVariants as texels
 use Rattle.spv_conditions.specs.Group.{all_ids_in, IsConstantAt}

@@ -10,10 +10,10 @@ use Rattle.spv_type_forms.specs.declared.form.Form.{Form}
 use Rattle.spv_type_forms.specs.declared.form.Form.TheVariants as form
 use Rattle.spv_type_forms.specs.declared.form.Sort.TheVariants as sort
 use Rattle.spv_type_forms.specs.declared.form.Components.{Components}
-use Rattle.spv_conditions.specs.declared.condition.Kind.{Kind}
-use Rattle.spv_conditions.specs.declared.condition.Kind.TheVariants as kind
-use Rattle.spv_conditions.specs.declared.condition.Relation.{Relation}
-use Rattle.spv_conditions.specs.declared.condition.Relation.TheVariants as relation
+use Rattle.spv_type_kinds.specs.declared.kinds.Kind.{Kind}
+use Rattle.spv_type_kinds.specs.declared.kinds.Kind.TheVariants as kind
+use Rattle.spv_type_kinds.specs.declared.kinds.Relation.{Relation}
+use Rattle.spv_type_kinds.specs.declared.kinds.Relation.TheVariants as relation
 use Rattle.spv_conditions.specs.declared.asked.Rest.{Rest}
 use Rattle.spv_conditions.specs.declared.asked.Rest.TheVariants as rest
 use Rattle.spv_conditions.specs.declared.asked.Asked.{Asked}
@@ -36,7 +36,7 @@ use Rattle.spv_type_forms.specs.Form.{form_of}
 use Rattle.spv_type_forms.specs.Objects.{pipe_access_of}
 use Rattle.spv_type_forms.specs.Types.{components_of, IsInt, IsObject, IsPlain, IsVector, IsPointer, PointsTo, sort_of}
 use Rattle.spv_type_forms.specs.Types.{pointee_in, class_in}
-use Rattle.spv_type_forms.specs.Operands.{words_in, ids_in, after_head, result_type_in}
+use Rattle.spv_type_kinds.specs.Operands.{words_in, ids_in, after_head, result_type_in}
 use Rattle.spv_type_forms.specs.Parts.{part_of, count_of}
 use Rattle.spv_type_forms.specs.Reach.{AreWithin}
 use Rattle.spv_ops.specs.Table.{conditions_of}

@@ -18,11 +18,11 @@ use Rattle.spv_type_forms.specs.declared.form.Form.TheVariants as form
 use Rattle.spv_type_forms.specs.Form.{form_in, form_of}
 use Rattle.spv_type_forms.specs.Types.{scalar_in, class_in, IsSomeInt, IsData}
 use Rattle.spv_type_forms.specs.Parts.{length_of, AreParts}
-use Rattle.spv_type_forms.specs.declared.form.Object.TheVariants as object
+use Rattle.spv_type_kinds.specs.declared.kinds.Object.TheVariants as object
 use Rattle.spv_type_forms.specs.declared.objects.Image.{Image}
 use Rattle.spv_type_forms.specs.Objects.{image_in, image_of}
 use Rattle.spv_type_forms.proofs.Deciding.{lacks_or_not}
-use Rattle.spv_type_forms.specs.Operands.{ids_in, after_head}
+use Rattle.spv_type_kinds.specs.Operands.{ids_in, after_head}
 use Rattle.spv_type_forms.specs.Values.{types_of}
 use Rattle.spv_ops.specs.Typed.{IsTyped}
 use Rattle.spv_ops.proofs.Judged.{told}

@@ -1,8 +1,8 @@
 -- The conditions that a line of the table of types asks, where there are so many values. [own: Y5]
 use Rattle.std.specs.Prelude.{◌+◌, ◌-◌, ◌++◌, ℕ, zero, suc, List, [], ◌∷◌, Option, Bool}
 use Rattle.spv_module.specs.Operand.{PlainInst}
-use Rattle.spv_conditions.specs.declared.condition.Kind.TheVariants.{Int}
-use Rattle.spv_conditions.specs.declared.condition.Relation.TheVariants.{Same}
+use Rattle.spv_type_kinds.specs.declared.kinds.Kind.TheVariants.{Int}
+use Rattle.spv_type_kinds.specs.declared.kinds.Relation.TheVariants.{Same}
 use Rattle.spv_conditions.specs.declared.seat.Seat.TheVariants.{Result, Value}
 use Rattle.spv_conditions.specs.declared.asked.Rest.TheVariants as rest
 use Rattle.spv_conditions.specs.declared.asked.Asked.{Asked}

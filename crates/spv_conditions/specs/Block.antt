@@ -8,7 +8,7 @@ use Rattle.spv_module.specs.Operand.{Plain, Id, PlainInst}
 use Rattle.spv_module.specs.Width.{definition_of}
 use Rattle.spv_type_forms.specs.declared.form.Form.TheVariants as form
 use Rattle.spv_type_forms.specs.Form.{form_of}
-use Rattle.spv_type_forms.specs.Operands.{after_head}
+use Rattle.spv_type_kinds.specs.Operands.{function_type_in}
 use Rattle.spv_type_forms.specs.Parts.{after_result}
 use Rattle.spv_type_forms.specs.Types.{IsPointer, IsSomeInt, pointee_in}
 
@@ -16,13 +16,6 @@ use Rattle.spv_type_forms.specs.Types.{IsPointer, IsSomeInt, pointee_in}
 -- %f = OpFunction %r control %t; %t = OpTypeFunction %r %p .. [3.49.9, 3.49.6]
 abbrev pub signature_in : PlainInst → Option (List Plain)
 signature_in i = if nat_eq i.opcode opcode.TYPE_FUNCTION then Some (after_result i.operands) else None
-
-abbrev pub type_after_control : List Plain → Option ℕ
-type_after_control (c ∷ Id t ∷ os) = Some t
-type_after_control _ = None
-
-abbrev pub function_type_in : PlainInst → Option ℕ
-function_type_in i = if nat_eq i.opcode opcode.FUNCTION then type_after_control (after_head i.operands) else None
 
 abbrev pub function_type_of : List PlainInst → ℕ → Option ℕ
 function_type_of is f = option_and_then function_type_in (definition_of is f)

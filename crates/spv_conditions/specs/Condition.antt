@@ -16,10 +16,10 @@ use Rattle.spv_type_forms.specs.Types.{IsPointer, PointsTo, IsData, IsPlain, IsO
 use Rattle.spv_type_forms.specs.Objects.{pipe_access_of, IsSizeInt, IsSizeArray, IsRangeStruct, IsRange}
 use Rattle.spv_conditions.specs.Image.{IsImage, IsSampled, IsTexelPointer, IsPlace, IsIntCoordinate, IsCoordinate}
 use Rattle.spv_conditions.specs.Image.{IsExtent, IsTexel, IsNumeric}
-use Rattle.spv_conditions.specs.declared.condition.Kind.{Kind}
-use Rattle.spv_conditions.specs.declared.condition.Kind.TheVariants as kind
-use Rattle.spv_conditions.specs.declared.condition.Relation.{Relation}
-use Rattle.spv_conditions.specs.declared.condition.Relation.TheVariants as relation
+use Rattle.spv_type_kinds.specs.declared.kinds.Kind.{Kind}
+use Rattle.spv_type_kinds.specs.declared.kinds.Kind.TheVariants as kind
+use Rattle.spv_type_kinds.specs.declared.kinds.Relation.{Relation}
+use Rattle.spv_type_kinds.specs.declared.kinds.Relation.TheVariants as relation
 use Rattle.spv_conditions.specs.Values.{type_at}
 use Rattle.spv_conditions.specs.declared.asked.Rest.{Rest}
 use Rattle.spv_conditions.specs.declared.asked.Asked.{Asked}

@@ -10,8 +10,8 @@ use Rattle.spv_type_forms.specs.Form.{form_of}
 use Rattle.spv_type_forms.specs.Types.{components_of, HasSort, IsPointer}
 use Rattle.spv_type_forms.specs.declared.objects.Image.{Image}
 use Rattle.spv_type_forms.specs.Objects.{image_of}
-use Rattle.spv_conditions.specs.declared.condition.Images.{Images}
-use Rattle.spv_conditions.specs.declared.condition.Images.TheVariants as images
+use Rattle.spv_type_kinds.specs.declared.kinds.Images.{Images}
+use Rattle.spv_type_kinds.specs.declared.kinds.Images.TheVariants as images
 
 -- the image type behind a type: itself, the one of which it is the sampled image type, or that it points to [own]
 abbrev pub behind_in : ℕ → Form → ℕ

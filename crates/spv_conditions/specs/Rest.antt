@@ -4,7 +4,7 @@ use Rattle.std.specs.Prelude.{◌≡◌, ◌≢◌, ◌⊎◌, ◌+◌, ◌<◌,
 use Rattle.std.specs.Prelude.{length, slice_get, drop, nat_eq, if◌then◌else◌, option_and_then, option_map}
 use Rattle.std.specs.List.{AllByRecursion}
 use Rattle.spv_module.specs.Operand.{PlainInst}
-use Rattle.spv_type_forms.specs.Operands.{words_in, ids_in, after_head}
+use Rattle.spv_type_kinds.specs.Operands.{words_in, ids_in, after_head}
 use Rattle.spv_type_forms.specs.Types.{PointsTo, IsVector}
 use Rattle.spv_type_forms.specs.declared.form.Form.{Form}
 use Rattle.spv_type_forms.specs.declared.form.Form.TheVariants as form

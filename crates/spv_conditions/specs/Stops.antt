@@ -2,7 +2,7 @@
 use Rattle.std.specs.Prelude.{◌<◌, ◌+◌, ◌↔◌, ℕ, List, [], ◌∷◌, Option, Some, None, Bool, IsSome, if◌then◌else◌}
 use Rattle.std.specs.Prelude.{option_map, unwrap_or}
 use Rattle.spv_module.specs.Operand.{PlainInst}
-use Rattle.spv_type_forms.specs.Operands.{ids_in, after_head}
+use Rattle.spv_type_kinds.specs.Operands.{ids_in, after_head}
 use Rattle.spv_conditions.specs.declared.chain.Stops.{Stops}
 use Rattle.spv_conditions.specs.Chain.{chosen_of, led_by}
 

@@ -5,7 +5,7 @@ use Rattle.spv_layout.specs.Place.{IsOfSection, IsOfFunction}
 use Rattle.spv_type_forms.specs.Definitions.{IsConstant, IsGlobal}
 use Rattle.spv_type_forms.specs.Form.{form_of}
 use Rattle.spv_type_forms.specs.Types.{class_in}
-use Rattle.spv_type_forms.specs.Operands.{ids_in}
+use Rattle.spv_type_kinds.specs.Operands.{ids_in}
 
 -- the storage class, by what follows the result
 abbrev pub class_of : List Plain → Option ℕ

@@ -1,7 +1,7 @@
 //! What the row of an opcode asks, condition by condition.
 
-use crate::condition::{Kind, Relation};
 use crate::seat::Seat;
+use spv_type_kinds::{Kind, Relation};
 
 /// What an instruction does with the texels of an image.
 #[derive(Clone, Copy)]

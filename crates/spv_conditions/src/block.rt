@@ -3,8 +3,8 @@
 ghost use Rattle.std.specs.Prelude.{◌≡◌, ◌↔◌, Some, IsTrue, IsSomeAnd, option_map, slice_get};
 ghost use Rattle.std.specs.List.{AllByRecursion};
 ghost use Rattle.spv_module.specs.Module.{plain_inst, plain_operand, plain_operands};
-ghost use Rattle.spv_type_forms.specs.Operands as of_operands;
-ghost use Rattle.spv_type_forms.specs.Operands.{ids_in};
+ghost use Rattle.spv_type_kinds.specs.Operands as of_operands;
+ghost use Rattle.spv_type_kinds.specs.Operands.{ids_in};
 ghost use Rattle.spv_type_forms.specs.Types.{IsSomeInt, pointee_in};
 ghost use Rattle.spv_type_forms.specs.declared.form.Form.TheVariants as form;
 ghost use Rattle.spv_type_forms.specs.Form.{form_of};
@@ -13,16 +13,7 @@ ghost use Rattle.spv_conditions.specs.Block as spec;
 use crate::seat::{Seat, type_at};
 use spv_module::{Inst, Operand, opcode};
 use spv_type_forms::{Definitions, Form, after_head, after_result, is_int};
-
-/// The function type that an instruction names, if it is an OpFunction. It takes no memory.
-pub fn function_type_in(inst: &Inst) -> Option<u32>
-    ensures { result ≡ spec.function_type_in (plain_inst inst.now) }
-{
-    match (inst.opcode, after_head(inst.operands.as_slice())) {
-        (opcode::FUNCTION, [_, Operand::Id(t), ..]) => Some(*t),
-        _ => None,
-    }
-}
+use spv_type_kinds::function_type_in;
 
 /// The function type of an id, if it is that of an OpFunction.
 pub fn function_type(definitions: &Definitions, f: u32) -> Option<u32>

@@ -2,8 +2,8 @@
 
 ghost use Rattle.std.specs.Prelude.{◌≡◌, ◌↔◌, IsTrue, option_map, take};
 ghost use Rattle.spv_module.specs.Module.{plain_inst, plain_operands};
-ghost use Rattle.spv_type_forms.specs.Operands.{ids_in};
-ghost use Rattle.spv_type_forms.specs.Operands as of_operands;
+ghost use Rattle.spv_type_kinds.specs.Operands.{ids_in};
+ghost use Rattle.spv_type_kinds.specs.Operands as of_operands;
 ghost use Rattle.spv_type_forms.specs.Parts.{constant_of, part_of};
 ghost use Rattle.spv_conditions.specs.Chain as spec;
 ghost use Rattle.spv_conditions.specs.Stops as stop;

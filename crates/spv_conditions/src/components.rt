@@ -4,7 +4,7 @@ ghost use Rattle.std.specs.Prelude.{◌≡◌, ◌↔◌, ℕ, IsTrue, IsSomeAnd
 ghost use Rattle.std.specs.List.{AllByRecursion};
 ghost use Rattle.spv_module.specs.Module.{plain_operands};
 ghost use Rattle.spv_type_forms.specs.Form.{form_of};
-ghost use Rattle.spv_type_forms.specs.Operands.{words_in};
+ghost use Rattle.spv_type_kinds.specs.Operands.{words_in};
 ghost use Rattle.spv_type_forms.specs.Types.{IsVector};
 ghost use Rattle.spv_conditions.specs.Rest as spec;
 ghost use Rattle.spv_conditions.specs.Rest.{IsComponent};

@@ -3,14 +3,13 @@
 ghost use Rattle.std.specs.Prelude.{◌≡◌, ◌<◌, ◌↔◌, ℕ, IsTrue, length};
 ghost use Rattle.spv_module.specs.Module.{plain_inst};
 ghost use Rattle.spv_type_forms.specs.Types.{IsPointer, IsVector, PointsTo};
-ghost use Rattle.spv_conditions.specs.declared.condition.Kind.TheVariants as kind;
-ghost use Rattle.spv_conditions.specs.declared.condition.Relation.TheVariants as relation;
+ghost use Rattle.spv_type_kinds.specs.declared.kinds.Kind.TheVariants as kind;
+ghost use Rattle.spv_type_kinds.specs.declared.kinds.Relation.TheVariants as relation;
 ghost use Rattle.spv_conditions.specs.Condition.{Agrees, HasOtherScalar, HasResult, HasSameBits, HasSameCount};
 ghost use Rattle.spv_conditions.specs.Condition.{IsChoice, IsNamedClass, IsOf, bits_of};
 ghost use Rattle.spv_conditions.specs.inner.Direct.{AgreesDirectly, HoldsDirectly};
 
 use crate::asked::Asked;
-use crate::condition::{Kind, Relation};
 use crate::constituents::is_pair_of;
 use crate::image::{
     is_coordinate, is_extent, is_image, is_int_coordinate, is_place, is_sampled, is_sampled_of,
@@ -28,6 +27,7 @@ use spv_type_forms::{
     Components, Definitions, Form, Scalar, Sort, has_sort, is_data, is_int, is_number, is_object,
     is_plain, is_range, is_range_struct, is_size_int, points_to,
 };
+use spv_type_kinds::{Kind, Relation};
 
 /// Whether a type is a bool.
 #[inline(always)]

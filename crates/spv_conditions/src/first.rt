@@ -6,18 +6,18 @@ ghost use Rattle.spv_conditions.specs.Asks as spec;
 ghost use Rattle.spv_conditions.specs.Chain.{first_index as first_spec};
 ghost use Rattle.spv_conditions.specs.declared.asked.Asked.TheVariants as asked;
 ghost use Rattle.spv_conditions.specs.declared.asked.Rest.TheVariants as rest;
-ghost use Rattle.spv_conditions.specs.declared.condition.Kind.TheVariants as kind;
+ghost use Rattle.spv_type_kinds.specs.declared.kinds.Kind.TheVariants as kind;
 ghost use Rattle.spv_conditions.specs.declared.seat.Seat.TheVariants as seat;
 ghost use Rattle.spv_conditions.specs.inner.Direct.{HoldsDirectly};
 ghost use Rattle.spv_conditions.specs.inner.Failing.{IsFirstIn};
 
 use crate::asked::{Asked, Asks, Each, Rest};
 use crate::chain::{first_index, leads_past, stops_of};
-use crate::condition::{Kind, Relation};
 use crate::decide::holds;
 use crate::seat::Seat;
 use spv_module::Inst;
 use spv_type_forms::Definitions;
+use spv_type_kinds::{Kind, Relation};
 
 /// The condition of the value of a number.
 fn of_each(each: Each, k: u32) -> Asked

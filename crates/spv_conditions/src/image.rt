@@ -6,8 +6,8 @@ ghost use Rattle.spv_type_forms.specs.Types.{IsPointer};
 ghost use Rattle.spv_conditions.specs.Image as spec;
 ghost use Rattle.spv_type_forms.specs.declared.form.Form.TheVariants as form;
 
-use crate::condition::Images;
 use spv_type_forms::{Definitions, Form, Image, Sort, has_sort, image_of};
+use spv_type_kinds::Images;
 
 /// The type itself, the image type of a sampled image type, or what a pointer points to.
 fn behind(t: u32, form: Form) -> u32

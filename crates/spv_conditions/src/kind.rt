@@ -3,7 +3,7 @@
 ghost use Rattle.std.specs.Prelude.{◌↔◌, IsTrue};
 ghost use Rattle.spv_type_forms.specs.Types.{IsInt};
 ghost use Rattle.spv_conditions.specs.Condition.{IsAcross, IsOf};
-ghost use Rattle.spv_conditions.specs.declared.condition.Kind.TheVariants as kind;
+ghost use Rattle.spv_type_kinds.specs.declared.kinds.Kind.TheVariants as kind;
 
 use crate::image::is_numeric;
 use spv_type_forms::{

@@ -5,7 +5,6 @@ mod asked;
 mod block;
 mod chain;
 mod components;
-mod condition;
 mod constituents;
 mod decide;
 mod first;
@@ -22,12 +21,10 @@ mod variable;
 
 pub use asked::{Asked, Asks, Each, Rest, Texels};
 pub use block::{
-    after_block, are_taken, front_id, function_type, function_type_in, invoked_of, is_local_size,
-    takes,
+    after_block, are_taken, front_id, function_type, invoked_of, is_local_size, takes,
 };
 pub use chain::{base_in, chosen, first_index, front, indexes_of, led_by, led_to};
 pub use components::both_sizes;
-pub use condition::{Images, Kind, Relation};
 pub use constituents::part_of;
 pub use decide::{holds, is_of};
 pub use first::first_failing;
@@ -36,4 +33,5 @@ pub use group::{enumerant, id_at};
 pub use path::{part_within, stop_at};
 pub use rest::reached_in;
 pub use seat::{Seat, type_at};
+pub use spv_type_kinds::{Images, Kind, Relation, function_type_in};
 pub use variable::{all_initialize, is_class_at};

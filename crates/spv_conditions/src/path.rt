@@ -2,7 +2,7 @@
 
 ghost use Rattle.std.specs.Prelude.{◌≡◌, ◌<◌, ◌↔◌, IsTrue, length};
 ghost use Rattle.spv_module.specs.Module.{plain_operand, plain_operands};
-ghost use Rattle.spv_type_forms.specs.Operands.{words_in};
+ghost use Rattle.spv_type_kinds.specs.Operands.{words_in};
 ghost use Rattle.spv_type_forms.specs.Reach.{AreWithin};
 ghost use Rattle.spv_conditions.specs.Path as spec;
 

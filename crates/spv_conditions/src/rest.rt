@@ -4,7 +4,7 @@ ghost use Rattle.std.specs.Prelude.{◌≡◌, ◌⊎◌, ◌<◌, ◌+◌, ◌�
 ghost use Rattle.std.specs.Prelude.{slice_get};
 ghost use Rattle.std.specs.List.{AllByRecursion};
 ghost use Rattle.spv_module.specs.Module.{plain_inst, plain_operands};
-ghost use Rattle.spv_type_forms.specs.Operands.{after_head, ids_in, words_in};
+ghost use Rattle.spv_type_kinds.specs.Operands.{after_head, ids_in, words_in};
 ghost use Rattle.spv_type_forms.specs.Types.{PointsTo};
 ghost use Rattle.spv_type_forms.specs.Reach.{AreWithin};
 ghost use Rattle.spv_conditions.specs.Chain as chain;

@@ -4,8 +4,8 @@ ghost use Rattle.std.specs.Prelude.{◌≡◌, ◌≢◌, ◌<◌, ◌↔◌, Is
 ghost use Rattle.std.specs.List.{AllByRecursion};
 ghost use Rattle.spv_module.specs.Module.{plain_inst, plain_operands};
 ghost use Rattle.spv_type_forms.specs.Form.{form_of};
-ghost use Rattle.spv_type_forms.specs.Operands.{ids_in};
-ghost use Rattle.spv_type_forms.specs.Operands as of_operands;
+ghost use Rattle.spv_type_kinds.specs.Operands.{ids_in};
+ghost use Rattle.spv_type_kinds.specs.Operands as of_operands;
 ghost use Rattle.spv_type_forms.specs.Types.{class_in};
 ghost use Rattle.spv_conditions.specs.Variable as spec;
 ghost use Rattle.spv_conditions.specs.Variable.{HasClass, MayHave, MayInitialize, initializers_in};

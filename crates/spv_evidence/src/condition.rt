@@ -1,4 +1,4 @@
-use spv_conditions::{Kind, Relation};
+use spv_type_kinds::{Kind, Relation};
 
 /// A condition of Y2, Y4 or Y5.
 #[derive(Clone, Copy, PartialEq, Eq)]

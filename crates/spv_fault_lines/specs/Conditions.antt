@@ -2,14 +2,14 @@
 use Rattle.std.specs.Prelude.{ℕ, zero, List, codes}
 use Rattle.spv_evidence.specs.declared.condition.Condition.{Condition}
 use Rattle.spv_evidence.specs.declared.condition.Condition.TheVariants as condition
-use Rattle.spv_conditions.specs.declared.condition.Kind.{Kind}
-use Rattle.spv_conditions.specs.declared.condition.Kind.TheVariants as kind
-use Rattle.spv_conditions.specs.declared.condition.Relation.{Relation}
-use Rattle.spv_conditions.specs.declared.condition.Images.{Images}
-use Rattle.spv_conditions.specs.declared.condition.Images.TheVariants as images
-use Rattle.spv_type_forms.specs.declared.form.Object.{Object}
-use Rattle.spv_type_forms.specs.declared.form.Object.TheVariants as object
-use Rattle.spv_conditions.specs.declared.condition.Relation.TheVariants as relation
+use Rattle.spv_type_kinds.specs.declared.kinds.Kind.{Kind}
+use Rattle.spv_type_kinds.specs.declared.kinds.Kind.TheVariants as kind
+use Rattle.spv_type_kinds.specs.declared.kinds.Relation.{Relation}
+use Rattle.spv_type_kinds.specs.declared.kinds.Images.{Images}
+use Rattle.spv_type_kinds.specs.declared.kinds.Images.TheVariants as images
+use Rattle.spv_type_kinds.specs.declared.kinds.Object.{Object}
+use Rattle.spv_type_kinds.specs.declared.kinds.Object.TheVariants as object
+use Rattle.spv_type_kinds.specs.declared.kinds.Relation.TheVariants as relation
 
 -- The words for conditions: 'it' is the operand, and its type the result type, where it is that, and else the one that
 -- its id is declared with.

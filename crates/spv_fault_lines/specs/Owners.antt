@@ -4,7 +4,7 @@ use Rattle.std.specs.Prelude.{take}
 use Rattle.std.specs.Prelude.{nat_lt, get_or, option_and_then, set, slice_get, unwrap_or, if◌then◌else◌}
 use Rattle.spv_table.specs.Lookups.{is_number}
 use Rattle.spv_module.specs.Operand.{Plain, OfType, Result, Id, Word, Number, PlainInst, type_in}
-use Rattle.spv_conditions.specs.Block.{function_type_in}
+use Rattle.spv_type_kinds.specs.Operands.{function_type_in}
 use Rattle.spv_module.specs.declared.opcode.TheConstants.{FUNCTION, TYPE_ARRAY, TYPE_STRUCT, TYPE_VECTOR}
 use Rattle.spv_evidence.specs.declared.condition.Condition.{Condition}
 use Rattle.spv_evidence.specs.declared.condition.Condition.TheVariants as condition

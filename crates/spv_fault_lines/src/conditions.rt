@@ -2,9 +2,8 @@
 ghost use Rattle.std.specs.Prelude.{◌≡◌};
 ghost use Rattle.spv_fault_lines.specs.Conditions as texts;
 
-use spv_conditions::Images;
 use spv_evidence::{Condition, Kind, Relation};
-use spv_type_forms::Object;
+use spv_type_kinds::{Images, Object};
 
 /// What objects the type of an operand points to.
 fn pointer_words(object: Object) -> &'static str

@@ -10,9 +10,9 @@ ghost use Rattle.spv_fault_lines.specs.Owners.{places_from, types_at};
 ghost use Rattle.spv_fault_lines.specs.inner.Owned.{listed, listed_of, AreOwners};
 
 use crate::about::About;
-use spv_conditions::function_type_in;
 use spv_evidence::Condition;
 use spv_module::{Inst, Operand, opcode};
+use spv_type_kinds::function_type_in;
 use std::alloc::{AllocError, Global};
 use std::collections::BTreeMap;
 

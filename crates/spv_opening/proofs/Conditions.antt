@@ -21,26 +21,26 @@ use Rattle.spv_type_forms.specs.Form.{form_of}
 use Rattle.spv_type_forms.specs.Objects as objects
 use Rattle.spv_type_forms.specs.Objects.{image_of, addressing_of, IsSizeInt, IsArrayOfSizes, IsSizeArray, AreOfRange}
 use Rattle.spv_type_forms.specs.Objects.{IsRangeStruct, IsRange}
-use Rattle.spv_type_forms.specs.Operands.{words_in, ids_in, after_head, result_type_in}
+use Rattle.spv_type_kinds.specs.Operands.{words_in, ids_in, after_head, result_type_in, function_type_in}
 use Rattle.spv_type_forms.specs.Definitions.{IsConstant}
 use Rattle.spv_type_forms.specs.Parts.{part_of, count_of, constant_of, members_of}
 use Rattle.spv_type_forms.specs.Types.{components_of, IsDataForm, IsData, HasSort, sort_of, pointee_in, class_in}
 use Rattle.spv_type_forms.specs.Types.{PointsTo, IsInt, IsSomeInt, IsObject, IsPlainForm, IsPlain, IsPointer}
-use Rattle.spv_conditions.specs.declared.condition.Kind.{Kind}
-use Rattle.spv_conditions.specs.declared.condition.Kind.TheVariants as kind
-use Rattle.spv_conditions.specs.declared.condition.Relation.{Relation}
-use Rattle.spv_conditions.specs.declared.condition.Relation.TheVariants as relation
+use Rattle.spv_type_kinds.specs.declared.kinds.Kind.{Kind}
+use Rattle.spv_type_kinds.specs.declared.kinds.Kind.TheVariants as kind
+use Rattle.spv_type_kinds.specs.declared.kinds.Relation.{Relation}
+use Rattle.spv_type_kinds.specs.declared.kinds.Relation.TheVariants as relation
 use Rattle.spv_conditions.specs.declared.asked.Rest.{Rest}
 use Rattle.spv_conditions.specs.declared.asked.Rest.TheVariants as rest
 use Rattle.spv_conditions.specs.declared.asked.Asked.{Asked}
 use Rattle.spv_conditions.specs.declared.asked.Asked.TheVariants as asked
-use Rattle.spv_conditions.specs.Block.{function_type_in, function_type_of, signature_in, invoked_of, invoked_at, Takes}
+use Rattle.spv_conditions.specs.Block.{function_type_of, signature_in, invoked_of, invoked_at, Takes}
 use Rattle.spv_conditions.specs.Block.{IsBlock, IsLocalSize, IsLocal, TakesLocals, after_block, AreLocals}
 use Rattle.spv_conditions.specs.Chain.{indexes_in, base_in, chosen_in, chosen_of, led_from, led_by, led_to}
 use Rattle.spv_conditions.specs.Condition.{IsComposite, IsOf, Agrees, scalar_bits, bits_of}
 use Rattle.spv_conditions.specs.Path.{part_within, reached_by}
 use Rattle.spv_conditions.specs.Rest.{both_sizes, size_in, share_in, shares_of, IsComponent, IsShare, OfVector, OfParts}
-use Rattle.spv_conditions.specs.declared.condition.Images.{Images}
+use Rattle.spv_type_kinds.specs.declared.kinds.Images.{Images}
 use Rattle.spv_conditions.specs.declared.asked.Texels.{Texels}
 use Rattle.spv_conditions.specs.declared.asked.Texels.TheVariants as texels
 use Rattle.spv_conditions.specs.Image.{has_images, behind_in, image_behind, plane_in, places_in, extent_in, IsImage}

@@ -18,7 +18,7 @@ use Rattle.spv_layout.specs.declared.form.Role.TheVariants as role
 use Rattle.spv_type_forms.specs.declared.form.Form.{Form}
 use Rattle.spv_type_forms.specs.declared.form.Form.TheVariants as form
 use Rattle.spv_type_forms.specs.Form.{form_in, form_of}
-use Rattle.spv_type_forms.specs.Operands.{ids_in, after_head}
+use Rattle.spv_type_kinds.specs.Operands.{ids_in, after_head}
 use Rattle.spv_type_forms.specs.Parts.{id_in, AreParts}
 use Rattle.spv_type_forms.specs.Types.{IsData, IsSomeInt, scalar_in, class_in}
 use Rattle.spv_type_forms.specs.Values.{types_of}

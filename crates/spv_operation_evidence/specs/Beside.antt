@@ -3,9 +3,9 @@ use Rattle.std.specs.Prelude.{◌+◌, ◌-◌, ◌++◌, ℕ, List, [], Option,
 use Rattle.std.specs.Prelude.{option_map, option_to_list, slice_get, unwrap_or, ◌∷◌, ◌||◌, Bool, true, false, not}
 use Rattle.std.specs.Prelude.{if◌then◌else◌, nat_eq, nat_lt}
 use Rattle.spv_module.specs.Operand.{Plain, PlainInst, Mask, Word}
-use Rattle.spv_type_forms.specs.Operands.{ids_in, after_head, words_in}
+use Rattle.spv_type_kinds.specs.Operands.{ids_in, after_head, words_in}
 use Rattle.spv_type_forms.specs.Parts.{part_of}
-use Rattle.spv_evidence.specs.Reads.{inner_of, reads}
+use Rattle.spv_readings.specs.Reads.{inner_of, reads}
 use Rattle.spv_evidence.specs.declared.condition.Condition.{Condition}
 use Rattle.spv_evidence.specs.declared.condition.Condition.TheVariants as condition
 use Rattle.spv_conditions.specs.declared.seat.Seat.{Seat}
@@ -14,13 +14,13 @@ use Rattle.spv_conditions.specs.declared.asked.Rest.{Rest}
 use Rattle.spv_conditions.specs.declared.asked.Rest.TheVariants as rest
 use Rattle.spv_conditions.specs.declared.asked.Asked.{Asked}
 use Rattle.spv_conditions.specs.declared.asked.Asked.TheVariants as asked
-use Rattle.spv_evidence.specs.declared.values.Value.{Value}
+use Rattle.spv_readings.specs.declared.values.Value.{Value}
 use Rattle.spv_conditions.specs.Chain.{first_index, led_by, led_to}
-use Rattle.spv_evidence.specs.Chain.{read_chosen, read_led}
+use Rattle.spv_readings.specs.Chain.{read_chosen, read_led}
 use Rattle.spv_conditions.specs.Values.{type_at}
-use Rattle.spv_evidence.specs.Values.{types_in}
+use Rattle.spv_readings.specs.Values.{types_in}
 use Rattle.spv_conditions.specs.Path.{reached_by, stop_at}
-use Rattle.spv_evidence.specs.Path.{path_by}
+use Rattle.spv_readings.specs.Path.{path_by}
 use Rattle.spv_conditions.specs.Rest.{both_sizes}
 use Rattle.spv_conditions.specs.Block.{after_block, function_type_of}
 

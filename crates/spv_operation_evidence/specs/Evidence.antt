@@ -5,18 +5,18 @@ use Rattle.spv_table.specs.Table.{Table}
 use Rattle.spv_module.specs.Operand.{Id, PlainInst}
 use Rattle.spv_module.specs.declared.fault.Rule.{Rule}
 use Rattle.spv_module.specs.declared.fault.Rule.TheVariants as rule
-use Rattle.spv_type_forms.specs.Operands.{result_type_in}
+use Rattle.spv_type_kinds.specs.Operands.{result_type_in}
 use Rattle.spv_type_forms.specs.Values.{AreValues, types_of}
 use Rattle.spv_ops.specs.declared.table.Places.TheVariants.{Free}
 use Rattle.spv_ops.specs.Table.{places_of, conditions_of}
 use Rattle.spv_evidence.specs.declared.evidence.Evidence.{Evidence}
 use Rattle.spv_evidence.specs.declared.evidence.Evidence.TheVariants as evidence
-use Rattle.spv_evidence.specs.Named.{IsDefinedBy}
+use Rattle.spv_readings.specs.Named.{IsDefinedBy}
 use Rattle.spv_conditions.specs.declared.asked.Asked.{Asked}
-use Rattle.spv_evidence.specs.declared.values.Value.{Value}
+use Rattle.spv_readings.specs.declared.values.Value.{Value}
 use Rattle.spv_conditions.specs.Condition.{FailsFirst}
 use Rattle.spv_conditions.specs.Asks.{HoldsOf}
-use Rattle.spv_evidence.specs.Values.{types_in}
+use Rattle.spv_readings.specs.Values.{types_in}
 use Rattle.spv_operation_evidence.specs.Beside.{condition_in, operand_in, wanted_in, found_in, read_in}
 
 -- These are the value operands of the instruction i, in order, each with its number and the type that it is declared

@@ -6,10 +6,11 @@ ghost use Rattle.spv_operation_evidence.specs.Beside as spec;
 
 use crate::rest::{condition_of, found_of, operand_of, wanted_of};
 use spv_conditions::{Asked, Rest, Seat, after_block, front_id, function_type, part_of, type_at};
-use spv_evidence::{
-    Condition, Value, inner_of, path_by, read_chosen, read_led, reads, reads_within, with_type,
-};
+use spv_evidence::Condition;
 use spv_module::Inst;
+use spv_readings::{
+    Value, inner_of, path_by, read_chosen, read_led, reads, reads_within, with_type,
+};
 use spv_type_forms::{Definitions, after_head};
 use std::alloc::{AllocError, Global};
 

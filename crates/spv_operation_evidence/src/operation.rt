@@ -5,7 +5,7 @@ ghost use Rattle.spv_table.specs.Table.{Table};
 ghost use Rattle.spv_module.specs.declared.fault.Rule.TheVariants.{Y5};
 ghost use Rattle.spv_module.specs.Module.{plain_inst, plain_insts};
 ghost use Rattle.spv_layout.specs.Shape.{FitsShape};
-ghost use Rattle.spv_evidence.specs.Values.{types_in};
+ghost use Rattle.spv_readings.specs.Values.{types_in};
 ghost use Rattle.spv_ids.specs.Outcome.{IsDefinitionOf, definition_in};
 ghost use Rattle.spv_ops.specs.Typed.{IsTyped};
 ghost use Rattle.spv_operation_evidence.specs.Broken.{IsBroken};
@@ -15,11 +15,12 @@ ghost use Rattle.spv_operation_evidence.specs.inner.Values.{IsValueAt, IsTypeabl
 
 use crate::beside::{condition_in, found_in, operand_in, read_in, wanted_in};
 use spv_conditions::first_failing;
-use spv_evidence::{Evidence, Listed, Role, Value, defined_by, id_at};
+use spv_evidence::{Evidence, Listed, Role};
 use spv_ids::Ids;
 use spv_layout::{Plan, role};
 use spv_module::{Inst, Module};
 use spv_ops::asks_of;
+use spv_readings::{Value, defined_by, id_at};
 use spv_type_forms::{Definitions, result_type};
 use std::alloc::{AllocError, Global};
 

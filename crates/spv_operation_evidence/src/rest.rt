@@ -6,7 +6,7 @@ ghost use Rattle.spv_conditions.specs.Chain as chain;
 ghost use Rattle.spv_conditions.specs.Rest.{both_sizes as sizes_spec};
 ghost use Rattle.spv_conditions.specs.declared.asked.Rest.TheVariants as rest;
 ghost use Rattle.spv_conditions.specs.declared.seat.Seat.TheVariants as seat;
-ghost use Rattle.spv_evidence.specs.Values.{types_in};
+ghost use Rattle.spv_readings.specs.Values.{types_in};
 ghost use Rattle.spv_operation_evidence.specs.Beside as spec;
 
 use crate::beside::number_at;
@@ -14,8 +14,9 @@ use crate::components::{first_mask, first_odd};
 use spv_conditions::{
     Rest, Seat, both_sizes, first_index, led_by, led_to, part_of, reached_in, stop_at, type_at,
 };
-use spv_evidence::{Condition, Value, inner_of};
+use spv_evidence::Condition;
 use spv_module::Inst;
+use spv_readings::{Value, inner_of};
 use spv_type_forms::Definitions;
 
 /// The number of the operand that is the index of no part, from the type of a value on.

@@ -6,7 +6,7 @@ use Rattle.std.proofs.lemmas.Option.{none-some, same_Some}
 use Rattle.spv_module.specs.Operand.{Plain, OfType, Result, Id, Mask, PlainInst}
 use Rattle.spv_module.specs.declared.opcode.TheConstants as opcode
 use Rattle.spv_type_forms.specs.declared.form.Sort.{Sort}
-use Rattle.spv_type_forms.specs.Operands.{words_in, after_head, result_type_in}
+use Rattle.spv_type_kinds.specs.Operands.{words_in, after_head, result_type_in}
 use Rattle.spv_type_forms.specs.Types.{IsData}
 use Rattle.spv_type_forms.specs.Values.{types_of}
 use Rattle.spv_conditions.specs.Further.{MayStand}

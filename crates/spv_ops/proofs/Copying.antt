@@ -7,12 +7,12 @@ use Rattle.std.specs.List.{AllByRecursion}
 use Rattle.std.proofs.lemmas.Option.{none-some, same_Some}
 use Rattle.spv_module.specs.Operand.{Plain, PlainInst}
 use Rattle.spv_module.specs.declared.opcode.TheConstants as opcode
-use Rattle.spv_type_forms.specs.Operands.{ids_in, after_head, result_type_in}
+use Rattle.spv_type_kinds.specs.Operands.{ids_in, after_head, result_type_in}
 use Rattle.spv_type_forms.specs.Values.{types_of}
 use Rattle.spv_conditions.specs.declared.asked.Asked.TheVariants as asked
 use Rattle.spv_conditions.specs.declared.asked.Asks.{Asks}
 use Rattle.spv_conditions.specs.declared.asked.Asks.TheVariants as asks
-use Rattle.spv_conditions.specs.declared.condition.Relation.TheVariants as relation
+use Rattle.spv_type_kinds.specs.declared.kinds.Relation.TheVariants as relation
 use Rattle.spv_conditions.specs.declared.seat.Seat.TheVariants as seat
 use Rattle.spv_conditions.specs.Asks.{HoldsOf, conditions_in}
 use Rattle.spv_conditions.specs.Condition.{Agrees}

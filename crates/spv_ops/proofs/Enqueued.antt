@@ -5,15 +5,15 @@ use Rattle.std.specs.Prelude.{IsSomeAnd}
 use Rattle.std.specs.List.{AllByRecursion}
 use Rattle.spv_module.specs.Operand.{Plain, PlainInst}
 use Rattle.spv_module.specs.Width.{type_of}
-use Rattle.spv_type_forms.specs.declared.form.Object.TheVariants as object
-use Rattle.spv_type_forms.specs.Operands.{ids_in, after_head}
+use Rattle.spv_type_kinds.specs.declared.kinds.Object.TheVariants as object
+use Rattle.spv_type_kinds.specs.Operands.{ids_in, after_head}
 use Rattle.spv_type_forms.specs.Values.{types_of}
 use Rattle.spv_conditions.specs.declared.asked.Rest.TheVariants as beside
 use Rattle.spv_conditions.specs.declared.asked.Asked.TheVariants as asked
 use Rattle.spv_conditions.specs.declared.asked.Asks.{Asks}
 use Rattle.spv_conditions.specs.declared.asked.Asks.TheVariants as asks
-use Rattle.spv_conditions.specs.declared.condition.Kind.{Kind}
-use Rattle.spv_conditions.specs.declared.condition.Kind.TheVariants as kind
+use Rattle.spv_type_kinds.specs.declared.kinds.Kind.{Kind}
+use Rattle.spv_type_kinds.specs.declared.kinds.Kind.TheVariants as kind
 use Rattle.spv_conditions.specs.declared.seat.Seat.TheVariants as seat
 use Rattle.spv_conditions.specs.Asks.{HoldsOf, conditions_in}
 use Rattle.spv_conditions.specs.Block.{IsLocalSize, Takes, TakesLocals, invoked_of}

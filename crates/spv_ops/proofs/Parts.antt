@@ -9,16 +9,16 @@ use Rattle.spv_module.specs.declared.opcode.TheConstants as opcode
 use Rattle.spv_type_forms.specs.declared.form.Sort.{Sort}
 use Rattle.spv_type_forms.specs.declared.form.Sort.TheVariants as sort
 use Rattle.spv_type_forms.specs.Form.{form_of}
-use Rattle.spv_type_forms.specs.Operands.{ids_in, after_head, result_type_in}
+use Rattle.spv_type_kinds.specs.Operands.{ids_in, after_head, result_type_in}
 use Rattle.spv_type_forms.specs.Values.{types_of, paired_ids_in}
 use Rattle.spv_conditions.specs.declared.asked.Rest.{Rest}
 use Rattle.spv_conditions.specs.declared.asked.Rest.TheVariants as beside
 use Rattle.spv_conditions.specs.declared.asked.Asked.TheVariants as asked
 use Rattle.spv_conditions.specs.declared.asked.Asks.{Asks}
 use Rattle.spv_conditions.specs.declared.asked.Asks.TheVariants as asks
-use Rattle.spv_conditions.specs.declared.condition.Kind.{Kind}
-use Rattle.spv_conditions.specs.declared.condition.Kind.TheVariants as kind
-use Rattle.spv_conditions.specs.declared.condition.Relation.TheVariants as relation
+use Rattle.spv_type_kinds.specs.declared.kinds.Kind.{Kind}
+use Rattle.spv_type_kinds.specs.declared.kinds.Kind.TheVariants as kind
+use Rattle.spv_type_kinds.specs.declared.kinds.Relation.TheVariants as relation
 use Rattle.spv_conditions.specs.declared.seat.Seat.TheVariants as seat
 use Rattle.spv_conditions.specs.Variable.{initializers_in}
 use Rattle.spv_conditions.specs.Condition.{Holds}

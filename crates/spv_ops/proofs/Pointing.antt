@@ -16,8 +16,8 @@ use Rattle.spv_conditions.specs.declared.asked.Asked.TheVariants as asked
 use Rattle.spv_conditions.specs.declared.asked.Asks.{Asks}
 use Rattle.spv_conditions.specs.declared.asked.Asks.TheVariants as asks
 use Rattle.spv_conditions.specs.declared.asked.Each.TheVariants as each
-use Rattle.spv_conditions.specs.declared.condition.Kind.TheVariants as kind
-use Rattle.spv_conditions.specs.declared.condition.Relation.TheVariants as relation
+use Rattle.spv_type_kinds.specs.declared.kinds.Kind.TheVariants as kind
+use Rattle.spv_type_kinds.specs.declared.kinds.Relation.TheVariants as relation
 use Rattle.spv_conditions.specs.declared.seat.Seat.TheVariants as seat
 use Rattle.spv_conditions.specs.Chain.{first_index, led_to}
 use Rattle.spv_conditions.specs.Variable.{initializers_in, class_of, HasClass, MayHave, MayInitialize}

@@ -18,7 +18,7 @@ use Rattle.spv_layout.specs.Shape.{is_of, AreOf, Ends, HasForms}
 use Rattle.spv_ops.specs.declared.table.Places.{Places}
 use Rattle.spv_ops.specs.declared.table.Places.TheVariants as places
 use Rattle.spv_ops.specs.Table.{lines, places_of}
-use Rattle.spv_type_forms.specs.Operands.{ids_in, after_head}
+use Rattle.spv_type_kinds.specs.Operands.{ids_in, after_head}
 use Rattle.spv_type_forms.proofs.Opcodes.{both, and_yes, all_pass, one_passes}
 use Rattle.spv_type_forms.specs.Values.{value_in, used_in, paired_ids_in}
 use Rattle.spv_conditions.specs.Variable.{initializers_in}

@@ -4,7 +4,7 @@ use Rattle.std.specs.Prelude.{◌≡◌, ◌⊎◌, ℕ, List, Option, Some, len
 use Rattle.std.specs.List.{AllByRecursion}
 use Rattle.spv_table.specs.Table.{Table}
 use Rattle.spv_module.specs.Operand.{PlainInst}
-use Rattle.spv_type_forms.specs.Operands.{result_type_in}
+use Rattle.spv_type_kinds.specs.Operands.{result_type_in}
 use Rattle.spv_type_forms.specs.Values.{AreValues, types_of}
 use Rattle.spv_conditions.specs.Asks.{HoldsOf}
 use Rattle.spv_ops.specs.declared.table.Places.TheVariants.{Free}

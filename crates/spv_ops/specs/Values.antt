@@ -7,7 +7,7 @@ use Rattle.spv_ops.specs.declared.table.Places.{Places}
 use Rattle.spv_ops.specs.declared.table.Places.TheVariants.{Free, Nothing, Ids, Many, One, Pairs, Initializers, Around}
 use Rattle.spv_ops.specs.declared.table.Places.TheVariants.{Beside, Enqueued, Copied}
 use Rattle.spv_ops.specs.Table.{places_of}
-use Rattle.spv_type_forms.specs.Operands.{ids_in, after_head}
+use Rattle.spv_type_kinds.specs.Operands.{ids_in, after_head}
 use Rattle.spv_type_forms.specs.Values.{paired_ids_in}
 
 -- ids, numbered from n on, but for the one of number k [own]

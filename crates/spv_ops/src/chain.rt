@@ -2,7 +2,7 @@ ghost use Rattle.std.specs.Prelude.{◌≡◌, ◌↔◌, ◌∷◌, Some, true,
 ghost use Rattle.std.specs.List.{list_all};
 ghost use Rattle.spv_type_forms.specs.Types.{IsSomeInt};
 ghost use Rattle.spv_module.specs.Module.{plain_operands};
-ghost use Rattle.spv_type_forms.specs.Operands.{ids_in};
+ghost use Rattle.spv_type_kinds.specs.Operands.{ids_in};
 ghost use Rattle.spv_type_forms.specs.inner.Tests.{has_int};
 ghost use Rattle.spv_ops.specs.inner.Chain.{Chains, ChainsByElement, LeadsByPointer};
 ghost use Rattle.spv_type_forms.specs.Values.{types_of};

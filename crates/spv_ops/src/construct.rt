@@ -1,6 +1,6 @@
 ghost use Rattle.std.specs.Prelude.{◌≡◌, ◌<◌, ◌↔◌, Some, IsTrue, IsSomeAnd, length, option_and_then};
 ghost use Rattle.spv_module.specs.Module.{plain_operands};
-ghost use Rattle.spv_type_forms.specs.Operands.{ids_in};
+ghost use Rattle.spv_type_kinds.specs.Operands.{ids_in};
 ghost use Rattle.spv_type_forms.specs.Form.{form_of};
 ghost use Rattle.spv_ops.specs.inner.Tests.{left_of_all, left_of};
 ghost use Rattle.spv_conditions.specs.Rest.{shares_of};

@@ -2,11 +2,11 @@
 
 ghost use Rattle.std.specs.Prelude.{◌≡◌, ◌≢◌, ◌<◌, ◌↔◌, ◌∷◌, [], ℕ, IfOk, OnOk, IsTrue, MatchOption, Some, length};
 ghost use Rattle.spv_module.specs.Module.{plain_inst, plain_operands};
-ghost use Rattle.spv_type_forms.specs.Operands.{after_head as values_in, ids_in, result_type_in};
+ghost use Rattle.spv_type_kinds.specs.Operands.{after_head as values_in, ids_in, result_type_in};
 ghost use Rattle.spv_type_forms.specs.Values.{types_of};
 ghost use Rattle.spv_type_forms.specs.inner.Matching.{IsMatching};
 ghost use Rattle.spv_conditions.specs.Condition.{Agrees};
-ghost use Rattle.spv_conditions.specs.declared.condition.Relation.TheVariants as relation;
+ghost use Rattle.spv_type_kinds.specs.declared.kinds.Relation.TheVariants as relation;
 ghost use Rattle.spv_ops.specs.declared.table.Places.TheVariants.{Copied};
 ghost use Rattle.spv_ops.specs.Table.{places_of};
 ghost use Rattle.spv_ops.specs.inner.Copy.{IsCopy};

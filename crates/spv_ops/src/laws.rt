@@ -8,7 +8,7 @@ ghost use Rattle.spv_module.specs.declared.opcode.TheConstants as opcode;
 ghost use Rattle.spv_layout.specs.Shape.{FitsShape};
 ghost use Rattle.spv_type_forms.specs.Example.{inst, small, twins};
 ghost use Rattle.spv_type_forms.specs.Form.{form_of};
-ghost use Rattle.spv_type_forms.specs.Operands.{ids_in, after_head};
+ghost use Rattle.spv_type_kinds.specs.Operands.{ids_in, after_head};
 ghost use Rattle.spv_type_forms.specs.Values.{AreValues, types_of};
 ghost use Rattle.spv_ops.specs.declared.table.Places.TheVariants as places;
 ghost use Rattle.spv_ops.specs.Example.{add, add_floats, by_element, label, pointed_variable, to_member, variable};

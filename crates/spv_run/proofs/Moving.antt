@@ -38,7 +38,7 @@ use Rattle.spv_layout.specs.Row.{repeated}
 use Rattle.spv_layout.specs.inner.Row as row
 use Rattle.spv_layout.specs.Shape.{is_of, AreOf, Ends, FitsShape}
 use Rattle.spv_layout.specs.declared.form.Role.TheVariants as role
-use Rattle.spv_type_forms.specs.Operands.{ids_in}
+use Rattle.spv_type_kinds.specs.Operands.{ids_in}
 use Rattle.spv_run.specs.declared.moves.Move.{Move}
 use Rattle.spv_run.proofs.Laid.{laid_out}
 use Rattle.spv_run.proofs.Shapes.{View, view, an_id, is_other, none, take as take_form}

@@ -10,7 +10,7 @@ use Rattle.spv_module.specs.Operand.{Plain, PlainInst, Id, result_in, type_in}
 use Rattle.spv_module.specs.Width.{has_result, or_else, definition_of}
 use Rattle.spv_layout.specs.Shape.{FitsShape}
 use Rattle.spv_type_forms.specs.Types.{IsData}
-use Rattle.spv_type_forms.specs.Operands.{result_type_in}
+use Rattle.spv_type_kinds.specs.Operands.{result_type_in}
 use Rattle.spv_conditions.specs.declared.asked.Asks.{Asks}
 use Rattle.spv_conditions.specs.Asks.{HoldsOf, conditions_in}
 use Rattle.spv_ops.specs.Table.{lines, asks_of}

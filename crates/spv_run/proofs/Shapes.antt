@@ -16,7 +16,7 @@ use Rattle.spv_layout.specs.Row.{PlainRow, closed, repeated}
 use Rattle.spv_layout.specs.inner.Row.{row, v, l, f, t, kind, T, R, W, N}
 use Rattle.spv_layout.specs.Rows.{rows, row_of}
 use Rattle.spv_layout.specs.Shape.{is_of, AreOf, Ends, FitsShape}
-use Rattle.spv_type_forms.specs.Operands.{ids_in}
+use Rattle.spv_type_kinds.specs.Operands.{ids_in}
 use Rattle.spv_run.specs.Act.{Act, Function, Parameter, FunctionEnd, Label, Phi, Branch, Choose, Call, Return}
 use Rattle.spv_run.specs.Act.{ReturnValue, Other, act_of, pairs, labels_in, call_in, phi_in, branch_in, condition_in}
 use Rattle.spv_run.specs.Act.{switch_in, value_in}

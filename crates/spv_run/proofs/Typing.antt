@@ -12,7 +12,7 @@ use Rattle.spv_module.specs.Width.{definition_of, type_of}
 use Rattle.spv_module.specs.declared.fault.Rule.{Rule}
 use Rattle.spv_module.specs.declared.fault.Rule.TheVariants as rule
 use Rattle.spv_layout.specs.Place.{IsDefinition}
-use Rattle.spv_type_forms.specs.Operands.{ids_in}
+use Rattle.spv_type_kinds.specs.Operands.{ids_in}
 use Rattle.spv_type_forms.specs.Values.{types_of, paired_ids_in}
 use Rattle.spv_ops.specs.Values as rows
 use Rattle.spv_ops.specs.Table.{lines}

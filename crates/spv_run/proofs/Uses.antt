@@ -23,7 +23,7 @@ use Rattle.spv_ops.specs.Values.{values_of as rows_values_of}
 use Rattle.spv_ops.proofs.Judged.{free_or}
 use Rattle.spv_ops.proofs.ValuePlaces.{values_agree}
 use Rattle.spv_run.specs.Row.{values_of}
-use Rattle.spv_type_forms.specs.Operands.{ids_in}
+use Rattle.spv_type_kinds.specs.Operands.{ids_in}
 use Rattle.spv_type_forms.specs.Values.{used_in}
 use Rattle.spv_run.specs.Act.{Act, Pair, Phi, act_of, pairs, labels_in}
 use Rattle.spv_run.specs.At.{value_from}

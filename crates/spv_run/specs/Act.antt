@@ -1,6 +1,6 @@
 -- What an instruction is to a run. [2.2.5, 3.49.9, 3.49.17]
 use Rattle.std.specs.Prelude.{ℕ, List, [], ◌∷◌, nat_eq, if◌then◌else◌}
-use Rattle.spv_type_forms.specs.Operands.{ids_in}
+use Rattle.spv_type_kinds.specs.Operands.{ids_in}
 use Rattle.spv_module.specs.Operand.{Plain, OfType, Result, Id, PlainInst}
 use Rattle.spv_module.specs.declared.opcode.TheConstants as opcode
 

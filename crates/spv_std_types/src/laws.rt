@@ -13,7 +13,7 @@ ghost use Rattle.spv_module.specs.declared.fault.Rule.TheVariants.{Y10};
 ghost use Rattle.spv_module.specs.declared.opcode.TheConstants as opcode;
 ghost use Rattle.spv_extended.specs.declared.reach.Reach.TheVariants.{Extended, OpenCl};
 ghost use Rattle.spv_type_forms.specs.Example.{inst};
-ghost use Rattle.spv_conditions.specs.declared.condition.Kind.TheVariants as kind;
+ghost use Rattle.spv_type_kinds.specs.declared.kinds.Kind.TheVariants as kind;
 ghost use Rattle.spv_std_types.specs.declared.condition.Among.TheVariants as among;
 ghost use Rattle.spv_std_types.specs.declared.condition.Classes.TheVariants as classes;
 ghost use Rattle.spv_std_types.specs.declared.condition.Condition.{Condition};

@@ -12,12 +12,12 @@ use Rattle.spv_ids.specs.Definition.{IsDefinedAt}
 use Rattle.spv_ids.specs.Outcome.{IsOnly}
 use Rattle.spv_type_forms.specs.declared.form.Form.{Form}
 use Rattle.spv_type_forms.specs.declared.form.Form.TheVariants as form
-use Rattle.spv_type_forms.specs.declared.form.Object.{Object}
+use Rattle.spv_type_kinds.specs.declared.kinds.Object.{Object}
 use Rattle.spv_type_forms.specs.Form.{form_in, form_of}
 use Rattle.spv_type_forms.specs.Parts.{part_of, members_of, id_in}
 use Rattle.spv_type_forms.specs.Types.{IsData}
 use Rattle.spv_type_forms.specs.Null.{lacks_null, IsEarlier, LacksNull, IsNullable}
-use Rattle.spv_type_forms.specs.declared.form.Object.TheVariants as object
+use Rattle.spv_type_kinds.specs.declared.kinds.Object.TheVariants as object
 use Rattle.spv_type_forms.specs.Example.{inst, objects, pipes}
 use Rattle.spv_type_forms.proofs.Lookups.{finds}
 use Rattle.spv_type_forms.specs.inner.Null.{AreLacking, LacksBefore, MemberLacks, OneLacks}

@@ -4,8 +4,8 @@ use Rattle.spv_module.specs.declared.opcode.TheConstants as opcode
 use Rattle.spv_module.specs.Operand.{Plain, Result, Id, Word, Value, PlainInst}
 use Rattle.spv_module.specs.Width.{definition_of}
 use Rattle.spv_type_forms.specs.declared.form.Scalar.TheVariants as scalar
-use Rattle.spv_type_forms.specs.declared.form.Object.{Object}
-use Rattle.spv_type_forms.specs.declared.form.Object.TheVariants as object
+use Rattle.spv_type_kinds.specs.declared.kinds.Object.{Object}
+use Rattle.spv_type_kinds.specs.declared.kinds.Object.TheVariants as object
 use Rattle.spv_type_forms.specs.declared.form.Form.{Form}
 use Rattle.spv_type_forms.specs.declared.form.Form.TheVariants as form
 

@@ -1,6 +1,5 @@
 pub mod Form
 pub mod Types
-pub mod Operands
 pub mod Parts
 pub mod Reach
 pub mod Values

@@ -4,6 +4,7 @@ ghost use Rattle.spv_type_forms.specs.Form as spec;
 ghost use Rattle.spv_type_forms.specs.Types.{sort_of};
 
 use spv_module::{Inst, Operand, opcode};
+use spv_type_kinds::Object;
 
 /// A scalar type (SPIR-V Specification 1.6, section 2.2.2). Ints and floats have a width in bits.
 #[derive(Clone, Copy, PartialEq, Eq)]
@@ -11,20 +12,6 @@ pub enum Scalar {
     Int(u32),
     Float(u32),
     Bool,
-}
-
-/// What an opaque type of OpenCL is of (SPIR-V Specification 1.6, sections 3.49.6 and 2.2.2).
-#[derive(Clone, Copy, PartialEq, Eq)]
-pub enum Object {
-    Image,
-    Sampler,
-    Event,
-    DeviceEvent,
-    ReserveId,
-    Queue,
-    Pipe,
-    PipeStorage,
-    NamedBarrier,
 }
 
 /// What a type declaration declares (SPIR-V Specification 1.6, section 3.49.6). Other types are named by their ids. The

@@ -1,6 +1,6 @@
 ghost use Rattle.std.specs.Prelude.{◌≡◌, ◌≤◌, ◌<◌, ℕ, List, Some, IfSome, IfNone, length, take};
 ghost use Rattle.spv_module.specs.Module.{plain_operands};
-ghost use Rattle.spv_type_forms.specs.Operands.{ids_in};
+ghost use Rattle.spv_type_kinds.specs.Operands.{ids_in};
 ghost use Rattle.spv_type_forms.specs.Values.{types_of};
 
 use crate::definitions::Definitions;

@@ -9,7 +9,7 @@ ghost use Rattle.spv_type_forms.specs.Form.{form_of};
 ghost use Rattle.spv_type_forms.specs.Types.{IsInt, IsFloat, IsBool, IsSomeInt, IsNumber, HasSort};
 ghost use Rattle.spv_type_forms.specs.inner.Types.{IsI, IsF, IsB, IsOf};
 ghost use Rattle.spv_type_forms.specs.Types.{IsVector, IsPointer, IsData, IsObject, IsPlain, PointsTo};
-ghost use Rattle.spv_type_forms.specs.declared.form.Object.TheVariants as object;
+ghost use Rattle.spv_type_kinds.specs.declared.kinds.Object.TheVariants as object;
 ghost use Rattle.spv_type_forms.specs.Objects.{image_of, pipe_access_of, IsSizeInt, IsSizeArray};
 ghost use Rattle.spv_type_forms.specs.Objects.{IsRangeStruct, IsRange};
 ghost use Rattle.spv_type_forms.specs.Null.{IsNullable};

@@ -9,14 +9,13 @@ mod matching;
 mod meaning;
 mod nulls;
 mod objects;
-mod operands;
 mod parts;
 mod reach;
 mod several;
 mod types;
 
 pub use definitions::{DECLARATIONS, Definitions, is_constant, is_constant_opcode, type_in};
-pub use form::{Components, Form, Object, Scalar, Sort, form_in};
+pub use form::{Components, Form, Scalar, Sort, form_in};
 pub use gathering::{MOST, gather};
 pub use matching::Matching;
 pub use meaning::Meaning;
@@ -24,10 +23,10 @@ pub use nulls::Nulls;
 pub use objects::{
     Image, image_in, image_of, is_range, is_range_struct, is_size_array, is_size_int, pipe_access,
 };
-pub use operands::{after_head, after_result, has_words, id_count, result_type, word_count};
-pub use parts::{Parts, count, length, parts_of};
+pub use parts::{Parts, after_result, count, length, parts_of};
 pub use reach::{leads_by_ints, reaches};
 pub use several::{all_pairs_of_type, all_pointees, fills, is_typed, stands_for_int};
+pub use spv_type_kinds::{Object, after_head, has_words, id_count, result_type, word_count};
 pub use types::{
     has_sort, is_bool, is_data, is_int, is_noted_wide, is_number, is_object, is_plain, points_to,
 };

@@ -7,8 +7,9 @@ ghost use Rattle.spv_type_forms.specs.declared.form.Form.TheVariants as forms;
 ghost use Rattle.spv_type_forms.specs.inner.Meaning as spec;
 ghost use Rattle.spv_type_forms.specs.inner.Meaning.{IsSaid, IsMeaningOf};
 
-use crate::form::{Form, Object, Scalar, Sort, form_in};
+use crate::form::{Form, Scalar, Sort, form_in};
 use spv_module::{Inst, Operand, opcode};
+use spv_type_kinds::Object;
 
 /// What an id stands for, as far as it was noted. Each variant has one number at most, so that a list of these is
 /// small: vectors have a variant for each count of components that they may have, and pointers one for each storage

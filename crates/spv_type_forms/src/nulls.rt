@@ -11,9 +11,10 @@ ghost use Rattle.spv_type_forms.specs.Null.{IsNullable, LacksNull};
 ghost use Rattle.spv_type_forms.specs.inner.Null.{AreLacking, AreNulls, LacksBefore, MemberLacks, OneLacks};
 
 use crate::definitions::Definitions;
-use crate::form::{Form, Object};
+use crate::form::Form;
 use crate::parts::members;
 use spv_module::Operand;
+use spv_type_kinds::Object;
 use std::alloc::{AllocError, Global};
 
 /// Whether objects have no null value.

@@ -3,15 +3,25 @@ ghost use Rattle.spv_module.specs.Module.{plain_operands};
 ghost use Rattle.spv_type_forms.specs.Parts as spec;
 ghost use Rattle.spv_type_forms.specs.Parts.{constant_of, length_of, members_of, part_of, count_of};
 ghost use Rattle.spv_type_forms.specs.inner.Parts.{inner_part_of, part_among, member_of};
-ghost use Rattle.spv_type_forms.specs.Operands.{words_in, ids_in};
+ghost use Rattle.spv_type_kinds.specs.Operands.{words_in, ids_in};
 ghost use Rattle.spv_type_forms.specs.inner.Walk.{walk, choice, int_choices};
 
 use crate::definitions::Definitions;
 use crate::form::Form;
 use crate::meaning::Meaning;
-use crate::operands::after_result;
 use crate::several::stands_for_int;
 use spv_module::{Operand, opcode};
+
+/// What follows the result.
+#[inline(always)]
+pub fn after_result<'o, 'a>(operands: &'o [Operand<'a>]) -> &'o [Operand<'a>]
+    ensures { plain_operands result.now ≡ spec.after_result (plain_operands operands.now) }
+{
+    match operands {
+        [Operand::Result(_), rest @ ..] => rest,
+        _ => &[],
+    }
+}
 
 /// The number of a constant: 64 bits, the low word first.
 fn number_in(operands: &[Operand]) -> Option<u64>

@@ -3,7 +3,7 @@
 ghost use Rattle.std.specs.Prelude.{◌≡◌, ◌↔◌, Some, IsTrue, true};
 ghost use Rattle.std.specs.List.{list_all};
 ghost use Rattle.spv_module.specs.Module.{plain_operands};
-ghost use Rattle.spv_type_forms.specs.Operands.{words_in, ids_in};
+ghost use Rattle.spv_type_kinds.specs.Operands.{words_in, ids_in};
 ghost use Rattle.spv_type_forms.specs.Reach.{ReachesType, AreWithin};
 ghost use Rattle.spv_type_forms.specs.inner.Reach.{LeadsToType};
 ghost use Rattle.spv_type_forms.specs.inner.Tests.{has_int};

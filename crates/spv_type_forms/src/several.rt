@@ -2,7 +2,7 @@ ghost use Rattle.std.specs.Prelude.{◌≡◌, ◌↔◌, IsTrue, IsSomeAnd, len
 ghost use Rattle.std.specs.List.{list_all, AllByRecursion};
 ghost use Rattle.spv_module.specs.Module.{plain_operands};
 ghost use Rattle.spv_module.specs.Width.{type_of};
-ghost use Rattle.spv_type_forms.specs.Operands.{ids_in};
+ghost use Rattle.spv_type_kinds.specs.Operands.{ids_in};
 ghost use Rattle.spv_type_forms.specs.Types.{PointsTo};
 ghost use Rattle.spv_type_forms.specs.inner.Tests.{has_type, has_pointee, has_int, are_parts_from};
 ghost use Rattle.spv_type_forms.specs.Values.{paired_ids_in, types_of};
@@ -10,10 +10,10 @@ ghost use Rattle.spv_type_forms.specs.Parts.{count_of, AreParts};
 
 use crate::definitions::Definitions;
 use crate::meaning::Meaning;
-use crate::operands::id_count;
 use crate::parts::{count, parts_of};
 use crate::types::is_int;
 use spv_module::Operand;
+use spv_type_kinds::id_count;
 
 /// Whether an id stands for an int.
 #[inline(always)]

@@ -7,7 +7,8 @@ ghost use Rattle.spv_type_forms.specs.inner.Tests.{is_int_form};
 ghost use Rattle.spv_type_forms.specs.Types.{IsBool, IsSomeInt, IsNumber, PointsTo, IsData, IsObject, IsPlain, HasSort};
 
 use crate::definitions::Definitions;
-use crate::form::{Form, Object, Scalar, Sort};
+use crate::form::{Form, Scalar, Sort};
+use spv_type_kinds::Object;
 
 /// Whether a type is a pointer to another, by its definition.
 #[inline(never)]

@@ -11,7 +11,7 @@ use Rattle.spv_layout.specs.Place.{IsAt, IsOfFunction}
 use Rattle.spv_type_forms.specs.Example.{inst}
 use Rattle.spv_type_forms.specs.declared.form.Form.TheVariants as form
 use Rattle.spv_type_forms.specs.Form.{form_in, form_of}
-use Rattle.spv_type_forms.specs.Operands.{ids_in}
+use Rattle.spv_type_kinds.specs.Operands.{ids_in}
 use Rattle.spv_type_forms.specs.Types.{class_in}
 use Rattle.spv_type_forms.specs.Values.{types_of}
 use Rattle.spv_type_rules.specs.Declaration.{IsPointerAfter}

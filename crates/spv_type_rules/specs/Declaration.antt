@@ -12,7 +12,7 @@ use Rattle.spv_type_forms.specs.Types.{scalar_in, class_in, IsSomeInt, IsNumber,
 use Rattle.spv_type_forms.specs.declared.objects.Image.{Image}
 use Rattle.spv_type_forms.specs.Objects.{image_in, image_of}
 use Rattle.spv_type_forms.specs.Parts.{length_of}
-use Rattle.spv_type_forms.specs.Operands.{ids_in}
+use Rattle.spv_type_kinds.specs.Operands.{ids_in}
 use Rattle.spv_type_rules.specs.declared.declaration.Declaration.{Declaration}
 use Rattle.spv_type_rules.specs.declared.declaration.Declaration.TheVariants.{Int, Float, Vector, Array, Struct}
 use Rattle.spv_type_rules.specs.declared.declaration.Declaration.TheVariants.{Pointer, Function, Forward}

@@ -9,7 +9,7 @@ use Rattle.spv_layout.specs.Place.{IsOfFunction}
 use Rattle.spv_type_forms.specs.declared.form.Form.TheVariants as form
 use Rattle.spv_type_forms.specs.Form.{form_of}
 use Rattle.spv_type_forms.specs.Parts.{after_result, id_in}
-use Rattle.spv_type_forms.specs.Operands.{ids_in, after_head}
+use Rattle.spv_type_kinds.specs.Operands.{ids_in, after_head}
 use Rattle.spv_type_forms.specs.Values.{types_of}
 
 -- the signature that an OpTypeFunction names, the return type and then the parameter types; the function type that an

@@ -2,7 +2,7 @@ ghost use Rattle.std.specs.Prelude.{◌≡◌, ◌↔◌, Some, IsTrue, IfOk, On
 ghost use Rattle.spv_module.specs.Module.{plain_inst, plain_operands};
 ghost use Rattle.spv_module.specs.Operand as operand;
 ghost use Rattle.spv_module.specs.Width.{definition_of};
-ghost use Rattle.spv_type_forms.specs.Operands.{ids_in};
+ghost use Rattle.spv_type_kinds.specs.Operands.{ids_in};
 ghost use Rattle.spv_type_forms.specs.Parts.{count_of};
 ghost use Rattle.spv_type_forms.specs.inner.Tests.{passes};
 ghost use Rattle.spv_type_forms.specs.inner.Null.{AreNulls};

@@ -3,8 +3,8 @@ use Rattle.std.proofs.Common.{◌≡◌, ◌&&◌, ◌+◌, ◌-◌, zero, suc, 
 use Rattle.std.specs.Prelude.{IsSomeAnd}
 use Rattle.std.specs.List.{AllByRecursion}
 use Rattle.spv_module.specs.Operand.{PlainInst}
-use Rattle.spv_conditions.specs.declared.condition.Relation.{Relation}
-use Rattle.spv_conditions.specs.declared.condition.Relation.TheVariants as relation
+use Rattle.spv_type_kinds.specs.declared.kinds.Relation.{Relation}
+use Rattle.spv_type_kinds.specs.declared.kinds.Relation.TheVariants as relation
 use Rattle.spv_conditions.specs.declared.asked.Asked.{Asked}
 use Rattle.spv_conditions.specs.declared.asked.Asked.TheVariants as asked
 use Rattle.spv_conditions.specs.declared.asked.Asks.{Asks}

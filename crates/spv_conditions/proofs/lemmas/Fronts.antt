@@ -2,7 +2,7 @@
 use Rattle.std.proofs.Common.{◌≡◌, ◌∙◌, ◌≤◌, ℕ, zero, suc, List, [], ◌∷◌, refl, sym, ap, length, take, arith}
 use Rattle.spv_module.specs.Operand.{Plain}
 use Rattle.spv_module.specs.Operand as operand
-use Rattle.spv_type_forms.specs.Operands.{ids_in}
+use Rattle.spv_type_kinds.specs.Operands.{ids_in}
 
 pub front_ids : (os : List Plain) (k : ℕ) → ids_in (take k os) ≡ take k (ids_in os)
 front_ids [] zero = refl

@@ -10,7 +10,7 @@ use Rattle.spv_conditions.specs.declared.asked.Asked.TheVariants as asked
 use Rattle.spv_conditions.specs.declared.asked.Rest.TheVariants as rest
 use Rattle.spv_conditions.specs.declared.asked.Each.{Each}
 use Rattle.spv_conditions.specs.declared.asked.Asks.{Asks}
-use Rattle.spv_conditions.specs.declared.condition.Kind.TheVariants as kind
+use Rattle.spv_type_kinds.specs.declared.kinds.Kind.TheVariants as kind
 use Rattle.spv_conditions.specs.declared.seat.Seat.TheVariants as seat
 use Rattle.spv_conditions.specs.Chain.{first_index}
 use Rattle.spv_conditions.specs.Condition.{FailsFirst}

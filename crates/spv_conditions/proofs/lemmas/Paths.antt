@@ -6,7 +6,7 @@ use Rattle.std.proofs.lemmas.Bool.{ltb-true, lt-ltb}
 use Rattle.std.proofs.lemmas.Option.{option_and_then_some, none-some}
 use Rattle.spv_module.specs.Operand.{Plain, PlainInst}
 use Rattle.spv_module.specs.Operand as operand
-use Rattle.spv_type_forms.specs.Operands.{words_in}
+use Rattle.spv_type_kinds.specs.Operands.{words_in}
 use Rattle.spv_type_forms.specs.Parts.{part_of, count_of}
 use Rattle.spv_type_forms.specs.Reach.{ReachesType, AreWithin}
 use Rattle.spv_conditions.specs.Path.{part_within, reached_by, stop_at}

@@ -3,7 +3,7 @@ use Rattle.std.proofs.Common.{◌≡◌, ◌<◌, ◌+◌, ◌↔◌, ℕ, zero,
 use Rattle.std.proofs.Common.{refl, take, arith, option_and_then}
 use Rattle.std.specs.Prelude.{IsSome, option_map, unwrap_or}
 use Rattle.spv_module.specs.Operand.{PlainInst}
-use Rattle.spv_type_forms.specs.Operands.{ids_in, after_head}
+use Rattle.spv_type_kinds.specs.Operands.{ids_in, after_head}
 use Rattle.spv_conditions.specs.declared.chain.Stops.{Stops}
 use Rattle.spv_conditions.specs.Chain.{chosen_of, led_from, led_by, base_in, indexes_in}
 use Rattle.spv_conditions.specs.Stops.{stop_from, stop_of, IsBefore, AreStops}

@@ -3,8 +3,8 @@ use Rattle.std.proofs.Common.{◌≡◌, ◌∙◌, ◌≤◌, ◌+◌, ◌++◌
 use Rattle.std.proofs.Common.{arith, append_assoc}
 use Rattle.std.specs.Prelude.{slice_get}
 use Rattle.std.proofs.lemmas.Option.{none-some}
-use Rattle.spv_evidence.specs.declared.values.Value.{Value}
-use Rattle.spv_evidence.specs.Values.{types_in}
+use Rattle.spv_readings.specs.declared.values.Value.{Value}
+use Rattle.spv_readings.specs.Values.{types_in}
 
 -- one more item
 take_next : {A : Type 0} → (xs : List A) (k : ℕ) (a : A) → slice_get xs k ≡ Some a

@@ -14,8 +14,8 @@ use Rattle.spv_ops.specs.Typed.{Typed, IsTyped}
 use Rattle.spv_type_rules.specs.Keeps.{Keeps}
 use Rattle.spv_evidence.specs.declared.evidence.Evidence.{Evidence}
 use Rattle.spv_conditions.specs.declared.asked.Asked.{Asked}
-use Rattle.spv_evidence.specs.declared.values.Value.{Value}
-use Rattle.spv_evidence.specs.Values.{types_in}
+use Rattle.spv_readings.specs.declared.values.Value.{Value}
+use Rattle.spv_readings.specs.Values.{types_in}
 use Rattle.spv_conditions.specs.Condition.{FailsFirst}
 use Rattle.spv_conditions.proofs.lemmas.Listing.{not_all}
 use Rattle.spv_operation_evidence.specs.Evidence.{Shows, IsEvidence, HoldsAt}

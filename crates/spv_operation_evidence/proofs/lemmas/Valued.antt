@@ -18,16 +18,16 @@ use Rattle.spv_layout.specs.declared.form.Role.TheVariants as role
 use Rattle.spv_layout.specs.Shape.{is_of, AreOf, HasForms, FitsShape, IsUse, IsRole, role_of}
 use Rattle.spv_layout.proofs.Shapes.{forms_same, use_same}
 use Rattle.spv_type_forms.specs.Parts.{id_in}
-use Rattle.spv_type_forms.specs.Operands.{result_type_in}
+use Rattle.spv_type_kinds.specs.Operands.{result_type_in}
 use Rattle.spv_ops.specs.Typed.{IsTyped}
 use Rattle.spv_type_forms.specs.Values.{types_of, value_in, used_in}
 use Rattle.spv_evidence.specs.declared.evidence.Evidence.TheVariants as evidence
 use Rattle.spv_ops.specs.Table.{asks_of, conditions_of, places_of}
 use Rattle.spv_conditions.specs.declared.asked.Asked.{Asked}
 use Rattle.spv_conditions.specs.declared.asked.Asks.{Asks}
-use Rattle.spv_evidence.specs.declared.values.Value.{Value}
-use Rattle.spv_evidence.specs.Named.{IsDefinedBy}
-use Rattle.spv_evidence.specs.Values.{types_in}
+use Rattle.spv_readings.specs.declared.values.Value.{Value}
+use Rattle.spv_readings.specs.Named.{IsDefinedBy}
+use Rattle.spv_readings.specs.Values.{types_in}
 use Rattle.spv_operation_evidence.specs.Beside.{condition_in, operand_in, wanted_in, found_in, read_in}
 use Rattle.spv_conditions.specs.Condition.{FailsFirst}
 use Rattle.spv_conditions.specs.Asks.{HoldsOf, conditions_in}

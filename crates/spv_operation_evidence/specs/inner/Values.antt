@@ -10,8 +10,8 @@ use Rattle.spv_layout.specs.declared.form.Form.TheVariants as form
 use Rattle.spv_layout.specs.declared.form.Role.{Role}
 use Rattle.spv_layout.specs.declared.form.Role.TheVariants as role
 use Rattle.spv_layout.specs.Shape.{HasForms}
-use Rattle.spv_evidence.specs.declared.values.Value.{Value}
-use Rattle.spv_evidence.specs.Values.{types_in}
+use Rattle.spv_readings.specs.declared.values.Value.{Value}
+use Rattle.spv_readings.specs.Values.{types_in}
 use Rattle.spv_type_forms.specs.Values.{value_in, used_in, types_of}
 
 abbrev pub is_value : Option Role → Bool

@@ -4,7 +4,7 @@ use Rattle.std.specs.List.{AllByRecursion}
 use Rattle.spv_module.specs.Operand.{Plain, Value, PlainInst}
 use Rattle.spv_type_forms.specs.Form.{form_of}
 use Rattle.spv_type_forms.specs.Types.{class_in, PointsTo}
-use Rattle.spv_type_forms.specs.Operands.{ids_in}
+use Rattle.spv_type_kinds.specs.Operands.{ids_in}
 use Rattle.spv_conditions.specs.Variable.{MayHave, MayInitialize}
 
 -- r is a pointer of the storage class of the variable that instruction n declares, which it may have; its initializer

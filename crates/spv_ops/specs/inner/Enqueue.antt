@@ -4,9 +4,9 @@ use Rattle.std.specs.Prelude.{◌-◌, ℕ, List, IsSomeAnd, length, drop, slice
 use Rattle.std.specs.List.{AllByRecursion}
 use Rattle.spv_module.specs.Operand.{PlainInst}
 use Rattle.spv_module.specs.Width.{type_of}
-use Rattle.spv_type_forms.specs.declared.form.Object.TheVariants as object
-use Rattle.spv_conditions.specs.declared.condition.Kind.{Kind}
-use Rattle.spv_conditions.specs.declared.condition.Kind.TheVariants as kind
+use Rattle.spv_type_kinds.specs.declared.kinds.Object.TheVariants as object
+use Rattle.spv_type_kinds.specs.declared.kinds.Kind.{Kind}
+use Rattle.spv_type_kinds.specs.declared.kinds.Kind.TheVariants as kind
 use Rattle.spv_conditions.specs.Block.{IsLocalSize, Takes, TakesLocals, invoked_of}
 use Rattle.spv_conditions.specs.Condition.{IsOf}
 

@@ -7,7 +7,7 @@ use Rattle.spv_type_forms.specs.declared.form.Sort.{Sort}
 use Rattle.spv_type_forms.specs.declared.form.Sort.TheVariants as sort
 use Rattle.spv_type_forms.specs.Form.{form_of}
 use Rattle.spv_type_forms.specs.Types.{IsData}
-use Rattle.spv_type_forms.specs.Operands.{ids_in}
+use Rattle.spv_type_kinds.specs.Operands.{ids_in}
 use Rattle.spv_type_forms.specs.Values.{types_of, paired_ids_in}
 use Rattle.spv_conditions.specs.Variable.{initializers_in}
 use Rattle.spv_conditions.specs.declared.asked.Asks.{Asks}

@@ -4,21 +4,21 @@ use Rattle.std.specs.Prelude.{◌-◌, ◌++◌, Option, None, length, nat_eq, n
 use Rattle.std.specs.Prelude.{option_to_list, slice_get}
 use Rattle.spv_module.specs.Operand.{Plain, Word, Number, Value, PlainInst, type_in}
 use Rattle.spv_module.specs.Width.{type_of}
-use Rattle.spv_type_forms.specs.Operands.{ids_in, after_head}
+use Rattle.spv_type_kinds.specs.Operands.{ids_in, after_head}
 use Rattle.spv_type_forms.specs.Parts.{part_of, count_of}
 use Rattle.spv_type_forms.specs.declared.form.Form.{Form}
 use Rattle.spv_type_forms.specs.declared.form.Form.TheVariants as form
-use Rattle.spv_type_forms.specs.declared.form.Object.TheVariants as object
+use Rattle.spv_type_kinds.specs.declared.kinds.Object.TheVariants as object
 use Rattle.spv_type_forms.specs.Form.{form_of}
 use Rattle.spv_type_forms.specs.Types.{IsBool, IsNumber, IsObject}
 use Rattle.spv_type_forms.specs.Null.{IsNullable}
 use Rattle.spv_type_rules.specs.declared.constant.Constant.{Constant}
 use Rattle.spv_type_rules.specs.declared.constant.Constant.TheVariants as kind
-use Rattle.spv_conditions.specs.declared.condition.Kind.TheVariants as sort
+use Rattle.spv_type_kinds.specs.declared.kinds.Kind.TheVariants as sort
 use Rattle.spv_evidence.specs.declared.condition.Condition.{Condition}
 use Rattle.spv_evidence.specs.declared.condition.Condition.TheVariants as condition
-use Rattle.spv_evidence.specs.Named.{named_at}
-use Rattle.spv_evidence.specs.Reads.{reads}
+use Rattle.spv_readings.specs.Named.{named_at}
+use Rattle.spv_readings.specs.Reads.{reads}
 use Rattle.spv_type_rules.specs.Constant.{IsPart, FitsWidth, constant_of}
 
 -- the id stands for a constant, of the type of the part k of the type r

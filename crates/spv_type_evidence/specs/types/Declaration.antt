@@ -2,7 +2,7 @@
 use Rattle.std.specs.Prelude.{◌≡◌, ◌+◌, ◌<◌, ◌≤◌, ℕ, List, [], ◌∷◌, Some, slice_get, nat_eq, if◌then◌else◌, IsSomeAnd}
 use Rattle.spv_module.specs.Operand.{Plain, Result, Id, Word, Value, PlainInst}
 use Rattle.spv_type_forms.specs.Form.{form_of}
-use Rattle.spv_type_forms.specs.Operands.{ids_in}
+use Rattle.spv_type_kinds.specs.Operands.{ids_in}
 use Rattle.spv_type_forms.specs.Types.{scalar_in, IsData}
 use Rattle.spv_type_forms.specs.declared.form.Scalar.{Scalar}
 use Rattle.spv_type_forms.specs.declared.objects.Image.{Image}
@@ -10,7 +10,7 @@ use Rattle.spv_type_forms.specs.Objects.{image_in, image_of}
 use Rattle.spv_type_rules.specs.declared.declaration.Declaration.{Declaration}
 use Rattle.spv_type_rules.specs.declared.declaration.Declaration.TheVariants as kind
 use Rattle.spv_type_rules.specs.Declaration.{IsLength, IsPointerAfter, IsSampledType, IsSampled, declaration_of}
-use Rattle.spv_conditions.specs.declared.condition.Kind.TheVariants.{Data}
+use Rattle.spv_type_kinds.specs.declared.kinds.Kind.TheVariants.{Data}
 use Rattle.spv_evidence.specs.declared.condition.Condition.{Condition}
 use Rattle.spv_evidence.specs.declared.condition.Condition.TheVariants as condition
 use Rattle.spv_type_rules.specs.Asked.{IsIntWidth, IsFloatWidth, IsVectorCount, IsPointee, IsReturned}

@@ -8,7 +8,7 @@ use Rattle.spv_module.specs.declared.fault.Rule.TheVariants as rule
 use Rattle.spv_module.specs.declared.opcode.TheConstants as opcode
 use Rattle.spv_type_forms.specs.declared.form.Form.TheVariants as form
 use Rattle.spv_type_forms.specs.Form.{form_of}
-use Rattle.spv_type_forms.specs.Operands.{ids_in}
+use Rattle.spv_type_kinds.specs.Operands.{ids_in}
 use Rattle.spv_type_forms.specs.Values.{types_of}
 use Rattle.spv_type_rules.specs.Repeat.{Repeats}
 use Rattle.spv_type_rules.specs.Function.{parameters_after, function_type_in}
@@ -16,7 +16,7 @@ use Rattle.spv_evidence.specs.declared.evidence.Evidence.{Evidence}
 use Rattle.spv_evidence.specs.declared.evidence.Evidence.TheVariants as evidence
 use Rattle.spv_evidence.specs.declared.evidence.Side.{Side}
 use Rattle.spv_evidence.specs.declared.evidence.Side.TheVariants as side
-use Rattle.spv_evidence.specs.Named.{IsDefinedBy}
+use Rattle.spv_readings.specs.Named.{IsDefinedBy}
 use Rattle.spv_type_evidence.specs.types.Declaration as declarations
 use Rattle.spv_type_evidence.specs.types.Constant as constants
 use Rattle.spv_type_evidence.specs.types.Function.{Differs, IsParameter, ReturnsFrom, Calls, IsArgument}

@@ -4,7 +4,7 @@ use Rattle.spv_module.specs.Operand.{OfType, Result, Id, PlainInst}
 use Rattle.spv_module.specs.declared.opcode.TheConstants as opcode
 use Rattle.spv_type_forms.specs.Example.{inst}
 use Rattle.spv_type_rules.specs.Example.{small, again, short_call}
-use Rattle.spv_evidence.specs.Example.{vector}
+use Rattle.spv_readings.specs.Example.{vector}
 
 -- %9 = OpConstantComposite %3 %18 %18
 abbrev pub composite : PlainInst

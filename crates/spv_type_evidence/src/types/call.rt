@@ -14,8 +14,9 @@ ghost use Rattle.spv_type_evidence.specs.types.inner.Known.{IsFunction, CallsOne
 ghost use Rattle.spv_type_evidence.specs.types.inner.Differences.{AreSame, AreOther, CallDiffers, IsCallable};
 
 use crate::types::signature::{Difference, first_difference, split_signature};
-use spv_evidence::{Evidence, Side, id_at};
+use spv_evidence::{Evidence, Side};
 use spv_module::{Inst, Operand};
+use spv_readings::id_at;
 use spv_type_forms::Definitions;
 use spv_type_rules::{function_type, signature};
 

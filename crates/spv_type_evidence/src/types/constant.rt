@@ -5,8 +5,8 @@ ghost use Rattle.spv_table.specs.Table.{Table};
 ghost use Rattle.spv_module.specs.declared.fault.Rule.TheVariants.{Y4};
 ghost use Rattle.spv_module.specs.Module.{plain_inst, plain_operands};
 ghost use Rattle.spv_layout.specs.Place.{AreFew};
-ghost use Rattle.spv_type_forms.specs.Operands as of_operands;
-ghost use Rattle.spv_type_forms.specs.Operands.{ids_in};
+ghost use Rattle.spv_type_kinds.specs.Operands as of_operands;
+ghost use Rattle.spv_type_kinds.specs.Operands.{ids_in};
 ghost use Rattle.spv_type_forms.specs.Form.{form_of};
 ghost use Rattle.spv_type_forms.specs.Null.{IsNullable};
 ghost use Rattle.spv_type_forms.specs.Parts.{count_of};
@@ -19,9 +19,10 @@ ghost use Rattle.spv_type_evidence.specs.types.Evidence.{Shows};
 ghost use Rattle.spv_type_evidence.specs.types.inner.First.{IsFirstOf};
 
 use crate::types::operands::{low_in, normalized_in};
-use spv_evidence::{Condition, Evidence, Kind, Listed, defined_by, named_at, reads_within};
+use spv_evidence::{Condition, Evidence, Kind, Listed};
 use spv_ids::Ids;
 use spv_module::{Inst, Operand};
+use spv_readings::{defined_by, named_at, reads_within};
 use spv_type_forms::{
     Definitions, Form, Nulls, Object, after_head, count, id_count, is_bool, is_number, is_object,
     parts_of, type_in,

@@ -19,9 +19,10 @@ use crate::types::operands::{
     array_in, float_in, forward_in, image_type_in, int_in, members_in, pointee_in, signature_in,
     vector_in,
 };
-use spv_evidence::{Condition, Evidence, Kind, Listed, defined_by};
+use spv_evidence::{Condition, Evidence, Kind, Listed};
 use spv_ids::Ids;
 use spv_module::{Inst, Operand};
+use spv_readings::defined_by;
 use spv_type_forms::{Definitions, Form, Image, image_in, image_of, is_data};
 use spv_type_rules::{
     Declaration, declaration_of, is_float_width, is_int_width, is_length, is_pointee,

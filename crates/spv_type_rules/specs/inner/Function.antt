@@ -2,7 +2,7 @@
 use Rattle.std.specs.Prelude.{◌≡◌, ℕ, List, Some, nat_eq, not, ◌||◌, take, take_while, IsSomeAnd}
 use Rattle.spv_module.specs.declared.opcode.TheConstants as opcode
 use Rattle.spv_module.specs.Operand.{PlainInst, type_in}
-use Rattle.spv_type_forms.specs.Operands.{ids_in, after_head}
+use Rattle.spv_type_kinds.specs.Operands.{ids_in, after_head}
 use Rattle.spv_type_forms.specs.Values.{types_of}
 use Rattle.spv_type_rules.specs.Function.{signature_of, parameter_count, parameters_after, ReturnsAfter}
 use Rattle.spv_type_rules.specs.Function.{parameters_between, parameter_type_of, OfFunction, ReturnsNothing}

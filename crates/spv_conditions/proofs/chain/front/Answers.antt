@@ -1,7 +1,7 @@
 use Rattle.std.proofs.Common.{◌∙◌, sym, ap, arith}
 use Rattle.std.proofs.lemmas.List.{length-map, take-map}
 use Rattle.spv_module.specs.Module.{plain_operand, plain_operands}
-use Rattle.spv_type_forms.specs.Operands.{ids_in}
+use Rattle.spv_type_kinds.specs.Operands.{ids_in}
 use Rattle.spv_conditions.proofs.lemmas.Fronts.{front_ids, all_ids}
 use Rattle.spv_conditions.proofs.chain.front.Goals as goal
 

@@ -1,7 +1,7 @@
 use Rattle.std.proofs.Common.{◌↔◌, drop}
 use Rattle.std.specs.List.{AllByRecursion}
 use Rattle.spv_module.specs.Module.{plain_operands}
-use Rattle.spv_type_forms.specs.Operands.{words_in}
+use Rattle.spv_type_kinds.specs.Operands.{words_in}
 use Rattle.spv_conditions.specs.Rest.{IsComponent}
 use Rattle.spv_conditions.proofs.components.are_components.Given as goal
 

@@ -3,7 +3,7 @@ use Rattle.spv_module.specs.Module.{plain_inst}
 use Rattle.spv_conditions.specs.declared.asked.Asked.{Asked}
 use Rattle.spv_conditions.specs.declared.asked.Asked.TheVariants as asked
 use Rattle.spv_conditions.specs.declared.asked.Rest.TheVariants as rest
-use Rattle.spv_conditions.specs.declared.condition.Kind.TheVariants as kind
+use Rattle.spv_type_kinds.specs.declared.kinds.Kind.TheVariants as kind
 use Rattle.spv_conditions.specs.declared.seat.Seat.TheVariants as seat
 use Rattle.spv_conditions.specs.Condition.{FailsFirst}
 use Rattle.spv_conditions.specs.Asks.{indexes_from}

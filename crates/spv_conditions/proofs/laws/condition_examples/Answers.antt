@@ -3,7 +3,7 @@ use Rattle.spv_type_forms.specs.declared.form.Form.TheVariants as form
 use Rattle.spv_type_forms.specs.declared.form.Sort.TheVariants as sort
 use Rattle.spv_conditions.specs.declared.asked.Asked.{Asked}
 use Rattle.spv_conditions.specs.declared.asked.Asked.TheVariants as asked
-use Rattle.spv_conditions.specs.declared.condition.Kind.TheVariants.{Int}
+use Rattle.spv_type_kinds.specs.declared.kinds.Kind.TheVariants.{Int}
 use Rattle.spv_conditions.specs.declared.seat.Seat.TheVariants as seat
 use Rattle.spv_type_forms.specs.declared.form.Scalar.TheVariants as scalar
 use Rattle.spv_type_forms.proofs.Twins.{structs_match}

@@ -1,7 +1,7 @@
 use Rattle.std.proofs.Common.{◌≡◌, ◌<◌, ℕ, Some, inl, inr, refl, arith}
 use Rattle.spv_type_forms.specs.declared.form.Form.TheVariants as form
 use Rattle.spv_type_forms.specs.Example.{small}
-use Rattle.spv_conditions.specs.declared.condition.Relation.TheVariants.{SameComponent}
+use Rattle.spv_type_kinds.specs.declared.kinds.Relation.TheVariants.{SameComponent}
 use Rattle.spv_conditions.specs.Condition.{Agrees}
 use Rattle.spv_conditions.specs.Rest.{IsComponent, IsShare}
 use Rattle.spv_conditions.proofs.laws.rest_examples.Goals as goal

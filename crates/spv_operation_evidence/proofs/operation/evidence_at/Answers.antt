@@ -1,8 +1,8 @@
 use Rattle.std.proofs.Common.{◌≡◌, ◌∙◌, ap}
 use Rattle.spv_module.specs.Module.{plain_inst, plain_operands}
-use Rattle.spv_type_forms.specs.Operands.{result_type_in}
-use Rattle.spv_evidence.specs.Named.{IsDefinedBy}
-use Rattle.spv_evidence.specs.Values.{types_in}
+use Rattle.spv_type_kinds.specs.Operands.{result_type_in}
+use Rattle.spv_readings.specs.Named.{IsDefinedBy}
+use Rattle.spv_readings.specs.Values.{types_in}
 use Rattle.spv_operation_evidence.specs.Beside.{operand_in}
 use Rattle.spv_operation_evidence.specs.Evidence.{AreTyped}
 use Rattle.spv_operation_evidence.proofs.lemmas.Valued.{all_break, operation_shows}

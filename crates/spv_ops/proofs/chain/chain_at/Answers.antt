@@ -1,7 +1,7 @@
 use Rattle.std.proofs.Common.{◌≡◌, Some}
 use Rattle.spv_module.specs.Module.{plain_operands}
 use Rattle.spv_module.specs.Width.{type_of}
-use Rattle.spv_type_forms.specs.Operands.{ids_in}
+use Rattle.spv_type_kinds.specs.Operands.{ids_in}
 use Rattle.spv_ops.proofs.TagTests.{element_typed}
 use Rattle.spv_ops.proofs.chain.chain_at.Goals as goal
 

@@ -1,6 +1,6 @@
 use Rattle.std.proofs.Common.{arith, ◌≡◌, [], true, false}
 use Rattle.spv_module.specs.Module.{plain_operands}
-use Rattle.spv_type_forms.specs.Operands.{ids_in}
+use Rattle.spv_type_kinds.specs.Operands.{ids_in}
 use Rattle.spv_ops.proofs.Pointing.{none_elements}
 use Rattle.std.proofs.lemmas.Grind.{common_steps}
 use Rattle.spv_ops.proofs.chain.element_chain.Goals as goal

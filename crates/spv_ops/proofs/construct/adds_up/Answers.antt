@@ -1,5 +1,5 @@
 use Rattle.spv_module.specs.Module.{plain_operands}
-use Rattle.spv_type_forms.specs.Operands.{ids_in}
+use Rattle.spv_type_kinds.specs.Operands.{ids_in}
 use Rattle.spv_ops.proofs.TagTests.{adds_typed}
 use Rattle.spv_ops.proofs.construct.adds_up.Goals as goal
 

@@ -1,6 +1,6 @@
 use Rattle.std.proofs.Common.{◌≡◌, drop}
 use Rattle.spv_module.specs.Module.{plain_operands}
-use Rattle.spv_type_forms.specs.Operands.{ids_in}
+use Rattle.spv_type_kinds.specs.Operands.{ids_in}
 use Rattle.spv_ops.specs.inner.Tests.{left_of_all}
 use Rattle.spv_ops.proofs.construct.left_after_all.Given as goal
 

@@ -1,6 +1,6 @@
 use Rattle.std.proofs.Common.{◌≤◌, [], ◌∷◌, length, arith}
 use Rattle.spv_module.specs.Module.{plain_operands}
-use Rattle.spv_type_forms.specs.Operands.{ids_in}
+use Rattle.spv_type_kinds.specs.Operands.{ids_in}
 use Rattle.spv_type_forms.specs.Values.{types_of}
 use Rattle.spv_ops.proofs.Copying.{other_gathered}
 use Rattle.spv_ops.proofs.copy.one_type.Goals as goal

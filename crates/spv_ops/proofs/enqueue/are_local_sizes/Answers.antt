@@ -2,7 +2,7 @@ use Rattle.std.proofs.Common.{◌≡◌, ◌∙◌, ◌↔◌, ◌<◌, ◌+◌,
 use Rattle.std.proofs.lemmas.Grind.{common_steps}
 use Rattle.std.specs.List.{AllByRecursion}
 use Rattle.spv_module.specs.Module.{plain_operands}
-use Rattle.spv_type_forms.specs.Operands.{ids_in}
+use Rattle.spv_type_kinds.specs.Operands.{ids_in}
 use Rattle.spv_ops.specs.inner.Enqueue.{IsOfLocalSize}
 use Rattle.spv_ops.proofs.Enqueued.{past_one}
 use Rattle.spv_ops.proofs.enqueue.are_local_sizes.Goals.{then-left-gt0, else-left-gt0+else-not-is_of_local_size}

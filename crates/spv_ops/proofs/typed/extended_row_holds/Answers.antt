@@ -1,7 +1,7 @@
 use Rattle.std.proofs.Common.{◌∙◌, ◌↔◌, ℕ, Option, true, refl, inl, ap, subst}
 use Rattle.std.specs.Prelude.{IsTrue}
 use Rattle.spv_module.specs.Module.{plain_inst, plain_operands}
-use Rattle.spv_type_forms.specs.Operands.{result_type_in}
+use Rattle.spv_type_kinds.specs.Operands.{result_type_in}
 use Rattle.spv_conditions.specs.Further.{MayStand}
 use Rattle.spv_ops.proofs.CommonRows.{extended_typed}
 use Rattle.spv_ops.proofs.typed.extended_row_holds.Goals as goal

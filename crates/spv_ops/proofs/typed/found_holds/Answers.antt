@@ -1,6 +1,6 @@
 use Rattle.std.proofs.Common.{◌≡◌, ◌∙◌, true, false, refl, sym, ap, subst}
 use Rattle.spv_module.specs.Module.{plain_inst, plain_operands}
-use Rattle.spv_type_forms.specs.Operands.{after_head, result_type_in}
+use Rattle.spv_type_kinds.specs.Operands.{after_head, result_type_in}
 use Rattle.spv_ops.specs.declared.table.Places.TheVariants as places
 use Rattle.spv_ops.specs.Table.{asks_of, places_of}
 use Rattle.spv_ops.specs.inner.Typed.{IsUncopied}

@@ -1,7 +1,7 @@
 use Rattle.std.proofs.Common.{◌∙◌, ◌↔◌, ℕ, Option, ap, subst}
 use Rattle.std.specs.Prelude.{IsTrue, IsSomeAnd}
 use Rattle.spv_module.specs.Module.{plain_operands, plain_inst}
-use Rattle.spv_type_forms.specs.Operands.{result_type_in}
+use Rattle.spv_type_kinds.specs.Operands.{result_type_in}
 use Rattle.spv_type_forms.specs.Types.{IsData}
 use Rattle.spv_ops.proofs.CommonRows.{undef_typed}
 use Rattle.spv_ops.proofs.typed.undef_row_holds.Goals as goal

@@ -2,7 +2,7 @@ use Rattle.std.proofs.Common.{◌≡◌, ◌∙◌, ◌↔◌, true, false, refl
 use Rattle.std.specs.Prelude.{IsTrue}
 use Rattle.spv_module.specs.Module.{plain_inst, plain_operands}
 use Rattle.spv_module.specs.Operand.{Plain}
-use Rattle.spv_type_forms.specs.Operands.{after_head, result_type_in}
+use Rattle.spv_type_kinds.specs.Operands.{after_head, result_type_in}
 use Rattle.spv_ops.specs.Table.{asks_of, places_of}
 use Rattle.spv_ops.specs.inner.Wide.{IsWide}
 use Rattle.spv_ops.proofs.Parts.{iff_to, typed_by, wide_told, wide_result}

@@ -11,7 +11,7 @@ use Rattle.spv_module.specs.Width.{definition_of, type_of}
 use Rattle.spv_module.specs.declared.fault.Rule.TheVariants.{Y8}
 use Rattle.spv_module.specs.declared.opcode.TheConstants as opcode
 use Rattle.spv_layout.specs.Place.{AreFew}
-use Rattle.spv_type_forms.specs.Operands.{ids_in}
+use Rattle.spv_type_kinds.specs.Operands.{ids_in}
 use Rattle.spv_type_forms.specs.Parts.{id_in}
 use Rattle.spv_type_forms.specs.Values.{types_of}
 use Rattle.spv_type_rules.specs.Function.{function_type_in, signature_of, ReturnsAfter, CallsSoundly, CallsTyped}

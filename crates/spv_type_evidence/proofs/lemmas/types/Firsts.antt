@@ -6,7 +6,7 @@ use Rattle.std.proofs.lemmas.Bool.{eqb-true, eq-eqb, ne_eqb, cases_lt}
 use Rattle.std.proofs.lemmas.Option.{slice_get_within, some_pair_parts}
 use Rattle.spv_module.specs.Operand.{Plain, PlainInst}
 use Rattle.spv_module.specs.Operand as operand
-use Rattle.spv_type_forms.specs.Operands.{ids_in}
+use Rattle.spv_type_kinds.specs.Operands.{ids_in}
 use Rattle.spv_type_forms.specs.Types.{IsData}
 use Rattle.spv_module.specs.Module.{plain_operand, plain_operands}
 use Rattle.spv_module.specs.declared.operand.Operand.{Operand}
@@ -25,7 +25,7 @@ use Rattle.spv_type_forms.specs.Objects.{image_in, image_of}
 use Rattle.spv_type_rules.specs.Declaration.{declaration_of, DeclaresSoundly, IsLength, IsPointerAfter, IsSampled}
 use Rattle.spv_type_rules.specs.Asked.{IsIntWidth, IsFloatWidth, IsVectorCount, IsPointee, IsReturned}
 use Rattle.spv_type_rules.specs.inner.Declaration.{IsSoundDeclaration}
-use Rattle.spv_evidence.specs.Named.{IsDefinedBy}
+use Rattle.spv_readings.specs.Named.{IsDefinedBy}
 use Rattle.spv_type_evidence.specs.types.Declaration.{AsksData, AsksImage, Asks, IsScalar, condition_after, condition_at}
 use Rattle.spv_type_evidence.specs.types.inner.Operands.{int_in, float_in, vector_in, array_in, pointee_in, forward_in}
 use Rattle.spv_type_evidence.specs.types.inner.Operands.{image_type_in, members_in, signature_in}

@@ -5,7 +5,7 @@ use Rattle.std.specs.Prelude.{slice_get, IsTrue, IsSomeAnd}
 use Rattle.std.proofs.lemmas.Bool.{eqb-true, eq-eqb}
 use Rattle.spv_module.specs.Operand.{Plain, Word, Number, Value, PlainInst, type_in}
 use Rattle.spv_module.specs.Width.{definition_of}
-use Rattle.spv_type_forms.specs.Operands.{ids_in, after_head}
+use Rattle.spv_type_kinds.specs.Operands.{ids_in, after_head}
 use Rattle.spv_type_forms.specs.Parts.{part_of}
 use Rattle.spv_type_forms.specs.Types.{IsNumber}
 use Rattle.spv_type_forms.specs.inner.Tests.{are_same}

@@ -8,7 +8,7 @@ use Rattle.spv_module.specs.Operand as operand
 use Rattle.spv_module.specs.Width.{definition_of}
 use Rattle.spv_module.specs.declared.fault.Rule.TheVariants.{Y4}
 use Rattle.spv_layout.specs.Place.{operand_words, AreFew}
-use Rattle.spv_type_forms.specs.Operands.{ids_in, after_head}
+use Rattle.spv_type_kinds.specs.Operands.{ids_in, after_head}
 use Rattle.spv_type_forms.specs.Parts.{part_of, count_of}
 use Rattle.spv_type_forms.specs.Types.{IsNumber}
 use Rattle.spv_type_rules.specs.declared.constant.Constant.{Constant}
@@ -17,7 +17,7 @@ use Rattle.spv_type_rules.specs.Constant.{Constitutes, FitsWidth, constant_of}
 use Rattle.spv_type_rules.specs.inner.Constant.{IsSoundConstant}
 use Rattle.spv_type_rules.specs.inner.Found.{is_typed_part}
 use Rattle.spv_evidence.specs.declared.evidence.Evidence.TheVariants as evidence
-use Rattle.spv_evidence.specs.Named.{IsDefinedBy}
+use Rattle.spv_readings.specs.Named.{IsDefinedBy}
 use Rattle.spv_type_evidence.specs.types.Constant.{IsPartOf, AsksParts, AsksOf, Asks, condition_in, wanted_at, found_at}
 use Rattle.spv_type_evidence.specs.types.Constant.{read_at}
 use Rattle.spv_type_evidence.specs.types.Evidence.{Shows}

@@ -5,7 +5,7 @@ use Rattle.spv_table.specs.Table.{Table}
 use Rattle.spv_module.specs.Operand.{PlainInst}
 use Rattle.spv_module.specs.declared.fault.Rule.TheVariants.{Y7}
 use Rattle.spv_module.specs.declared.opcode.TheConstants as opcode
-use Rattle.spv_type_forms.specs.Operands.{ids_in}
+use Rattle.spv_type_kinds.specs.Operands.{ids_in}
 use Rattle.spv_type_forms.specs.Values.{types_of}
 use Rattle.spv_type_rules.specs.Function.{ReturnsNothing, ReturnsTyped}
 use Rattle.spv_type_rules.specs.inner.Function.{IsSoundReturn, IsSoundReturnValue}

@@ -22,7 +22,7 @@ use Rattle.spv_layout.specs.Rows.{rows, row_of}
 use Rattle.spv_layout.specs.Shape.{is_of, AreOf, Ends, HasForms, FitsShape, IsUse}
 use Rattle.spv_layout.proofs.Shapes.{are_moved, rows_same, no_operands}
 use Rattle.spv_ids.specs.Definition.{IsUsedAt}
-use Rattle.spv_type_forms.specs.Operands.{ids_in}
+use Rattle.spv_type_kinds.specs.Operands.{ids_in}
 use Rattle.spv_type_forms.specs.Parts.{after_result}
 use Rattle.spv_type_forms.specs.Values.{types_of}
 use Rattle.spv_type_rules.specs.roles.inner.Role.{IsValue, IsOfOpcode}

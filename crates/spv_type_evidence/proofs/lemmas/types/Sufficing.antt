@@ -9,7 +9,7 @@ use Rattle.spv_module.specs.declared.fault.Rule.{Rule}
 use Rattle.spv_layout.proofs.Places.{function_same}
 use Rattle.spv_type_forms.specs.declared.form.Form.TheVariants as form
 use Rattle.spv_type_forms.specs.Form.{form_of}
-use Rattle.spv_type_forms.specs.Operands.{ids_in, after_head}
+use Rattle.spv_type_kinds.specs.Operands.{ids_in, after_head}
 use Rattle.spv_type_forms.specs.Parts.{id_in}
 use Rattle.spv_type_forms.specs.Values.{types_of}
 use Rattle.spv_type_rules.specs.inner.Declaration.{IsSoundDeclaration}

@@ -7,7 +7,7 @@ use Rattle.spv_module.specs.Operand.{Id, PlainInst}
 use Rattle.spv_module.specs.declared.fault.Rule.{Rule}
 use Rattle.spv_module.specs.declared.fault.Rule.TheVariants as rule
 use Rattle.spv_module.specs.declared.opcode.TheConstants as opcode
-use Rattle.spv_type_forms.specs.Operands.{ids_in, after_head}
+use Rattle.spv_type_kinds.specs.Operands.{ids_in, after_head}
 use Rattle.spv_type_rules.specs.declared.declaration.Declaration.TheVariants as kind
 use Rattle.spv_type_rules.specs.Declaration.{declaration_of}
 use Rattle.spv_type_rules.specs.Asked.{IsVectorCount}
@@ -24,7 +24,7 @@ use Rattle.spv_type_evidence.specs.types.Declaration.{Asks, condition_at}
 use Rattle.spv_type_evidence.specs.types.Function.{Differs, Calls}
 use Rattle.spv_type_evidence.specs.types.Evidence.{Shows, IsEvidence}
 use Rattle.spv_type_evidence.specs.types.Example.{with_vector, with_again, with_short_call}
-use Rattle.spv_evidence.specs.Example.{vector}
+use Rattle.spv_readings.specs.Example.{vector}
 
 not_five : ¬ (IsVectorCount 5)
 not_five (inl e) = absurd (omega (arith, e))

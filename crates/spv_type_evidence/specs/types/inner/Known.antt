@@ -7,7 +7,7 @@ use Rattle.spv_module.specs.Width.{type_of, definition_of}
 use Rattle.spv_layout.specs.Layout.{IsLayout, classes}
 use Rattle.spv_layout.specs.Place.{IsShort, AreFew}
 use Rattle.spv_layout.specs.Shape.{FitsShape}
-use Rattle.spv_type_forms.specs.Operands.{ids_in}
+use Rattle.spv_type_kinds.specs.Operands.{ids_in}
 use Rattle.spv_type_forms.specs.Values.{types_of}
 use Rattle.spv_type_rules.specs.roles.Outcome.{AreInRole}
 use Rattle.spv_type_rules.specs.Function.{function_type_in, signature_of}

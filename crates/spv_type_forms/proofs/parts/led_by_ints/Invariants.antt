@@ -1,6 +1,6 @@
 use Rattle.std.proofs.Common.{◌≡◌, drop}
 use Rattle.spv_module.specs.Module.{plain_operands}
-use Rattle.spv_type_forms.specs.Operands.{ids_in}
+use Rattle.spv_type_kinds.specs.Operands.{ids_in}
 use Rattle.spv_type_forms.specs.inner.Walk.{int_choices}
 use Rattle.spv_type_forms.proofs.parts.led_by_ints.Given as goal
 

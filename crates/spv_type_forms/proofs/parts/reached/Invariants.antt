@@ -1,6 +1,6 @@
 use Rattle.std.proofs.Common.{◌≡◌, drop}
 use Rattle.spv_module.specs.Module.{plain_operands}
-use Rattle.spv_type_forms.specs.Operands.{words_in}
+use Rattle.spv_type_kinds.specs.Operands.{words_in}
 use Rattle.spv_type_forms.specs.inner.Walk.{walk}
 use Rattle.spv_type_forms.proofs.parts.reached.Given as goal
 

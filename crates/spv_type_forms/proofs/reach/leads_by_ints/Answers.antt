@@ -1,5 +1,5 @@
 use Rattle.spv_module.specs.Module.{plain_operands}
-use Rattle.spv_type_forms.specs.Operands.{ids_in}
+use Rattle.spv_type_kinds.specs.Operands.{ids_in}
 use Rattle.spv_type_forms.proofs.Choices.{choices_decide, ints_choose}
 use Rattle.spv_type_forms.proofs.reach.leads_by_ints.Goals as goal
 

@@ -1,5 +1,5 @@
 use Rattle.spv_module.specs.Module.{plain_operands}
-use Rattle.spv_type_forms.specs.Operands.{words_in}
+use Rattle.spv_type_kinds.specs.Operands.{words_in}
 use Rattle.spv_type_forms.proofs.Walks.{walk_decides}
 use Rattle.spv_type_forms.proofs.reach.reaches.Goals as goal
 

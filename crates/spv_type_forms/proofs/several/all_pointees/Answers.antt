@@ -1,6 +1,6 @@
 use Rattle.std.proofs.Common.{◌∙◌, sym}
 use Rattle.spv_module.specs.Module.{plain_operands}
-use Rattle.spv_type_forms.specs.Operands.{ids_in}
+use Rattle.spv_type_kinds.specs.Operands.{ids_in}
 use Rattle.spv_type_forms.proofs.TagTests.{all_pointees_typed}
 use Rattle.spv_type_forms.proofs.several.all_pointees.Goals as goal
 

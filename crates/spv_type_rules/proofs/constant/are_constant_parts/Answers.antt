@@ -1,5 +1,5 @@
 use Rattle.spv_module.specs.Module.{plain_operands}
-use Rattle.spv_type_forms.specs.Operands.{ids_in}
+use Rattle.spv_type_kinds.specs.Operands.{ids_in}
 use Rattle.spv_type_rules.proofs.Parted.{parts_told}
 use Rattle.spv_type_rules.proofs.constant.are_constant_parts.Goals as goal
 

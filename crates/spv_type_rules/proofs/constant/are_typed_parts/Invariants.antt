@@ -1,6 +1,6 @@
 use Rattle.std.proofs.Common.{◌≡◌, drop}
 use Rattle.spv_module.specs.Module.{plain_operands}
-use Rattle.spv_type_forms.specs.Operands.{ids_in}
+use Rattle.spv_type_kinds.specs.Operands.{ids_in}
 use Rattle.spv_type_rules.specs.inner.Found.{are_typed_parts}
 use Rattle.spv_type_rules.proofs.constant.are_typed_parts.Given as goal
 

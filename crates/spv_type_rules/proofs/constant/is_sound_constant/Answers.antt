@@ -1,7 +1,7 @@
 use Rattle.std.proofs.Common.{◌≡◌, ◌∙◌, Some, sym}
 use Rattle.spv_module.specs.Module.{plain_inst, plain_operands}
 use Rattle.spv_module.specs.Operand.{type_in}
-use Rattle.spv_type_forms.specs.Operands.{after_head}
+use Rattle.spv_type_kinds.specs.Operands.{after_head}
 use Rattle.spv_type_rules.specs.Constant.{constant_of}
 use Rattle.spv_type_rules.proofs.constant.is_sound_constant.Goals as goal
 

@@ -1,6 +1,6 @@
 use Rattle.std.proofs.Common.{sym, ◌∙◌}
 use Rattle.spv_module.specs.Module.{plain_inst, plain_operands}
-use Rattle.spv_type_forms.specs.Operands.{ids_in}
+use Rattle.spv_type_kinds.specs.Operands.{ids_in}
 use Rattle.spv_type_rules.proofs.Pointers.{never_true}
 use Rattle.spv_type_rules.proofs.Signatures.{calls_told, never_called}
 use Rattle.spv_type_rules.proofs.function.takes.Goals as goal

@@ -8,7 +8,7 @@ use Rattle.spv_module.specs.Operand.{PlainInst}
 use Rattle.spv_module.specs.Width.{definition_of}
 use Rattle.spv_type_forms.specs.declared.form.Form.{Form}
 use Rattle.spv_type_forms.specs.declared.form.Form.TheVariants as form
-use Rattle.spv_type_forms.specs.declared.form.Object.{Object}
+use Rattle.spv_type_kinds.specs.declared.kinds.Object.{Object}
 use Rattle.spv_type_forms.specs.Form.{form_in, form_of, object_of}
 use Rattle.spv_type_rules.specs.roles.inner.Role.{IsTypeDeclaration}
 

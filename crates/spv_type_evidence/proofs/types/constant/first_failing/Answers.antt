@@ -1,4 +1,4 @@
-use Rattle.spv_type_forms.specs.declared.form.Object.TheVariants as object
+use Rattle.spv_type_kinds.specs.declared.kinds.Object.TheVariants as object
 use Rattle.spv_type_forms.specs.Types.{IsBool, IsObject}
 use Rattle.spv_type_evidence.proofs.lemmas.types.Parts.{unless_moved}
 use Rattle.spv_type_evidence.proofs.types.constant.first_failing.Goals as goal

@@ -2,7 +2,7 @@ use Rattle.std.proofs.Common.{◌<◌, ◌∙◌, ℕ, length, arith}
 use Rattle.std.proofs.lemmas.List.{length-map}
 use Rattle.spv_module.specs.Module.{plain_operand, plain_operands}
 use Rattle.spv_layout.specs.Place.{AreFew}
-use Rattle.spv_type_forms.specs.Operands.{ids_in}
+use Rattle.spv_type_kinds.specs.Operands.{ids_in}
 use Rattle.spv_type_evidence.specs.types.Constant.{IsPartOf}
 use Rattle.spv_type_evidence.proofs.lemmas.types.Firsts.{ends_here, all_each, one_fails, one_before, id_there}
 use Rattle.spv_type_evidence.proofs.lemmas.types.Firsts.{among_ids}

@@ -1,5 +1,5 @@
 use Rattle.spv_module.specs.Module.{plain_operands}
-use Rattle.spv_type_forms.specs.Operands.{ids_in}
+use Rattle.spv_type_kinds.specs.Operands.{ids_in}
 use Rattle.spv_type_evidence.proofs.lemmas.types.Parts.{parts_first}
 use Rattle.spv_type_evidence.proofs.types.constant.first_of_parts.Goals as goal
 

@@ -1,5 +1,5 @@
 use Rattle.std.proofs.Common.{◌≡◌, refl}
-use Rattle.spv_conditions.specs.declared.condition.Kind.TheVariants as kind
+use Rattle.spv_type_kinds.specs.declared.kinds.Kind.TheVariants as kind
 use Rattle.spv_evidence.specs.declared.condition.Condition.TheVariants as condition
 use Rattle.spv_type_evidence.proofs.types.laws.constant_examples.Goals as goal
 
