@@ -2,7 +2,7 @@
 
 A line of the table in src/table.rt of spv_ops has opcodes, where their values stand and the conditions
 that they ask. The words of a condition are those of `spv explain`, in src/conditions.rt of
-spv_fault_lines: there 'its type' is that of the operand, here it goes by its letter.
+spv_facts: there 'its type' is that of the operand, here it goes by its letter.
 """
 
 import re
@@ -11,7 +11,7 @@ from .common import TESTS, Check, Unusable
 from .opcodes import CRATES, OPCODES_OF, PART, TYPED, opcodes, text
 
 PAGE = TESTS.parent / "docs/PROFILE.md"
-WORDS = CRATES / "spv_fault_lines/src/conditions.rt"
+WORDS = CRATES / "spv_facts/src/conditions.rt"
 HEAD = "| Instructions | Conditions, in order |\n|---|---|\n"
 REMEDY = "tests/operations --keep writes it"
 LINE = re.compile(r"([A-Z]\w+(?: to \w+)?(?:,\s+\w+(?: to \w+)?)*)(?: by (\w+(?: \w+)?))?:((?:\s+\[[^\]]*\])+);")

@@ -17,7 +17,7 @@ use Rattle.spv_check.specs.Stream.{TellsVerdict}
 use Rattle.spv_check.specs.Text.{line_of}
 use Rattle.spv_check.specs.Verdict.{IsVerdict, fault_line, refused_line, valid_line}
 use Rattle.spv_check.proofs.Verdicts.{fault_is_not_valid, refused_is_not_valid}
-use Rattle.spv_fault_lines.specs.declared.fact.Detail.{Detail}
+use Rattle.spv_facts.specs.declared.fact.Detail.{Detail}
 use Rattle.spv_explain.specs.Stream.{Explains, IsExplanation}
 use Rattle.spv_explain.specs.declared.stream.Explanation.{Explanation}
 use Rattle.spv_views.specs.View.{IsViewing, Views}

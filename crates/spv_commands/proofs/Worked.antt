@@ -24,7 +24,7 @@ use Rattle.spv_builtin.specs.Source.{IsTableOf}
 use Rattle.json.specs.Print.{print}
 use Rattle.spv_rules.specs.declared.errors.AnyCode.{AnyCode}
 use Rattle.spv_explain.specs.Json.{json_line, rule_object, told_json}
-use Rattle.spv_fault_lines.specs.json_members.Quiet.{quiet_of}
+use Rattle.spv_fault_json.specs.Quiet.{quiet_of}
 use Rattle.spv_check.specs.Verdict.{line_end}
 
 -- the text of two empty lists, and no text at all

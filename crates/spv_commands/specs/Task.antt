@@ -24,8 +24,8 @@ use Rattle.spv_rules.specs.Codes.{told_text}
 use Rattle.spv_rules.specs.declared.errors.AnyCode.{AnyCode}
 use Rattle.spv_explain.specs.Json.{told_json}
 use Rattle.spv_explain.specs.Stream.{Explains}
-use Rattle.spv_fault_lines.specs.declared.fact.Detail.{Detail}
-use Rattle.spv_fault_lines.specs.declared.fact.Detail.TheVariants.{Short, Full}
+use Rattle.spv_facts.specs.declared.fact.Detail.{Detail}
+use Rattle.spv_facts.specs.declared.fact.Detail.TheVariants.{Short, Full}
 use Rattle.spv_views.specs.View.{LacksFunction, NamesSeveral, Views}
 use Rattle.spv_views.specs.declared.view.View.{View}
 use Rattle.spv_views.specs.declared.view.View.TheVariants as views

@@ -5,7 +5,7 @@ use crate::asked::scope_of;
 use crate::replying::{image_in, take_as};
 use simdutf8::basic::from_utf8;
 use spv_command_line::{Command, Task, shown_word};
-use spv_fault_lines::{front_of, help_for};
+use spv_facts::{front_of, help_for};
 use spv_module::opcode;
 use spv_words::{Image, WordError, image_of, replace_version, word};
 use std::alloc::{AllocError, Global};

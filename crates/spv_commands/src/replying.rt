@@ -8,7 +8,7 @@ ghost use Rattle.spv_extended.specs.declared.reach.Reach.{Reach};
 ghost use Rattle.spv_check.specs.Stream.{TellsVerdict};
 ghost use Rattle.spv_check.specs.Text.{line_of};
 ghost use Rattle.spv_check.specs.Verdict.{valid_line};
-ghost use Rattle.spv_fault_lines.specs.declared.fact.Detail.{Detail};
+ghost use Rattle.spv_facts.specs.declared.fact.Detail.{Detail};
 ghost use Rattle.spv_explain.specs.Stream.{Explains, IsExplanation};
 ghost use Rattle.spv_views.specs.View.{LacksFunction, NamesSeveral, Views};
 ghost use Rattle.spv_scope.specs.Scope.{reach_of, taken};

@@ -25,10 +25,10 @@ use Rattle.spv_check.specs.Verdict.{IsVerdict, refused as refused_verdict}
 use Rattle.spv_check.specs.declared.verdict_line.Judgment.{Judgment}
 use Rattle.spv_check.specs.declared.verdict_line.Judgment.TheVariants as judgments
 use Rattle.spv_check.proofs.Verdicts.{fault_verdict, valid_verdict}
-use Rattle.spv_fault_lines.specs.Facts.{facts_of}
-use Rattle.spv_fault_lines.specs.Refused.{front_of}
-use Rattle.spv_fault_lines.specs.Words.{malformed_facts}
-use Rattle.spv_fault_lines.specs.json_members.Members.{members_of, refused_members}
+use Rattle.spv_facts.specs.Facts.{facts_of}
+use Rattle.spv_facts.specs.Refused.{front_of}
+use Rattle.spv_facts.specs.Words.{malformed_facts}
+use Rattle.spv_fault_json.specs.Members.{members_of, refused_members}
 use Rattle.spv_explain.specs.Json.{AreMembers, IsCheckAnswer, IsExplainAnswer, json_line, object_of}
 use Rattle.spv_explain.specs.declared.answers.Answer.{Answer}
 use Rattle.spv_explain.specs.inner.Reading.{IsBrokenModule}

@@ -33,7 +33,7 @@ use Rattle.spv_form_evidence.specs.words.Evidence as instructions
 use Rattle.spv_explain.specs.Evidence.{IsEvidence}
 use Rattle.spv_explain.specs.Explained.{IsShown, IsShownDead, IsSpelled, verdict_in}
 use Rattle.spv_lines.specs.Text.{ShownLines}
-use Rattle.spv_fault_lines.specs.declared.fact.Detail.{Detail}
+use Rattle.spv_facts.specs.declared.fact.Detail.{Detail}
 use Rattle.spv_explain.specs.Lines.{fault_text, malformed_text}
 use Rattle.spv_explain.specs.Stream.{Explain, ExplainDead}
 use Rattle.spv_explain.specs.declared.reading.Explained.{Explained}

@@ -34,8 +34,8 @@ use Rattle.spv_check.specs.declared.verdict_line.Judgment.TheVariants as judgmen
 use Rattle.spv_check.proofs.Verdicts.{Laws, fault_is_not_valid, fault_verdict, valid_verdict}
 use Rattle.spv_form_evidence.specs.words.Evidence as instructions
 use Rattle.spv_lines.specs.Text.{ShownLines}
-use Rattle.spv_fault_lines.specs.declared.fact.Detail.{Detail}
-use Rattle.spv_fault_lines.specs.declared.refused.Front.{Front}
+use Rattle.spv_facts.specs.declared.fact.Detail.{Detail}
+use Rattle.spv_facts.specs.declared.refused.Front.{Front}
 use Rattle.spv_explain.specs.Lines.{fault_text, malformed_text, refused_by, refused_text}
 use Rattle.spv_explain.specs.Stream.{AreOthers, BeginsExplaining, Explains, IsExplanation, IsModuleIn, IsWalk, walk_in}
 use Rattle.spv_explain.specs.declared.stream.Explanation.{Explanation}

@@ -46,15 +46,16 @@ use Rattle.spv_lines.specs.Line.{IsShownLine}
 use Rattle.spv_lines.specs.Operand.{Shown}
 use Rattle.spv_lines.specs.Text.{ShownLines}
 use Rattle.spv_lines.specs.Written.{Piece, Written}
-use Rattle.spv_fault_lines.specs.Facts.{facts_of}
+use Rattle.spv_facts.specs.Facts.{facts_of}
 use Rattle.spv_fault_lines.specs.Lines.{line_of, text_of}
 use Rattle.spv_lines.specs.Digits.{hex_digits}
-use Rattle.spv_fault_lines.specs.Place.{comes_early, open_before, place_of}
+use Rattle.spv_facts.specs.Place.{comes_early, open_before, place_of}
 use Rattle.spv_lines.specs.Plain.{plain_of}
-use Rattle.spv_fault_lines.specs.Refused.{found_lines, front_of}
-use Rattle.spv_fault_lines.specs.declared.fact.Detail.TheVariants.{Full, Short}
-use Rattle.spv_fault_lines.specs.declared.fact.Fact.TheVariants as fact
-use Rattle.spv_fault_lines.specs.declared.fact.Place.{Place as Standing}
+use Rattle.spv_fault_lines.specs.Refused.{found_lines}
+use Rattle.spv_facts.specs.Refused.{front_of}
+use Rattle.spv_facts.specs.declared.fact.Detail.TheVariants.{Full, Short}
+use Rattle.spv_facts.specs.declared.fact.Fact.TheVariants as fact
+use Rattle.spv_facts.specs.declared.fact.Place.{Place as Standing}
 use Rattle.spv_rules.specs.declared.rules.Code.TheVariants as Code
 use Rattle.spv_explain.specs.Lines.{refused_text, rule_line}
 use Rattle.spv_explain.specs.Stream.{AreLinesOf, IsModuleOf, IsWalk}

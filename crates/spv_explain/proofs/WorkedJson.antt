@@ -23,8 +23,8 @@ use Rattle.spv_rules.specs.declared.errors.ErrorCode.TheVariants.{J5}
 use Rattle.spv_check.specs.Broken.{Broken}
 use Rattle.spv_check.specs.Verdict.{line_end}
 use Rattle.spv_check.specs.declared.verdict_line.Judgment.TheVariants as verdicts
-use Rattle.spv_fault_lines.specs.Refused.{front_of}
-use Rattle.spv_fault_lines.specs.json_members.Members.{refused_members}
+use Rattle.spv_facts.specs.Refused.{front_of}
+use Rattle.spv_fault_json.specs.Members.{refused_members}
 use Rattle.spv_explain.specs.Json.{AreMembers, code_line, error_object, json_line, object_of}
 use Rattle.spv_explain.specs.declared.answers.Unread.TheVariants as unread
 use Rattle.spv_extended.specs.declared.reach.Reach.TheVariants as reaches

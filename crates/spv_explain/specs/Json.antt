@@ -28,12 +28,12 @@ use Rattle.spv_check.specs.declared.verdict_line.Judgment.{Judgment}
 use Rattle.spv_check.specs.declared.verdict_line.Judgment.TheVariants.{Valid, Refused, Broken}
 use Rattle.spv_evidence.specs.declared.evidence.Evidence.{Evidence}
 use Rattle.spv_form_evidence.specs.words.Evidence as instructions
-use Rattle.spv_fault_lines.specs.Facts.{facts_of}
-use Rattle.spv_fault_lines.specs.Refused.{front_of}
-use Rattle.spv_fault_lines.specs.Words.{malformed_facts}
-use Rattle.spv_fault_lines.specs.json_members.Members.{members_of, refused_members}
-use Rattle.spv_fault_lines.specs.json_members.Quiet.{quiet_of}
-use Rattle.spv_fault_lines.specs.json_members.Tokens.{number_member, text_member}
+use Rattle.spv_facts.specs.Facts.{facts_of}
+use Rattle.spv_facts.specs.Refused.{front_of}
+use Rattle.spv_facts.specs.Words.{malformed_facts}
+use Rattle.spv_fault_json.specs.Members.{members_of, refused_members}
+use Rattle.spv_fault_json.specs.Quiet.{quiet_of}
+use Rattle.spv_fault_json.specs.Tokens.{number_member, text_member}
 use Rattle.spv_explain.specs.Evidence.{IsEvidence}
 use Rattle.spv_explain.specs.declared.answers.Answer.{Answer}
 use Rattle.spv_explain.specs.declared.answers.Unread.{Unread}

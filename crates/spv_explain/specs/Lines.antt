@@ -8,12 +8,13 @@ use Rattle.spv_rules.specs.Rules.{sentence_of}
 use Rattle.spv_rules.specs.declared.rules.Code.{Code}
 use Rattle.spv_rules.specs.declared.rules.Code.TheVariants.{Word, Rule}
 use Rattle.spv_evidence.specs.declared.evidence.Evidence.{Evidence}
-use Rattle.spv_fault_lines.specs.declared.fact.Detail.{Detail}
-use Rattle.spv_fault_lines.specs.Facts.{facts_of}
+use Rattle.spv_facts.specs.declared.fact.Detail.{Detail}
+use Rattle.spv_facts.specs.Facts.{facts_of}
 use Rattle.spv_fault_lines.specs.Lines.{text_of}
-use Rattle.spv_fault_lines.specs.Refused.{found_lines, front_of}
-use Rattle.spv_fault_lines.specs.Words.{malformed_facts}
-use Rattle.spv_fault_lines.specs.declared.refused.Front.{Front}
+use Rattle.spv_fault_lines.specs.Refused.{found_lines}
+use Rattle.spv_facts.specs.Refused.{front_of}
+use Rattle.spv_facts.specs.Words.{malformed_facts}
+use Rattle.spv_facts.specs.declared.refused.Front.{Front}
 
 -- what the code says
 abbrev pub rule_line : Code → List ℕ

@@ -26,8 +26,8 @@ use Rattle.spv_check.specs.Text.{line_of}
 use Rattle.spv_check.specs.declared.verdict_line.Judgment.TheVariants.{Broken, Valid}
 use Rattle.spv_evidence.specs.declared.evidence.Evidence.{Evidence}
 use Rattle.spv_evidence.specs.declared.evidence.Evidence.TheVariants.{Walk}
-use Rattle.spv_fault_lines.specs.Lines.{result_of}
-use Rattle.spv_fault_lines.specs.declared.fact.Detail.{Detail}
+use Rattle.spv_facts.specs.Texts.{result_of}
+use Rattle.spv_facts.specs.declared.fact.Detail.{Detail}
 use Rattle.spv_explain.specs.Evidence.{IsEvidence}
 use Rattle.spv_form_evidence.specs.words.Evidence as instructions
 use Rattle.spv_explain.specs.Lines.{fault_text, malformed_text, refused_text}

@@ -5,7 +5,7 @@ ghost use Rattle.spv_explain.specs.Json as objects;
 ghost use Rattle.spv_explain.specs.Json.{code_line, meaning_members, told_json};
 
 use crate::answers::push_rule;
-use spv_fault_lines::json_members::Output;
+use spv_fault_json::Output;
 use spv_rules::{AnyCode, code_at};
 use std::alloc::{AllocError, Global};
 

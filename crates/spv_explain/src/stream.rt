@@ -10,8 +10,8 @@ ghost use Rattle.spv_module.specs.Module.{plain_insts};
 ghost use Rattle.spv_table.specs.Table.{Table};
 ghost use Rattle.spv_extended.specs.declared.reach.Reach.{Reach};
 ghost use Rattle.spv_extended.specs.declared.reach.Reach.TheVariants.{Profile};
-ghost use Rattle.spv_fault_lines.specs.Lines.{result_of};
-ghost use Rattle.spv_fault_lines.specs.declared.fact.Detail.{Detail};
+ghost use Rattle.spv_facts.specs.Texts.{result_of};
+ghost use Rattle.spv_facts.specs.declared.fact.Detail.{Detail};
 ghost use Rattle.spv_check.specs.Outcome.{HasFailed, OfKnown};
 ghost use Rattle.spv_check.specs.Verdict.{valid_line};
 ghost use Rattle.spv_check.specs.Text.{line_of, refusal_of};
@@ -27,7 +27,8 @@ use crate::reading::{Explained, explained_of, headed};
 use spv_check::{Checked, Judgment, line_for};
 use spv_evidence::Evidence;
 use spv_extended::Reach;
-use spv_fault_lines::{About, Detail, Front, front_of, push_malformed, push_refused};
+use spv_facts::{About, Detail, Front, front_of};
+use spv_fault_lines::{push_lines, push_malformed, push_refused};
 use spv_inst::{decode, listed_or_dead, one_death, one_listing};
 use spv_layout::laws::word_counts;
 use spv_lines::shown_reads_back;
@@ -145,7 +146,7 @@ fn broken_told(
     };
     let facts = about.facts_of(fault.rule, fault.inst, evidence)?;
     let mut lines = rule_line(alloc, Code::Rule(fault.rule))?;
-    about.push_lines(&mut lines, &facts)?;
+    push_lines(&mut lines, &about, &facts)?;
     Ok(Explanation {
         judgment: Judgment::Broken(fault),
         lines,

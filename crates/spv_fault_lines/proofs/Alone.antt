@@ -1,12 +1,17 @@
--- The line of a fact that is not of types.
+-- The line of a fact that is not of types; and lines of a module without instructions.
 use Rattle.std.proofs.Common.{◌≡◌, ℕ, List, Option, refl}
 use Rattle.spv_table.specs.Table.{Table}
 use Rattle.spv_module.specs.Operand.{PlainInst}
 use Rattle.spv_fault_lines.specs.Lines.{line_of, plain_line, raw_of}
-use Rattle.spv_fault_lines.specs.declared.fact.Detail.{Detail}
-use Rattle.spv_fault_lines.specs.declared.fact.Fact.{Fact}
-use Rattle.spv_fault_lines.specs.declared.fact.Fact.TheVariants as fact
-use Rattle.spv_fault_lines.specs.declared.fact.Thing.{Thing}
+use Rattle.spv_facts.specs.declared.fact.Detail.{Detail}
+use Rattle.spv_facts.specs.declared.fact.Fact.{Fact}
+use Rattle.spv_facts.specs.declared.fact.Fact.TheVariants as fact
+use Rattle.spv_facts.specs.declared.fact.Thing.{Thing}
+use Rattle.std.proofs.Common.{◌++◌, [], subst}
+use Rattle.std.specs.Prelude.{OnOk}
+use Rattle.std.specs.Prelude.{Result as Answer}
+use Rattle.spv_lines.specs.Text.{ShownLines}
+use Rattle.spv_fault_lines.specs.Lines.{text_of}
 
 pub one_line : (d : Detail) (G : Table) (is : List PlainInst) (lines : List (List ℕ)) (f : Fact)
     → ((ts : List Thing) → ¬ (f ≡ fact.Types ts))
@@ -54,3 +59,11 @@ one_line d G is lines (fact.Number number) h other = refl
 one_line d G is lines (fact.Operands count) h other = refl
 one_line d G is lines (fact.Least count) h other = refl
 one_line d G is lines (fact.Most count) h other = refl
+
+pub lone : {T E : Type 0} (d : Detail) (G : Table) (is : List PlainInst) → is ≡ []
+    → (r : Answer T E) (old new : List ℕ) (facts : List Fact)
+    → ((shown : List (List ℕ)) → ShownLines G [] is shown → OnOk r (new ≡ old ++ text_of d G is shown facts))
+    → OnOk r (new ≡ old ++ text_of d G [] [] facts)
+lone d G is e r old new facts h =
+    (subst (λ (xs : List PlainInst). (shown : List (List ℕ)) → ShownLines G [] xs shown
+    → OnOk r (new ≡ old ++ text_of d G xs shown facts)) e h) [] (ShownLines.end [])

@@ -1,8 +1,1 @@
 pub mod Alone
-pub mod Joined
-mod Malformed
-pub mod Opcodes
-pub mod Parts
-pub mod Placed
-pub mod Steps
-pub mod Told

@@ -1,14 +1,4 @@
 pub mod Classes
-pub mod Conditions
-pub mod Definition
-pub mod Example
-pub mod Facts
-pub mod Keys
 pub mod Lines
-pub mod Owners
-pub mod Place
 pub mod Refused
-pub mod Shapes
-pub mod Words
-pub mod json_members
 pub mod inner

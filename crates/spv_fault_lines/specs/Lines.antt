@@ -1,52 +1,46 @@
 -- The text of the lines that explain a fault, each `KEY: TEXT`: a key, a colon, and the rest. (Own.)
 use Rattle.std.specs.Prelude.{◌++◌, ◌-◌, ℕ, List, [], ◌∷◌, Option, Some, None, Bool, true, false, codes}
-use Rattle.std.specs.Prelude.{decimal, drop, flat_map, length, nat_eq, nat_le, nat_lt, option_and_then, option_map}
+use Rattle.std.specs.Prelude.{decimal, drop, flat_map, length, nat_le, nat_lt, option_and_then, option_map}
 use Rattle.std.specs.Prelude.{slice_get, take, unwrap_or, if◌then◌else◌}
-use Rattle.spv_table.specs.Table.{Table, entry_of, enumerant_of, kind_of}
-use Rattle.spv_table.specs.Lookups.{number_named}
+use Rattle.spv_table.specs.Table.{Table, entry_of}
 use Rattle.spv_module.specs.Operand.{Plain, OfType, Result, Id, Word, Value, Mask, Argument, Mention}
-use Rattle.spv_module.specs.Operand.{PlainInst, result_in}
-use Rattle.spv_module.specs.declared.opcode.TheConstants.{TYPE_INT, TYPE_FLOAT, TYPE_VECTOR}
+use Rattle.spv_module.specs.Operand.{PlainInst}
 use Rattle.spv_lines.specs.Digits.{hex_digits}
 use Rattle.spv_lines.specs.Operand.{id_text, quoted}
 use Rattle.spv_lines.specs.Text.{inst_line}
 use Rattle.spv_evidence.specs.declared.evidence.EntryPart.{EntryPart}
 use Rattle.spv_evidence.specs.declared.evidence.EntryPart.TheVariants as part
 use Rattle.spv_evidence.specs.declared.evidence.Lister.{Lister}
-use Rattle.spv_evidence.specs.declared.evidence.Lister.TheVariants as lister
 use Rattle.spv_evidence.specs.declared.evidence.Side.{Side}
 use Rattle.spv_evidence.specs.declared.evidence.Side.TheVariants as side
-use Rattle.spv_fault_lines.specs.declared.fact.Detail.{Detail}
-use Rattle.spv_fault_lines.specs.declared.fact.Detail.TheVariants as detail
-use Rattle.spv_fault_lines.specs.declared.fact.Fact.{Fact}
-use Rattle.spv_fault_lines.specs.declared.fact.Fact.TheVariants as fact
-use Rattle.spv_fault_lines.specs.declared.fact.Place.{Place}
-use Rattle.spv_fault_lines.specs.declared.fact.Thing.{Thing}
-use Rattle.spv_fault_lines.specs.declared.fact.Thing.TheVariants as thing
-use Rattle.spv_fault_lines.specs.declared.key.Key.{Key}
-use Rattle.spv_fault_lines.specs.declared.key.Key.TheVariants as key
-use Rattle.spv_names.specs.Names.{function_name}
+use Rattle.spv_facts.specs.declared.fact.Detail.{Detail}
+use Rattle.spv_facts.specs.declared.fact.Detail.TheVariants as detail
+use Rattle.spv_facts.specs.declared.fact.Fact.{Fact}
+use Rattle.spv_facts.specs.declared.fact.Fact.TheVariants as fact
+use Rattle.spv_facts.specs.declared.fact.Place.{Place}
+use Rattle.spv_facts.specs.declared.fact.Thing.{Thing}
+use Rattle.spv_facts.specs.declared.fact.Thing.TheVariants as thing
+use Rattle.spv_facts.specs.declared.key.Key.{Key}
+use Rattle.spv_facts.specs.declared.key.Key.TheVariants as key
 use Rattle.spv_fault_lines.specs.Classes.{classes_text}
-use Rattle.spv_fault_lines.specs.Conditions.{condition_text}
-use Rattle.spv_fault_lines.specs.Keys.{line_name}
-use Rattle.spv_fault_lines.specs.Owners.{places_in}
+use Rattle.spv_facts.specs.Conditions.{condition_text}
+use Rattle.spv_facts.specs.Keys.{line_name}
+use Rattle.spv_facts.specs.Owners.{places_in}
 use Rattle.spv_lines.specs.Plain.{plain_of}
-use Rattle.spv_fault_lines.specs.Shapes.{role_text, row_text}
+use Rattle.spv_facts.specs.Shapes.{role_text, row_text}
+use Rattle.spv_facts.specs.Texts.{id_part, value_text, operand_at, result_of, result_part, function_part}
+use Rattle.spv_facts.specs.Texts.{name_at, unended_text, due_text}
+use Rattle.spv_facts.specs.Texts.{capability_name, bit_name}
+use Rattle.spv_facts.specs.Texts.{type_needs, listed_names, entry_part_text}
+use Rattle.spv_facts.specs.Texts.{side_text, thing_id}
+use Rattle.spv_facts.specs.Keys.{key_of}
 
--- after a space: an id, as ` %17`, or a number, or a name
-abbrev pub id_part : ℕ → List ℕ
-id_part x = codes " " ++ id_text x
-
+-- after a space: a number, or a name
 abbrev pub number_part : ℕ → List ℕ
 number_part n = codes " " ++ decimal n
 
 abbrev pub name_part : List ℕ → List ℕ
 name_part name = codes " " ++ name
-
--- a value of a kind: by the name of its first enumerant, or in decimal where it has none
-abbrev pub value_text : Table → ℕ → ℕ → List ℕ
-value_text G kind x = unwrap_or (option_map (λ e. e.name)
-    (option_and_then (λ s. enumerant_of s.enumerants x) (kind_of G kind))) (decimal x)
 
 -- after a space: an operand that is an id, a number, or a value of an enum
 abbrev pub operand_part : Table → Option Plain → List ℕ
@@ -59,25 +53,6 @@ operand_part G (Some (Word n)) = number_part n
 operand_part G (Some (Value k n)) = name_part (value_text G k n)
 operand_part G (Some (Mask k n)) = number_part n
 operand_part G o = []
-
--- the operands of instruction n; operand k of it
-abbrev pub operands_of : List PlainInst → ℕ → List Plain
-operands_of is n = unwrap_or (option_map (λ i. i.operands) (slice_get is n)) []
-
-abbrev pub operand_at : List PlainInst → ℕ → ℕ → Option Plain
-operand_at is n k = option_and_then (λ i. slice_get i.operands k) (slice_get is n)
-
-abbrev pub part_of : Option ℕ → List ℕ
-part_of None = []
-part_of (Some x) = id_part x
-
--- the result of instruction n, if it has one
-abbrev pub result_of : List PlainInst → ℕ → Option ℕ
-result_of is n = option_and_then (λ i. result_in i.operands) (slice_get is n)
-
--- the same after a space
-abbrev pub result_part : List PlainInst → ℕ → List ℕ
-result_part is n = part_of (result_of is n)
 
 -- the results of instructions, as ` %13 %15 %16`
 abbrev pub results_part : List PlainInst → List ℕ → List ℕ
@@ -103,14 +78,7 @@ block_id_part (Some x) = codes ", block" ++ id_part x
 abbrev pub block_part : List PlainInst → Option ℕ → List ℕ
 block_part is block = block_id_part (option_and_then (result_of is) block)
 
-abbrev pub function_part : List PlainInst → Option ℕ → List ℕ
-function_part is None = []
-function_part is (Some n) = result_part is n
-
--- the name of the function that an OpFunction of that number begins, and it in quotes after a space
-abbrev pub name_at : List PlainInst → Option ℕ → Option (List ℕ)
-name_at is n = option_and_then (function_name is) (option_and_then (result_of is) n)
-
+-- the name of a function in quotes, after a space
 abbrev pub named_part : Option (List ℕ) → List ℕ
 named_part None = []
 named_part (Some name) = name_part (quoted name)
@@ -148,78 +116,7 @@ tells_names detail.Full opcodes = true
 abbrev pub coming_part : Detail → Table → List ℕ → Bool → List ℕ
 coming_part d G opcodes end = if tells_names d opcodes then names_text G opcodes end else classes_text opcodes end
 
--- `the end of block %11`, or of the function where no block is open
-abbrev pub unended_by : List PlainInst → Option ℕ → Option ℕ → List ℕ
-unended_by is function (Some block) = codes "the end of block" ++ result_part is block
-unended_by is function None = codes "the end of function" ++ function_part is function
-
-abbrev pub unended_text : List PlainInst → Place → List ℕ
-unended_text is p = unended_by is p.function p.block
-
--- the name of a kind, its number, or `nothing`
-abbrev pub due_text : Table → Option ℕ → List ℕ
-due_text G None = codes "nothing"
-due_text G (Some k) = unwrap_or (option_map (λ s. s.kind.name) (kind_of G k)) (decimal k)
-
--- a capability: by the name of the grammar, or in decimal
-abbrev pub value_or_number : Table → Option ℕ → ℕ → List ℕ
-value_or_number G None x = decimal x
-value_or_number G (Some kind) x = value_text G kind x
-
-abbrev pub capability_name : Table → ℕ → List ℕ
-capability_name G c = value_or_number G (number_named G (codes "Capability")) c
-
--- a bit of a mask by the name of its kind
-abbrev pub bit_name : Table → Option Plain → ℕ → List ℕ
-bit_name G (Some (Mask k x)) bit = value_text G k bit
-bit_name G o bit = decimal bit
-
--- the capabilities of which one is needed for the width of an integer or float type, or the count of a vector: Int16
--- and Int64; Float16Buffer or Float16, and Float64; Vector16 [3.31]
-abbrev pub int_needs : List Plain → List ℕ
-int_needs (r ∷ Word w ∷ os) = if nat_eq w 16 then 22 ∷ [] else (if nat_eq w 64 then 11 ∷ [] else [])
-int_needs os = []
-
-abbrev pub float_needs : List Plain → List ℕ
-float_needs (r ∷ Word w ∷ os) = if nat_eq w 16 then 8 ∷ 9 ∷ [] else (if nat_eq w 64 then 10 ∷ [] else [])
-float_needs os = []
-
-abbrev pub vector_needs : List Plain → List ℕ
-vector_needs (r ∷ t ∷ Word n ∷ os) = if nat_eq n 8 then 7 ∷ [] else (if nat_eq n 16 then 7 ∷ [] else [])
-vector_needs os = []
-
-abbrev pub width_needs : ℕ → List Plain → List ℕ
-width_needs opcode os = if nat_eq opcode TYPE_INT then int_needs os
-    else (if nat_eq opcode TYPE_FLOAT then float_needs os
-    else (if nat_eq opcode TYPE_VECTOR then vector_needs os else []))
-
--- the capabilities of which one is needed, by what of a type lacks it: of an image or sampler type ImageBasic (13), of
--- an access qualifier ImageReadWrite (14), else those of a width or a count [3.31]
-abbrev pub type_needs : Lister → ℕ → List Plain → List ℕ
-type_needs lister.Type opcode os = 13 ∷ []
-type_needs lister.Access opcode os = 14 ∷ []
-type_needs l opcode os = width_needs opcode os
-
--- the names of the capabilities that a value's enumerant lists, or a bit's
-abbrev pub listed_by : Table → ℕ → ℕ → Option (List (List ℕ))
-listed_by G kind x = option_map (λ e. e.capabilities)
-    (option_and_then (λ s. enumerant_of s.enumerants x) (kind_of G kind))
-
-abbrev pub value_lists : Table → Option Plain → Option (List (List ℕ))
-value_lists G (Some (Value k x)) = listed_by G k x
-value_lists G o = None
-
-abbrev pub bit_lists : Table → Option Plain → ℕ → Option (List (List ℕ))
-bit_lists G (Some (Mask k x)) bit = listed_by G k bit
-bit_lists G o bit = None
-
--- the names that an opcode's entry lists, an operand's value or a bit of it; what a type needs has none
-abbrev pub listed_names : Table → PlainInst → Lister → Option (List (List ℕ))
-listed_names G i lister.Entry = option_map (λ e. e.capabilities) (entry_of G i.opcode)
-listed_names G i (lister.Value k) = value_lists G (slice_get i.operands k)
-listed_names G i (lister.Bit k bit) = bit_lists G (slice_get i.operands k) bit
-listed_names G i l = None
-
+-- the names of the capabilities of which one is needed, each after a space
 abbrev pub names_part : Table → PlainInst → Lister → Option (List (List ℕ)) → List ℕ
 names_part G i l (Some names) = flat_map name_part names
 names_part G i l None = flat_map (λ c. name_part (capability_name G c)) (type_needs l i.opcode i.operands)
@@ -228,29 +125,13 @@ abbrev pub needed_part : Table → Option PlainInst → Lister → List ℕ
 needed_part G None l = []
 needed_part G (Some i) l = names_part G i l (listed_names G i l)
 
--- a part of E2 that is broken: in words, or the instruction by which it is
-abbrev pub entry_part_text : EntryPart → List ℕ
-entry_part_text part.Model = codes "the execution model is not Kernel"
-entry_part_text part.Declared = codes "the function is a declaration"
-entry_part_text part.Returns = codes "the function does not return void"
-entry_part_text (part.Called n) = codes "the function is called"
-entry_part_text part.Unnamed = codes "the function is that of no OpEntryPoint"
-entry_part_text (part.Imported n) = codes "a definition is imported"
-entry_part_text part.Missing = codes "a declaration is not imported"
-
+-- the same, or the instruction by which it is
 abbrev pub entry_rest : List (List ℕ) → EntryPart → List ℕ
 entry_rest lines (part.Called n) = inst_part lines n
 entry_rest lines (part.Imported n) = inst_part lines n
 entry_rest lines p = name_part (entry_part_text p)
 
--- where two things are to be the same: in words, or the number of a parameter or an argument
-abbrev pub side_text : Side → List ℕ
-side_text side.Function = codes "function type"
-side_text side.Return = codes "return type"
-side_text side.Number = codes "number of parameters or arguments"
-side_text (side.Parameter k) = codes "parameter"
-side_text (side.Argument k) = codes "argument"
-
+-- the same, or the number of a parameter or an argument
 abbrev pub side_rest : Side → List ℕ
 side_rest (side.Parameter k) = number_part k
 side_rest (side.Argument k) = number_part k
@@ -283,65 +164,6 @@ abbrev pub count_part : Option ℕ → List ℕ
 count_part None = codes " none"
 count_part (Some n) = number_part n
 
--- the key of what is told
-abbrev pub capability_key : Bool → Key
-capability_key true = key.Implied
-capability_key false = key.NotImplied
-
-abbrev pub part_key : EntryPart → Key
-part_key (part.Called n) = key.Called
-part_key (part.Imported n) = key.Imported
-part_key p = key.Part
-
-abbrev pub side_key : Side → Key
-side_key (side.Parameter k) = key.Parameter
-side_key (side.Argument k) = key.Argument
-side_key s = key.Place
-
-abbrev pub key_of : Fact → Key
-key_of (fact.At n) = key.At
-key_of (fact.In p) = key.In
-key_of (fact.Open p) = key.Open
-key_of (fact.Words before words after) = key.Words
-key_of (fact.Word k w) = key.Word
-key_of (fact.Opcode opcode) = key.Opcode
-key_of (fact.Row opcode known) = key.Row
-key_of (fact.MayCome opcodes end) = key.MayCome
-key_of (fact.Unended p) = key.Missing
-key_of (fact.Operand n k) = key.Operand
-key_of (fact.Failing k) = key.Operand
-key_of (fact.Due kind) = key.Due
-key_of (fact.Bound bound) = key.Bound
-key_of (fact.Defined n) = key.Defined
-key_of (fact.LocalTo f) = key.LocalTo
-key_of (fact.Role r) = key.Role
-key_of (fact.Earlier n) = key.Earlier
-key_of (fact.Capability c implied) = capability_key implied
-key_of (fact.Bit n k bit) = key.Bit
-key_of (fact.NeedsOneOf n l) = key.NeedsOneOf
-key_of fact.NoEntry = key.Missing
-key_of (fact.Part part) = part_key part
-key_of (fact.Condition c) = key.Condition
-key_of (fact.Types ts) = key.Type
-key_of (fact.Differs s) = side_key s
-key_of (fact.Wanted t) = key.Wanted
-key_of (fact.Found t) = key.Found
-key_of (fact.ReadTypes n us ts) = key.Type
-key_of (fact.WantedOf n t ks) = key.Wanted
-key_of (fact.FoundOf n t ks) = key.Found
-key_of (fact.Size n) = key.Size
-key_of (fact.MissingParent b) = key.MissingParent
-key_of (fact.NoPredecessor n k) = key.NoPredecessor
-key_of (fact.Twice n k) = key.Twice
-key_of (fact.Predecessors blocks) = key.Predecessors
-key_of (fact.Walk blocks) = key.Walk
-key_of (fact.Calls functions) = key.Calls
-key_of (fact.Cycle functions) = key.Cycle
-key_of (fact.Number n) = key.Number
-key_of (fact.Operands n) = key.Operands
-key_of (fact.Least n) = key.Least
-key_of (fact.Most n) = key.Most
-
 -- `, of operand 1 %17`: operands of instruction n
 abbrev pub owner_part : Table → List PlainInst → ℕ → ℕ → List ℕ
 owner_part G is n k = codes ", of operand" ++ numbered_part G is n k
@@ -356,13 +178,6 @@ owners_part G is n ks = flat_map (owner_part G is n) (take 8 ks) ++ more_part (l
 -- `%5 = OpTypeInt 32 0, of operand 1 %17`
 abbrev pub owned_text : Table → List PlainInst → List (List ℕ) → ℕ → Thing → List ℕ → List ℕ
 owned_text G is lines n t ks = thing_text lines t ++ owners_part G is n ks
-
--- the id of a type that is told, if it is one
-abbrev pub thing_id : List PlainInst → Thing → Option ℕ
-thing_id is thing.Nothing = None
-thing_id is (thing.Count n) = None
-thing_id is (thing.Inst n) = result_of is n
-thing_id is (thing.Id x) = Some x
 
 -- the operands of instruction n that are of a type that is told, where these are their types; of one that none is of
 -- that it is a part of another that is told

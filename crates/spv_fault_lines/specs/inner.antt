@@ -1,3 +1,2 @@
 -- Definitions that serve the code alone.
 pub mod Parts
-pub mod Owned

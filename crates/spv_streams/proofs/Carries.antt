@@ -9,7 +9,7 @@ use Rattle.spv_table.specs.Table.{Table}
 use Rattle.spv_extended.specs.declared.reach.Reach.{Reach}
 use Rattle.spv_names.specs.declared.chosen.Chosen.{Chosen}
 use Rattle.spv_check.specs.Stream.{Begins, TellsVerdict}
-use Rattle.spv_fault_lines.specs.declared.fact.Detail.{Detail}
+use Rattle.spv_facts.specs.declared.fact.Detail.{Detail}
 use Rattle.spv_explain.specs.Stream.{BeginsExplaining, Explains}
 use Rattle.spv_views.specs.View.{BeginsViewing, Views}
 use Rattle.spv_views.specs.declared.view.View.{View}

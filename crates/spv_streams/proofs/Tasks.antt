@@ -17,7 +17,7 @@ use Rattle.spv_commands.specs.Task.{view_of}
 use Rattle.spv_views.specs.View.{BeginsViewing}
 use Rattle.spv_views.specs.declared.view.View.{View}
 use Rattle.spv_views.specs.declared.view.View.TheVariants as view
-use Rattle.spv_fault_lines.specs.declared.fact.Detail.{Detail}
+use Rattle.spv_facts.specs.declared.fact.Detail.{Detail}
 use Rattle.spv_commands.specs.Trace.{BeginsTracing}
 use Rattle.spv_builtin.specs.Source.{IsTableOf}
 use Rattle.spv_builtin.specs.Text.{IsGrammarText}

@@ -19,7 +19,7 @@ use Rattle.spv_check.specs.Text.{line_of}
 use Rattle.spv_check.specs.Verdict.{IsVerdict, fault_line, line_end, refused_line}
 use Rattle.spv_module.specs.Module.{plain_insts}
 use Rattle.spv_module.specs.declared.module.Module.{Module}
-use Rattle.spv_fault_lines.specs.declared.fact.Detail.TheVariants.{Short}
+use Rattle.spv_facts.specs.declared.fact.Detail.TheVariants.{Short}
 use Rattle.spv_explain.specs.Stream.{IsExplanation, IsWalk}
 use Rattle.spv_inst.specs.Outcome.{IsDecodeFault}
 use Rattle.spv_module.specs.declared.fault.Fault.{Fault}

@@ -20,7 +20,7 @@ use Rattle.spv_check.specs.Text.{line_of}
 use Rattle.spv_check.specs.Verdict.{IsVerdict}
 use Rattle.spv_check.specs.declared.verdict_line.Judgment.{Judgment}
 use Rattle.spv_check.specs.declared.verdict_line.Judgment.TheVariants.{Valid, Refused, Broken}
-use Rattle.spv_fault_lines.specs.declared.fact.Detail.TheVariants.{Short}
+use Rattle.spv_facts.specs.declared.fact.Detail.TheVariants.{Short}
 use Rattle.spv_explain.specs.Stream.{IsExplanation, IsModuleOf, IsWalk}
 use Rattle.spv_explain.specs.declared.stream.Explanation.{Explanation}
 use Rattle.spv_names.specs.Chosen.{IsChosen, is_function}

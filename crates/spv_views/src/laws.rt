@@ -19,7 +19,7 @@ ghost use Rattle.spv_annotate.specs.declared.finding.Finding.{Finding};
 ghost use Rattle.spv_extended.specs.declared.reach.Reach.{Reach};
 ghost use Rattle.spv_explain.specs.Stream.{IsExplanation};
 ghost use Rattle.spv_explain.specs.declared.stream.Explanation.{Explanation};
-ghost use Rattle.spv_fault_lines.specs.declared.fact.Detail.TheVariants.{Short};
+ghost use Rattle.spv_facts.specs.declared.fact.Detail.TheVariants.{Short};
 ghost use Rattle.spv_views.specs.declared.view.View.{View};
 ghost use Rattle.spv_views.specs.declared.view.View.TheVariants.{Graph, Text};
 

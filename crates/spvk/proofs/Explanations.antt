@@ -3,7 +3,7 @@ use Rattle.std.proofs.Common.{◌≡◌, ◌++◌, ℕ, List, Some, string_bytes
 use Rattle.spv_table.specs.Table.{Table}
 use Rattle.spv_extended.specs.declared.reach.Reach.{Reach}
 use Rattle.spv_explain.specs.Stream.{IsExplanation}
-use Rattle.spv_fault_lines.specs.declared.fact.Detail.TheVariants.{Short}
+use Rattle.spv_facts.specs.declared.fact.Detail.TheVariants.{Short}
 use Rattle.spv_explain.specs.declared.stream.Explanation.{Explanation}
 use Rattle.spv_check.specs.Text.{line_of}
 use Rattle.spvk.specs.Explain.{IsExplaining}

@@ -4,7 +4,7 @@ use Rattle.spv_table.specs.Table.{Table}
 use Rattle.spv_extended.specs.declared.reach.Reach.{Reach}
 use Rattle.spv_check.specs.Verdict.{IsVerdict}
 use Rattle.spv_explain.specs.Stream.{AreOthers, Explain, ExplainDead}
-use Rattle.spv_fault_lines.specs.declared.fact.Detail.TheVariants.{Short}
+use Rattle.spv_facts.specs.declared.fact.Detail.TheVariants.{Short}
 use Rattle.spvk.specs.Answer.{Tells}
 use Rattle.spvk.specs.declared.text.Text.{Text}
 

@@ -1,73 +1,15 @@
--- Parts of what is told. (For the code alone.) First the facts of evidence: each part hands on what it has not.
-use Rattle.std.specs.Prelude.{◌++◌, ◌-◌, ℕ, List, [], ◌∷◌, Option, Some, None, length, nat_lt, if◌then◌else◌, set}
-use Rattle.std.specs.Prelude.{codes, decimal, slice_get, unwrap_or}
+-- Parts of what lines tell. (For the code alone.)
+use Rattle.std.specs.Prelude.{ℕ, List, []}
+use Rattle.std.specs.Prelude.{codes, decimal}
 use Rattle.spv_table.specs.Table.{Table}
 use Rattle.spv_module.specs.Operand.{PlainInst}
-use Rattle.spv_evidence.specs.declared.evidence.Evidence.{Evidence}
-use Rattle.spv_evidence.specs.declared.evidence.Evidence.TheVariants as evidence
-use Rattle.spv_fault_lines.specs.declared.fact.Fact.{Fact}
-use Rattle.spv_fault_lines.specs.declared.fact.Fact.TheVariants as fact
-use Rattle.spv_fault_lines.specs.declared.key.Key.{Key}
-use Rattle.spv_fault_lines.specs.declared.key.Key.TheVariants as key
-use Rattle.spv_fault_lines.specs.Facts.{asked_facts, condition_facts, failing_facts, lister_facts, side_thing}
-use Rattle.spv_fault_lines.specs.Words.{begin_of, words_fact}
+use Rattle.spv_facts.specs.declared.fact.Fact.{Fact}
+use Rattle.spv_facts.specs.declared.fact.Fact.TheVariants as fact
 use Rattle.spv_lines.specs.Text.{inst_line}
-use Rattle.spv_fault_lines.specs.Conditions.{condition_text}
-use Rattle.spv_fault_lines.specs.Lines.{bit_name, capability_name, due_text, operand_at, thing_text, unended_text}
-use Rattle.spv_fault_lines.specs.Shapes.{role_text, row_text}
-use Rattle.spv_words.specs.declared.words.WordError.{WordError}
-use Rattle.spv_fault_lines.specs.declared.refused.Front.{Front}
-use Rattle.spv_fault_lines.specs.Refused.{found_text}
-
--- on ids
-abbrev pub id_facts : ℕ → Evidence → List Fact
-id_facts n (evidence.Operand k) = fact.Operand n k ∷ []
-id_facts n (evidence.Earlier m) = fact.Earlier m ∷ []
-id_facts n (evidence.Defined k m) = fact.Operand n k ∷ fact.Defined m ∷ []
-id_facts n (evidence.Local k m f) = fact.Operand n k ∷ fact.Defined m ∷ fact.LocalTo f ∷ []
-id_facts n (evidence.Miscast k role m) = fact.Operand n k ∷ fact.Role role ∷ fact.Defined m ∷ []
-id_facts n e = []
-
--- on forms, implied capabilities and extended instructions, or on ids
-abbrev pub form_facts : ℕ → Evidence → List Fact
-form_facts n (evidence.Opcode opcode) = fact.Opcode opcode ∷ []
-form_facts n (evidence.Due opcode k kind) = fact.Opcode opcode ∷ fact.Failing k ∷ fact.Due kind ∷ []
-form_facts n (evidence.Shape opcode known) = fact.Opcode opcode ∷ fact.Row opcode known ∷ []
-form_facts n (evidence.Capability c implied) = fact.Capability c implied ∷ []
-form_facts n evidence.NoEntry = fact.NoEntry ∷ []
-form_facts n (evidence.Entry part) = fact.Part part ∷ []
-form_facts n (evidence.Miscalled number operands least most) =
-    fact.Number number ∷ fact.Operands operands ∷ fact.Least least ∷ fact.Most most ∷ []
-form_facts n e = id_facts n e
-
--- on types and what lists capabilities, or on forms and ids
-abbrev pub typed_facts : List PlainInst → ℕ → Evidence → List Fact
-typed_facts is n (evidence.Needs l) = lister_facts is n l ++ (fact.NeedsOneOf n l ∷ [])
-typed_facts is n (evidence.Condition c k m wanted found types) =
-    failing_facts n c k m ++ condition_facts is n c k wanted found types
-typed_facts is n (evidence.Mismatch s wanted found of) = fact.Differs s ∷ asked_facts is of
-    ++ (fact.Wanted (side_thing is s wanted) ∷ fact.Found (side_thing is s found) ∷ [])
-typed_facts is n e = form_facts n e
-
--- on layout and flow, or on all else
-abbrev pub list_facts : List PlainInst → ℕ → Evidence → List Fact
-list_facts is n (evidence.MayCome opcodes end) = fact.MayCome opcodes end ∷ []
-list_facts is n (evidence.MissingParent b ps) = fact.MissingParent b ∷ fact.Predecessors ps ∷ []
-list_facts is n (evidence.NoPredecessor k ps) = fact.NoPredecessor n k ∷ fact.Predecessors ps ∷ []
-list_facts is n (evidence.Twice k l ps) = fact.Twice n l ∷ fact.Predecessors ps ∷ []
-list_facts is n (evidence.Walk k m blocks) = fact.Operand n k ∷ fact.Defined m ∷ fact.Walk blocks ∷ []
-list_facts is n (evidence.Cycle calls cycle) = fact.Calls calls ∷ fact.Cycle cycle ∷ []
-list_facts is n e = typed_facts is n e
-
--- a list with the number of an instruction at the place of its result, if it has that place
-abbrev pub kept : List (Option ℕ) → Option ℕ → ℕ → List (Option ℕ)
-kept found None n = found
-kept found (Some x) n = if nat_lt x (length found) then set found x (Some n) else found
-
--- of instruction n, which breaks a rule at the word of that number: its words, and the failing one
-abbrev pub word_facts : List ℕ → ℕ → ℕ → List Fact
-word_facts ws n word =
-    (let at = begin_of ws n in words_fact ws at (word - at) ∷ fact.Word (word - at) (slice_get ws word) ∷ [])
+use Rattle.spv_facts.specs.Conditions.{condition_text}
+use Rattle.spv_facts.specs.Texts.{bit_name, capability_name, due_text, operand_at, unended_text}
+use Rattle.spv_fault_lines.specs.Lines.{thing_text}
+use Rattle.spv_facts.specs.Shapes.{role_text, row_text}
 
 -- what is told behind the key and a space; nothing where more than a space stands before it, or none
 abbrev pub named_text : Table → List PlainInst → List (List ℕ) → Fact → List ℕ
@@ -88,18 +30,3 @@ named_text G is lines (fact.Number n) = decimal n
 named_text G is lines (fact.Size n) = decimal n
 named_text G is lines (fact.Operands n) = decimal n
 named_text G is lines f = []
-
--- what is found in bytes that break a code; nothing of W1 and W9
-abbrev pub found_words : WordError → Front → List ℕ
-found_words e f = unwrap_or (found_text e f) []
-
--- how a key is written before the colon of a line, if its fact is about control flow or calls
-abbrev pub flow_name : Key → List ℕ
-flow_name key.MissingParent = codes "missing parent"
-flow_name key.NoPredecessor = codes "no predecessor"
-flow_name key.Twice = codes "twice"
-flow_name key.Predecessors = codes "predecessors"
-flow_name key.Walk = codes "walk"
-flow_name key.Calls = codes "calls"
-flow_name key.Cycle = codes "cycle"
-flow_name k = []

@@ -11,7 +11,7 @@ use Rattle.spv_check.specs.Text.{line_of}
 use Rattle.spv_table.specs.Table.{Table}
 use Rattle.spv_words.specs.Header.{greatest_length}
 use Rattle.spv_extended.specs.declared.reach.Reach.{Reach}
-use Rattle.spv_fault_lines.specs.declared.fact.Detail.TheVariants.{Short}
+use Rattle.spv_facts.specs.declared.fact.Detail.TheVariants.{Short}
 use Rattle.spv_explain.specs.Stream.{IsExplanation, IsModuleIn, IsWalk}
 use Rattle.spv_explain.specs.declared.stream.Told.{Told}
 use Rattle.spv_module.specs.declared.module.Module.{Module}

@@ -2,7 +2,7 @@ use Rattle.std.proofs.Common.{[], ◌≡◌, ◌++◌, List, ℕ, subst}
 use Rattle.std.specs.Prelude.{OnOk}
 use Rattle.spv_module.specs.Operand.{PlainInst}
 use Rattle.spv_lines.specs.Text.{ShownLines}
-use Rattle.spv_fault_lines.specs.json_members.Members.{members_of}
+use Rattle.spv_fault_json.specs.Members.{members_of}
 use Rattle.spv_explain.proofs.answers.push_lone_members.Goals as goal
 
 pub returns : goal.returns

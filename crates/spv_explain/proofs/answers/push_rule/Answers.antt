@@ -1,5 +1,5 @@
 use Rattle.std.proofs.Common.{codes}
-use Rattle.spv_fault_lines.specs.json_members.Tokens.{text_member}
+use Rattle.spv_fault_json.specs.Tokens.{text_member}
 use Rattle.spv_explain.proofs.Objects.{pushed_next}
 use Rattle.spv_explain.proofs.answers.push_rule.Goals as goal
 

@@ -1,0 +1,12 @@
+pub mod Conditions
+pub mod Definition
+pub mod Example
+pub mod Facts
+pub mod Keys
+pub mod Owners
+pub mod Place
+pub mod Refused
+pub mod Shapes
+pub mod Texts
+pub mod Words
+pub mod inner

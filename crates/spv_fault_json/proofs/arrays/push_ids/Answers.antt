@@ -1,0 +1,9 @@
+use Rattle.std.proofs.Common.{arith}
+use Rattle.std.proofs.lemmas.Grind.{common_steps}
+use Rattle.spv_fault_json.proofs.arrays.push_ids.Goals as goal
+
+pub loop-inst-preserved : goal.loop-inst-preserved
+loop-inst-preserved c = grind (arith, common_steps)
+
+pub returns : goal.returns
+returns c = grind (arith, common_steps)

@@ -1,6 +1,0 @@
-use Rattle.std.proofs.Common.{arith}
-use Rattle.std.proofs.lemmas.Grind.{common_steps}
-use Rattle.spv_fault_lines.proofs.about.About.push_needed_of.Goals as goal
-
-pub returns-in-None : goal.returns-in-None
-returns-in-None c = grind (arith, common_steps)

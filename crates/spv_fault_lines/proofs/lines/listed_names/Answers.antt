@@ -1,9 +1,0 @@
-use Rattle.std.proofs.Common.{arith}
-use Rattle.std.proofs.lemmas.Grind.{elements}
-use Rattle.spv_fault_lines.proofs.lines.listed_names.Goals as goal
-
-pub returns-in-Value : goal.returns-in-Value
-returns-in-Value c = grind (arith, elements)
-
-pub returns-in-Bit : goal.returns-in-Bit
-returns-in-Bit c = grind (arith, elements)

@@ -1,0 +1,9 @@
+use Rattle.std.proofs.Common.{arith}
+use Rattle.std.proofs.lemmas.Grind.{common_steps}
+use Rattle.spv_fault_lines.proofs.lines.push_each_read_line.Goals as goal
+
+pub loop-thing-preserved : goal.loop-thing-preserved
+loop-thing-preserved c operands shown owners is =
+    let e = c.in_ok-push_read_line.ensures operands shown owners is in
+    let i = c.loop-thing.invariant operands shown owners is in
+    grind (arith, e, i, common_steps)

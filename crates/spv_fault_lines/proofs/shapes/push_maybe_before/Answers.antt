@@ -1,7 +1,0 @@
-use Rattle.std.proofs.Common.{codes}
-use Rattle.spv_fault_lines.proofs.Joined.{pushed}
-use Rattle.spv_fault_lines.proofs.shapes.push_maybe_before.Goals as goal
-
-pub returns : goal.returns
-returns c =
-    pushed _ _ _ _ _ (codes " or nothing, any number of: ") c.in_ok-push_form.ensures c.push_str.ensures.bytes
