@@ -1,5 +1,6 @@
 -- What the rows of the table have.
-use Rattle.std.proofs.Common.{◌≡◌, ◌∙◌, ◌<◌, ◌≤◌, ◌+◌, ◌-◌, ◌++◌, codes, take, ℕ, zero, suc, nat_le, List, [], ◌∷◌, refl, sym, ap, true, Some, option_map, length, map, get_or, arith}
+use Rattle.std.proofs.Common.{◌≡◌, ◌∙◌, ◌<◌, ◌≤◌, ◌+◌, ◌-◌, ◌++◌, codes, take, drop, ℕ, zero, suc, nat_le, List, [], ◌∷◌}
+use Rattle.std.proofs.Common.{refl, sym, ap, true, Some, None, option_map, length, map, get_or, arith}
 use Rattle.std.specs.Prelude.{slice_get}
 use Rattle.std.specs.Char.{to_ascii_lowercase}
 use Rattle.std.specs.List.{range_with_len}
@@ -7,17 +8,18 @@ use denote.Enum.Declared.{tag_of, variants}
 use denote.Enum.Enum.{tag_below}
 use Rattle.std.proofs.lemmas.Bool.{leb-true}
 use Rattle.std.proofs.lemmas.List.FromFn.{get_or-range_with_len}
-use Rattle.std.proofs.lemmas.List.{length-map}
-use Rattle.std.proofs.lemmas.Option.{slice_get-map, slice_get-get_or, slice_get_within, get_or_from_slice_get, same_Some}
+use Rattle.std.proofs.lemmas.List.{drop_more, length-map}
+use Rattle.std.proofs.lemmas.Option.{slice_get-map, slice_get-get_or, slice_get_within, slice_get_past}
+use Rattle.std.proofs.lemmas.Option.{get_or_from_slice_get, same_Some}
 use Rattle.spv_module.specs.contracts.fault.Rule.{the_type}
 use Rattle.spv_module.proofs.Tags.{one_variant}
 use Rattle.spv_words.specs.contracts.words.WordError as word
+use Rattle.spv_words.specs.declared.words.WordError.TheVariants.{W1}
 use Rattle.spv_rules.specs.declared.rules.Code.{Code}
 use Rattle.spv_rules.specs.declared.rules.Code.TheVariants.{Word, Rule}
-use Rattle.spv_rules.specs.declared.table.TheConstants.{WORD_ROWS, FORM_ROWS, TYPE_ROWS}
 use Rattle.spv_rules.specs.Rules.{IsNamed, name_of, number_of, place_of, section_of, sentence_of, without_last}
 use Rattle.spv_rules.specs.Table.{Row, Text, row_count, rows}
-use Rattle.spv_rules.specs.inner.Held.{Held, plain}
+use Rattle.spv_rules.specs.inner.Held.{Held, parts, plain}
 
 -- ---- all rows at once
 
@@ -47,53 +49,83 @@ placed = refl
 
 -- ---- a row by its place
 
-left : (xs ys : List Row) (k : ℕ) → k < length xs → slice_get (xs ++ ys) k ≡ slice_get xs k
-left [] ys k l = absurd (omega arith)
-left (x ∷ xs) ys zero l = refl
-left (x ∷ xs) ys (suc k) l = left xs ys k (omega arith)
+before : (xs ys : List Row) (k : ℕ) → k < length xs → slice_get (xs ++ ys) k ≡ slice_get xs k
+before [] ys k l = absurd (omega arith)
+before (x ∷ xs) ys zero l = refl
+before (x ∷ xs) ys (suc k) l = before xs ys k (omega arith)
 
-right : (xs ys : List Row) (k : ℕ) → slice_get (xs ++ ys) (length xs + k) ≡ slice_get ys k
-right [] ys k = let e : 0 + k ≡ k = omega arith in ap (slice_get ys) e
-right (x ∷ xs) ys k = let e : suc (length xs) + k ≡ suc (length xs + k) = omega arith in ap (slice_get (x ∷ xs ++ ys)) e ∙ right xs ys k
+behind : (xs ys : List Row) (k : ℕ) → slice_get (xs ++ ys) (length xs + k) ≡ slice_get ys k
+behind [] ys k = let e : 0 + k ≡ k = omega arith in ap (slice_get ys) e
+behind (x ∷ xs) ys k =
+    let e : suc (length xs) + k ≡ suc (length xs + k) = omega arith in
+    ap (slice_get (x ∷ xs ++ ys)) e ∙ behind xs ys k
 
 -- what lists made of the rows have at one place
 at_place : {A : Type 0} (f g : Row → A) → map f rows ≡ map g rows → (n : ℕ) (row : Row) → slice_get rows n ≡ Some row → f row ≡ g row
 at_place f g e n row h =
     same_Some (f row) (g row) (ap (option_map f) (sym h) ∙ sym (slice_get-map f rows n) ∙ ap (λ xs. slice_get xs n) e ∙ slice_get-map g rows n ∙ ap (option_map g) h)
 
-within_part : (xs ys : List Row) (rs : List Held) (n : ℕ) (d : Held) → map plain rs ≡ xs → n < length xs → slice_get (xs ++ ys) n ≡ Some (plain (get_or rs n d))
-within_part xs ys rs n d e l =
-    let m : length rs ≡ length xs = sym (length-map rs plain) ∙ ap length e in
-    left xs ys n l ∙ ap (λ zs. slice_get zs n) (sym e) ∙ slice_get-map plain rs n ∙ ap (option_map plain) (slice_get-get_or rs n d (omega (arith, m)))
-
-past_part : (xs ys : List Row) (n k : ℕ) → n ≡ length xs + k → slice_get (xs ++ ys) n ≡ slice_get ys k
-past_part xs ys n k e = ap (slice_get (xs ++ ys)) e ∙ right xs ys k
-
-of_length : (rs : List Held) (xs : List Row) → map plain rs ≡ xs → length rs ≡ length xs
-of_length rs xs e = sym (length-map rs plain) ∙ ap length e
-
 how_many : length rows ≡ row_count
 unfolding rows
 how_many = refl
 
-pub in_words : (rs : List Held) (n : ℕ) (d : Held) → map plain rs ≡ WORD_ROWS.now → n < length rs → slice_get rows n ≡ Some (plain (get_or rs n d))
-unfolding rows
-in_words rs n d e l = within_part WORD_ROWS.now (FORM_ROWS.now ++ TYPE_ROWS.now) rs n d e (rw (sym (of_length rs WORD_ROWS.now e)) l)
+-- ---- a row by the parts of the table
 
-pub in_forms : (ws rs : List Held) (n k : ℕ) (d : Held) → map plain ws ≡ WORD_ROWS.now → map plain rs ≡ FORM_ROWS.now → n ≡ length ws + k
-    → k < length rs → slice_get rows n ≡ Some (plain (get_or rs k d))
-unfolding rows
-in_forms ws rs n k d w e h l =
-    past_part WORD_ROWS.now (FORM_ROWS.now ++ TYPE_ROWS.now) n k (rw (sym (of_length ws WORD_ROWS.now w)) h) ∙
-    within_part FORM_ROWS.now TYPE_ROWS.now rs k d e (rw (sym (of_length rs FORM_ROWS.now e)) l)
+abbrev joined : List (List Row) → List Row
+joined [] = []
+joined (part ∷ more) = part ++ joined more
 
-pub in_types : (ws fs rs : List Held) (n k : ℕ) (d : Held) → map plain ws ≡ WORD_ROWS.now → map plain fs ≡ FORM_ROWS.now → map plain rs ≡ TYPE_ROWS.now
-    → n ≡ length ws + (length fs + k) → k < length rs → slice_get rows n ≡ Some (plain (get_or rs k d))
-unfolding rows
-in_types ws fs rs n k d w f e h l =
-    past_part WORD_ROWS.now (FORM_ROWS.now ++ TYPE_ROWS.now) n (length fs + k) (rw (sym (of_length ws WORD_ROWS.now w)) h) ∙
-    past_part FORM_ROWS.now TYPE_ROWS.now (length fs + k) k (ap (λ m. m + k) (of_length fs FORM_ROWS.now f)) ∙
-    ap (λ zs. slice_get zs k) (sym e) ∙ slice_get-map plain rs k ∙ ap (option_map plain) (slice_get-get_or rs k d l)
+all_parts : joined parts ≡ rows
+unfolding parts rows
+all_parts = refl
+
+count_parts : length parts ≡ 6
+unfolding parts
+count_parts = refl
+
+-- a row of the table is in its parts from this one on, so many rows behind the first of them
+abbrev pub StandsIn : ℕ → ℕ → ℕ → Type 0
+StandsIn part left place = slice_get (joined (drop part parts)) left ≡ slice_get rows place
+
+pub stands_in_all : (place : ℕ) → StandsIn 0 place place
+stands_in_all place = ap (λ rs. slice_get rs place) all_parts
+
+parts_from : (part : ℕ) → part < 6 → joined (drop part parts) ≡ get_or parts part [] ++ joined (drop (part + 1) parts)
+parts_from part l = ap joined (drop_more parts part [] (omega (arith, l, count_parts)))
+
+pub stands_here : (rs : List Held) (part left place : ℕ) (d : Held) → part < 6 → map plain rs ≡ get_or parts part []
+    → StandsIn part left place → left < length rs → slice_get rows place ≡ Some (plain (get_or rs left d))
+stands_here rs part left place d l e h t =
+    let n = length-map rs plain in
+    let p = get_or parts part [] in
+    let m = ap length e in
+    let there = ap (λ zs. slice_get zs left) (sym e) ∙ slice_get-map plain rs left in
+    sym h ∙ ap (λ zs. slice_get zs left) (parts_from part l)
+    ∙ before p (joined (drop (part + 1) parts)) left (omega (arith, n, m, t))
+    ∙ there ∙ ap (option_map plain) (slice_get-get_or rs left d t)
+
+pub stands_behind : (rs : List Held) (part left place : ℕ) → part < 6 → map plain rs ≡ get_or parts part []
+    → StandsIn part left place → length rs ≤ left → StandsIn (part + 1) (left - length rs) place
+stands_behind rs part left place l e h t =
+    let n = length-map rs plain in
+    let p = get_or parts part [] in
+    let more = joined (drop (part + 1) parts) in
+    let m = ap length e in
+    let k : left ≡ length p + (left - length rs) = omega (arith, n, m, t) in
+    let whole = ap (λ zs. slice_get zs left) (parts_from part l) ∙ ap (slice_get (p ++ more)) k in
+    sym (whole ∙ behind p more (left - length rs)) ∙ h
+
+none_left : joined (drop 6 parts) ≡ []
+unfolding parts
+none_left = refl
+
+pub stands_nowhere : (left place : ℕ) → place < row_count → StandsIn 6 left place → ⊥
+stands_nowhere left place l h =
+    let none : Text = record { now = [] } in
+    let other : Row = (Word W1, 0, none, none, none, none, none) in
+    let past : slice_get (joined (drop 6 parts)) left ≡ None = rw none_left (slice_get_past [] left (omega arith)) in
+    let there = slice_get-get_or rows place other (omega (arith, how_many, l)) in
+    cc
 
 -- ---- a row by its code
 

@@ -1,8 +1,9 @@
 //! The table of codes: of each its name, what it says, and where it is broken.
-ghost use Rattle.std.specs.Prelude.{◌≡◌, ◌<◌, Some, length, map, slice_get};
+ghost use Rattle.std.specs.Prelude.{◌≡◌, ◌<◌, [], Some, get_or, length, map, slice_get};
 ghost use Rattle.spv_rules.specs.Table.{row_count, rows};
-ghost use Rattle.spv_rules.specs.inner.Held.{plain};
-ghost use Rattle.spv_rules.specs.declared.table.TheConstants.{WORD_ROWS, FORM_ROWS, TYPE_ROWS};
+ghost use Rattle.spv_rules.specs.inner.Held.{parts, plain};
+ghost use Rattle.spv_rules.specs.declared.table.TheConstants.{WORD_ROWS, INSTRUCTION_ROWS, ORDER_ROWS, PARTS};
+ghost use Rattle.spv_rules.specs.declared.table.TheConstants.{ENTRY_ROWS, TYPE_ROWS, FLOW_ROWS};
 
 use crate::rules::Code;
 use spv_module::Rule;
@@ -50,6 +51,9 @@ macro_rules! rule {
         row!(Code::Rule(Rule::$variant), $variant, $($told),*)
     };
 }
+
+/// How many parts the table has, each a static of its own: what has to be proved of one grows faster than it.
+const PARTS: usize = 6;
 
 /// The codes on words, in the order of the variants.
 pub static WORD_ROWS: &[Row] = &[
@@ -118,8 +122,8 @@ pub static WORD_ROWS: &[Row] = &[
     ),
 ];
 
-/// The rules up to Y1, in the order of the variants: on single instructions, their order, and ids.
-pub static FORM_ROWS: &[Row] = &[
+/// The rules up to I12, in the order of the variants: on single instructions.
+pub static INSTRUCTION_ROWS: &[Row] = &[
     rule!(
         I1,
         101,
@@ -205,6 +209,10 @@ pub static FORM_ROWS: &[Row] = &[
         "an operand of a kind of category Literal other than LiteralString, LiteralInteger, LiteralFloat, \
         LiteralExtInstInteger and LiteralContextDependentNumber: its number of words is unknown"
     ),
+];
+
+/// The rules after them up to Y1: on what an opcode asks, the order of instructions, and ids.
+pub static ORDER_ROWS: &[Row] = &[
     rule!(
         P1,
         201,
@@ -281,8 +289,8 @@ pub static FORM_ROWS: &[Row] = &[
     ),
 ];
 
-/// The rules that come after them: on declarations, types and flow.
-pub static TYPE_ROWS: &[Row] = &[
+/// The rules after Y1 up to E2: on capabilities, the memory model and entry points.
+pub static ENTRY_ROWS: &[Row] = &[
     rule!(
         C1,
         601,
@@ -328,6 +336,10 @@ pub static TYPE_ROWS: &[Row] = &[
         OpEntryPoint\nOpFunction: a declaration to which no OpDecorate gives the decoration LinkageAttributes (41) \
         with a text and the LinkageType Import (1), or a definition to which one does"
     ),
+];
+
+/// The rules after E2 up to Y8: on types.
+pub static TYPE_ROWS: &[Row] = &[
     rule!(
         Y2,
         502,
@@ -393,6 +405,10 @@ pub static TYPE_ROWS: &[Row] = &[
         "OpFunctionCall: its result type, or the types of its arguments in number and order, are not those of the \
         callee's OpTypeFunction, or the callee has none"
     ),
+];
+
+/// The rules after Y8: on flow and availability, and the last ones.
+pub static FLOW_ROWS: &[Row] = &[
     rule!(
         F1,
         901,
@@ -471,15 +487,31 @@ fn word_rows() -> &'static [Row]
     WORD_ROWS
 }
 
-/// The rows of the rules up to Y1.
-fn form_rows() -> &'static [Row]
-    ensures same { map plain result.now ≡ FORM_ROWS.now }
-    ensures long { length result.now ≡ length FORM_ROWS.now }
+/// The rows of the rules on single instructions.
+fn instruction_rows() -> &'static [Row]
+    ensures same { map plain result.now ≡ INSTRUCTION_ROWS.now }
+    ensures long { length result.now ≡ length INSTRUCTION_ROWS.now }
 {
-    FORM_ROWS
+    INSTRUCTION_ROWS
 }
 
-/// The rows of the rules after Y1.
+/// The rows of the rules after them up to Y1.
+fn order_rows() -> &'static [Row]
+    ensures same { map plain result.now ≡ ORDER_ROWS.now }
+    ensures long { length result.now ≡ length ORDER_ROWS.now }
+{
+    ORDER_ROWS
+}
+
+/// The rows of the rules after Y1 up to E2.
+fn entry_rows() -> &'static [Row]
+    ensures same { map plain result.now ≡ ENTRY_ROWS.now }
+    ensures long { length result.now ≡ length ENTRY_ROWS.now }
+{
+    ENTRY_ROWS
+}
+
+/// The rows of the rules after E2 up to Y8.
 fn type_rows() -> &'static [Row]
     ensures same { map plain result.now ≡ TYPE_ROWS.now }
     ensures long { length result.now ≡ length TYPE_ROWS.now }
@@ -487,11 +519,35 @@ fn type_rows() -> &'static [Row]
     TYPE_ROWS
 }
 
+/// The rows of the rules after Y8.
+fn flow_rows() -> &'static [Row]
+    ensures same { map plain result.now ≡ FLOW_ROWS.now }
+    ensures long { length result.now ≡ length FLOW_ROWS.now }
+{
+    FLOW_ROWS
+}
+
 /// How many rows there are.
 pub fn count() -> usize
     ensures { result ≡ row_count }
 {
-    word_rows().len() + form_rows().len() + type_rows().len()
+    let of_orders = word_rows().len() + instruction_rows().len() + order_rows().len();
+    of_orders + entry_rows().len() + type_rows().len() + flow_rows().len()
+}
+
+/// The rows of one part of the table.
+fn part_at(part: usize) -> &'static [Row]
+    requires { part < PARTS }
+    ensures { map plain result.now ≡ get_or parts part [] }
+{
+    match part {
+        0 => word_rows(),
+        1 => instruction_rows(),
+        2 => order_rows(),
+        3 => entry_rows(),
+        4 => type_rows(),
+        _ => flow_rows(),
+    }
 }
 
 /// The row at a place.
@@ -499,13 +555,13 @@ pub fn row_at(place: usize) -> &'static Row
     requires { place < row_count }
     ensures { slice_get rows place ≡ Some (plain result.now) }
 {
-    let (words, forms, types) = (word_rows(), form_rows(), type_rows());
-    let past_words = words.len() + forms.len();
-    if place < words.len() {
-        &words[place]
-    } else if place < past_words {
-        &forms[place - words.len()]
-    } else {
-        &types[place - past_words]
+    let mut left = place;
+    for part in 0..PARTS {
+        let rows = part_at(part);
+        if left < rows.len() {
+            return &rows[left];
+        }
+        left -= rows.len();
     }
+    unreachable!()
 }

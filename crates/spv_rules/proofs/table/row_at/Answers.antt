@@ -1,17 +1,21 @@
-use Rattle.std.proofs.Common.{arith}
-use Rattle.spv_rules.proofs.Rows.{in_words, in_forms, in_types}
+use Rattle.std.proofs.Common.{◌≡◌, arith}
+use Rattle.spv_rules.proofs.Rows.{stands_in_all, stands_here, stands_behind, stands_nowhere}
 use Rattle.spv_rules.proofs.table.row_at.Goals as goal
 
-pub returns-then-place-words : goal.returns-then-place-words
-returns-then-place-words c = in_words c.word_rows-words.result.now c.args.place _ c.word_rows-words.ensures.same c.if-place-words.true
+pub loop-part-init : goal.loop-part-init
+loop-part-init c = stands_in_all c.args.place
 
-pub returns-then-place-past_words : goal.returns-then-place-past_words
-returns-then-place-past_words c =
-    in_forms c.word_rows-words.result.now c.form_rows-forms.result.now c.args.place _ _ c.word_rows-words.ensures.same c.form_rows-forms.ensures.same
-    (omega (arith, c.if-place-words.false)) (omega (arith, c.if-place-words.false, c.if-place-past_words.true))
+pub loop-part-preserved : goal.loop-part-preserved
+loop-part-preserved c =
+    stands_behind c.part_at-rows.result.now c.loop-part.part c.loop-part.left c.args.place
+    c.loop-part-test.true c.part_at-rows.ensures c.loop-part.invariant c.if-left-rows.false
 
-pub returns-else-place-past_words : goal.returns-else-place-past_words
-returns-else-place-past_words c =
-    in_types c.word_rows-words.result.now c.form_rows-forms.result.now c.type_rows-types.result.now c.args.place _ _ c.word_rows-words.ensures.same
-    c.form_rows-forms.ensures.same c.type_rows-types.ensures.same (omega (arith, c.if-place-past_words.false))
-    (omega (arith, c.requires, c.if-place-past_words.false, c.word_rows-words.ensures.long, c.form_rows-forms.ensures.long, c.type_rows-types.ensures.long))
+pub returns-then-left-rows : goal.returns-then-left-rows
+returns-then-left-rows c =
+    stands_here c.part_at-rows.result.now c.loop-part.part c.loop-part.left c.args.place _
+    c.loop-part-test.true c.part_at-rows.ensures c.loop-part.invariant c.if-left-rows.true
+
+pub unreachable-requires : goal.unreachable-requires
+unreachable-requires c =
+    let n : c.loop-part.part ≡ 6 = omega arith in
+    stands_nowhere c.loop-part.left c.args.place c.requires (rw n at c.loop-part.invariant)
