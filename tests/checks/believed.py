@@ -361,7 +361,7 @@ RULES = (
 
 # The tables of the code that definitions name: the crate, the file of its src/, what it is, and where its rows begin.
 TABLES = (
-    ("spv_layout", "rows.rt", "the table of shapes (P1, L1, L2, Y1)", r"\$what! \{\n(.*?)\n *\}"),
+    ("spv_layout", "rows.rt", "the table of shapes (P1, L1, L2, Y1)", r"\$what! \{\n(.*?\n {8}\}\n.*?)\n {8}\}\n"),
     ("spv_ops", "table.rt", "the table of types (Y5)", r"\$what! \{\n(.*?)\n {8}\}\n"),
     ("spv_std_types", "table.rt", "the table of OpenCL.std (Y10)", r"\$what! \{\n(.*?)\n {8}\}\n"),
 )

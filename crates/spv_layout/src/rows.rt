@@ -1,4 +1,5 @@
-ghost use Rattle.std.specs.Prelude.{◌≡◌, ◌≤◌, IfSome, IsTrue, length, option_map, map, slice_get};
+ghost use Rattle.std.specs.Prelude.{◌≡◌, ◌≤◌, ◌+◌, ◌++◌, IfSome, IsTrue, length, option_map, map, slice_get};
+ghost use Rattle.std.specs.Prelude.{take, drop};
 ghost use Rattle.spv_layout.specs.inner.Single.{is_single_row, front_of, are_flagged};
 ghost use Rattle.spv_layout.specs.inner.Row.{listed, plain_row, numbered};
 ghost use Rattle.spv_layout.specs.inner.Test.{HasSorts};
@@ -160,8 +161,7 @@ macro_rules! last {
 /// result, W a literal of one word, N one whose width its type tells, S a text, `kind` a value or mask of the kind
 /// named; an id is t of a type, v of a value, f of a function, s of an OpString, e of an OpExtInstImport, l of a label,
 /// g of a variable outside functions, a in any role, and x one of which nothing is asked, unless the module is opened.
-/// What may come after is of `After`. A line with the word `opencl` belongs to the profile of OpenCL alone; such lines
-/// come behind the others.
+/// What may come after is of `After`. The lines of the profile of OpenCL stand apart, each with the word `opencl`.
 macro_rules! table {
     ($what:ident) => {
         $what! {
@@ -257,6 +257,16 @@ macro_rules! table {
             LIFETIME_START to LIFETIME_STOP: Body [v, W] closed;
             NO_LINE: Line [] closed;
             MODULE_PROCESSED: Processed [S] closed;
+        }
+    };
+}
+
+/// The lines of the table that belong to the profile of OpenCL alone, which come behind the others, and these before
+/// them.
+macro_rules! opencl {
+    ($what:ident $($before:tt)*) => {
+        $what! {
+            $($before)*
             TYPE_IMAGE: Declaration [R, t, kind Dim, W, W, W, W, kind ImageFormat] maybe[kind AccessQualifier] opencl;
             TYPE_SAMPLER: Declaration [R] closed opencl;
             TYPE_SAMPLED_IMAGE: Declaration [R, t] closed opencl;
@@ -389,6 +399,11 @@ macro_rules! lines {
     };
 }
 
+/// The lines of the table, and behind them those of OpenCL, as definitions read them.
+macro_rules! all_lines {
+    ($($own:tt)*) => { opencl!(lines $($own)*) };
+}
+
 /// The rows of the table, as the code reads them.
 macro_rules! rows {
     ($(
@@ -424,10 +439,16 @@ pub type Line = (
 );
 
 /// The table as definitions read it.
-pub static TABLE: [Line; 176] = table!(lines);
+pub static TABLE: [Line; 176] = table!(all_lines);
 
-/// The table as the code reads it.
-static ROWS: [Row; 176] = table!(rows);
+/// The rows but for those of OpenCL, as the code reads them.
+static ROWS: [Row; 92] = table!(rows);
+
+/// The rows of OpenCL.
+static OPENCL_ROWS: [Row; 84] = opencl!(rows);
+
+/// How many rows come before those of OpenCL.
+const OWN: usize = 92;
 
 /// How many rows are found by number. The opcodes of those behind them are higher than all that have a number. Written
 /// by `tests/rows-of-opcodes`.
@@ -458,12 +479,35 @@ static NUMBERS: [u8; 404] = [
     255, 255, 255, 255, 255, 255, 255, 170, 171, 171, 171,
 ];
 
-/// The row that a list of numbers names for an opcode, if it names one.
+/// The row of a number among these, if there is one.
 #[inline(always)]
-fn row_at(numbers: &'static [u8], rows: &'static [Row], opcode: u16) -> Option<&'static Row>
+fn row_of_number(rows: &'static [Row], number: usize) -> Option<&'static Row>
     requires { IsTrue (are_flagged rows.now) }
-    ensures row { option_map (λ r. plain_row r.now) result ≡ numbered (map plain_row rows.now)
-        (slice_get numbers.now opcode) }
+    ensures row { option_map (λ r. plain_row r.now) result ≡ slice_get (map plain_row rows.now) number }
+    ensures section { IfSome result (λ r. r.now.section ≡ section_of r.now.class) }
+    ensures single { IfSome result (λ r. r.now.single ≡ is_single_row (plain_row r.now)) }
+    ensures front { IfSome result (λ r. r.now.front ≡ front_of r.now.fixed.now) }
+    ensures sorts { IfSome result (λ r. HasSorts r.now.sorts r.now.kind r.now.fixed.now) }
+{
+    if number < rows.len() {
+        Some(&rows[number])
+    } else {
+        None
+    }
+}
+
+/// The row that a list of numbers names for an opcode, if it names one, among these rows and others behind them.
+#[inline(always)]
+fn row_at(
+    numbers: &'static [u8],
+    rows: &'static [Row],
+    others: &'static [Row],
+    opcode: u16,
+) -> Option<&'static Row>
+    requires flagged { IsTrue (are_flagged rows.now) }
+    requires others { IsTrue (are_flagged others.now) }
+    ensures row { option_map (λ r. plain_row r.now) result
+        ≡ numbered (map plain_row rows.now ++ map plain_row others.now) (slice_get numbers.now opcode) }
     ensures section { IfSome result (λ r. r.now.section ≡ section_of r.now.class) }
     ensures single { IfSome result (λ r. r.now.single ≡ is_single_row (plain_row r.now)) }
     ensures front { IfSome result (λ r. r.now.front ≡ front_of r.now.fixed.now) }
@@ -473,9 +517,9 @@ fn row_at(numbers: &'static [u8], rows: &'static [Row], opcode: u16) -> Option<&
         Some(number) => {
             let place = usize::from(*number);
             if place < rows.len() {
-                Some(&rows[place])
+                row_of_number(rows, place)
             } else {
-                None
+                row_of_number(others, place - rows.len())
             }
         }
         None => None,
@@ -501,38 +545,51 @@ fn row_among(rows: &'static [Row], opcode: u16) -> Option<&'static Row>
     None
 }
 
-/// The row of an opcode in a table of which the first rows, so many, are found by such a list of numbers.
+/// The row of an opcode in a table of two parts: the first, and so many rows of the other, are found by such a list of
+/// numbers.
 #[inline(always)]
 fn row_listed(
     numbers: &'static [u8],
     rows: &'static [Row],
+    others: &'static [Row],
     numbered: usize,
     opcode: u16,
 ) -> Option<&'static Row>
     requires flagged { IsTrue (are_flagged rows.now) }
-    requires within { numbered ≤ length rows.now }
+    requires others { IsTrue (are_flagged others.now) }
+    requires within { numbered ≤ length others.now }
     ensures row { option_map (λ r. plain_row r.now) result
-        ≡ listed numbers.now (map plain_row rows.now) numbered opcode }
+        ≡ listed numbers.now (map plain_row rows.now ++ map plain_row others.now) (length rows.now + numbered) opcode }
     ensures section { IfSome result (λ r. r.now.section ≡ section_of r.now.class) }
     ensures single { IfSome result (λ r. r.now.single ≡ is_single_row (plain_row r.now)) }
     ensures front { IfSome result (λ r. r.now.front ≡ front_of r.now.fixed.now) }
     ensures sorts { IfSome result (λ r. HasSorts r.now.sorts r.now.kind r.now.fixed.now) }
 {
     if usize::from(opcode) < numbers.len() {
-        row_at(numbers, rows, opcode)
+        row_at(numbers, rows, others, opcode)
     } else {
-        row_among(&rows[numbered..], opcode)
+        row_among(&others[numbered..], opcode)
     }
 }
 
-/// The rows of the table.
+/// The rows but for those of OpenCL.
 #[inline(always)]
-fn all_rows() -> &'static [Row]
-    ensures rows { map plain_row result.now ≡ rows }
+fn own_rows() -> &'static [Row]
+    ensures rows { map plain_row result.now ≡ take OWN rows }
     ensures flagged { IsTrue (are_flagged result.now) }
-    ensures within { NUMBERED ≤ length result.now }
+    ensures count { length result.now ≡ OWN }
 {
     &ROWS
+}
+
+/// The rows of OpenCL, which come behind them.
+#[inline(always)]
+fn opencl_rows() -> &'static [Row]
+    ensures rows { map plain_row result.now ≡ drop OWN rows }
+    ensures flagged { IsTrue (are_flagged result.now) }
+    ensures within { NUMBERED ≤ OWN + length result.now }
+{
+    &OPENCL_ROWS
 }
 
 /// The row of an opcode, and what it says of the sorts of its operands.
@@ -544,7 +601,7 @@ pub fn sorted_row(opcode: u16) -> Option<&'static Row>
     ensures front { IfSome result (λ r. r.now.front ≡ front_of r.now.fixed.now) }
     ensures sorts { IfSome result (λ r. HasSorts r.now.sorts r.now.kind r.now.fixed.now) }
 {
-    row_listed(&NUMBERS, all_rows(), NUMBERED, opcode)
+    row_listed(&NUMBERS, own_rows(), opencl_rows(), NUMBERED - OWN, opcode)
 }
 
 /// The row of an opcode.
