@@ -13,6 +13,7 @@ use Rattle.spv_layout.specs.declared.span.Spans.{Spans}
 use Rattle.spv_layout.specs.Class.{is_among}
 use Rattle.spv_layout.specs.Layout.{classes, seen}
 use Rattle.spv_layout.specs.Place.{IsAt, IsLast, IsWithin, IsOfFunction, IsDefinition, terminators, section_of}
+use Rattle.spv_layout.specs.inner.Pass.{Spanned, SpannedTo, Begun, Defined, Follows, Stands, is_open, is_declaring, is_definition}
 use Rattle.spv_layout.specs.inner.Span.{Span, In, Outside, After, inside, left, UpTo, Before, mark, no_number, at_first, no_spans, entered_in, left_in}
 use Rattle.spv_layout.specs.inner.State.{next_of, is_first}
 use Rattle.spv_layout.proofs.Derivatives.{both_hold}
@@ -27,17 +28,6 @@ marked_is false n f h = cc
 
 mark_is : (n f : ℕ) → mark n ≡ Some f → n ≡ f
 mark_is n f h = marked_is (nat_lt n no_number) n f h
-
--- what is kept of a function or block before an instruction, and up to it
-pub record Spanned (is : List PlainInst) (c : Class) (es : List Class) (n k : ℕ) : Type 0 where
-  pub span : Span
-  pub before : Before is c es n span
-  pub kept : inside span ≡ mark k
-
-pub record SpannedTo (is : List PlainInst) (c : Class) (es : List Class) (n k : ℕ) : Type 0 where
-  pub span : Span
-  pub up_to : UpTo is c es n span
-  pub kept : inside span ≡ mark k
 
 none_spanned : (is : List PlainInst) (c : Class) (es : List Class) → Spanned is c es 0 no_number
 none_spanned is c es = record { span = Outside; before = before_first is c es; kept = refl }
@@ -112,11 +102,6 @@ open_before is c es n k f s e = of_span s.span s.before (s.kept ∙ e) where
   of_span _ (Before.within g l a h j) e = let q : g ≡ f = cc in (rw (← q) l, rw (← q) a)
   of_span _ (Before.after g j l a h m o p) e = cc
 
--- where section 10 begins: at the first OpFunction
-pub record Begun (is : List PlainInst) (n first : ℕ) : Type 0 where
-  pub below : (k : ℕ) → k < n → k < first → ¬ (IsAt is k (Function ∷ []))
-  pub there : (first ≡ no_number) ⊎ ((first < n) × IsAt is first (Function ∷ []))
-
 none_begun : (is : List PlainInst) → Begun is 0 no_number
 none_begun is = record { below = λ k h. absurd (omega arith); there = inl refl }
 
@@ -138,34 +123,6 @@ first_begins is n first false e l a b = elim b.there [
     there = inr (omega arith, p.1);
   }
 ]
-
--- what a state tells of functions: one is open; none of the functions so far is a definition; one is a definition, and its
--- first label is to come
-abbrev pub is_open : State → Bool
-is_open at.Function = true
-is_open at.Definition = true
-is_open at.Variables = true
-is_open at.Phis = true
-is_open at.Body = true
-is_open at.LoopMerge = true
-is_open at.SelectionMerge = true
-is_open at.Block = true
-is_open _ = false
-
-abbrev pub is_declaring : State → Bool
-is_declaring at.Definition = false
-is_declaring at.Defined = false
-is_declaring at.Variables = false
-is_declaring at.Phis = false
-is_declaring at.Body = false
-is_declaring at.LoopMerge = false
-is_declaring at.SelectionMerge = false
-is_declaring at.Block = false
-is_declaring _ = true
-
-abbrev pub is_definition : State → Bool
-is_definition at.Definition = true
-is_definition _ = false
 
 abbrev is_function : Class → Bool
 is_function c = is_among c (Function ∷ [])
@@ -263,14 +220,6 @@ fine_seen Own s Extended t e =
     let f = fine_move s Body t e in
     record { opens = f.opens; declaring = f.declaring; label = f.label; function = f.function; definition = f.definition; early = f.early; late = f.late }
 fine_seen Own s c t e = fine_move s c t e
-
--- which functions are definitions, as far as the labels before instruction n tell
-pub record Defined (is : List PlainInst) (n : ℕ) (s : State) (function definitions : ℕ) : Type 0 where
-  pub labels : (k : ℕ) → k < n → k < definitions → ¬ (IsAt is k (Label ∷ []))
-  pub there : (definitions ≡ no_number) ⊎ ((definitions < n) × IsAt is definitions (Function ∷ []))
-  pub declaring : is_declaring s ≡ true → definitions ≡ no_number
-  pub defined : (f : ℕ) → definitions ≤ f → f < n → IsAt is f (Function ∷ []) → IsDefinition is f ⊎ ((is_definition s ≡ true) × (mark function ≡ Some f))
-  pub current : is_open s ≡ true → (f : ℕ) × (mark function ≡ Some f)
 
 none_defined : (is : List PlainInst) → Defined is 0 at.Capabilities no_number no_number
 none_defined is = record {
@@ -407,13 +356,6 @@ goes_label is n s t x g l m h p a =
     let w = open_is is Function (FunctionEnd ∷ []) n x.function o.0 (enter_function is n Label x l m h p) o.1 in
     goes_label_by (nat_eq x.definitions no_number) is n s t x.function x.definitions o.0 refl g m h (mark_is x.function o.0 o.1) o.1 b.0 b.1 w a
 
--- all that the pass keeps before instruction n
-pub record Follows (is : List PlainInst) (n : ℕ) (s : State) (x : Spans) : Type 0 where
-  pub function : Spanned is Function (FunctionEnd ∷ []) n x.function
-  pub block : Spanned is Label terminators n x.block
-  pub functions : Begun is n x.functions
-  pub definitions : Defined is n s x.function x.definitions
-
 pub none_follows : (is : List PlainInst) → Follows is 0 at.Capabilities no_spans
 none_follows is = record {
   function = none_spanned is Function (FunctionEnd ∷ []);
@@ -443,11 +385,6 @@ begins is n BranchConditional x m h b = begins_not is n x.functions (is_not_at i
 begins is n Switch x m h b = begins_not is n x.functions (is_not_at is n Switch (Function ∷ []) h refl) b
 begins is n Return x m h b = begins_not is n x.functions (is_not_at is n Return (Function ∷ []) h refl) b
 begins is n c x m h b = begins_not is n x.functions (is_not_at is n c (Function ∷ []) h refl) b
-
--- what is kept at instruction n
-pub record Stands (is : List PlainInst) (n : ℕ) (function block : ℕ) : Type 0 where
-  pub of_function : SpannedTo is Function (FunctionEnd ∷ []) n function
-  pub of_block : SpannedTo is Label terminators n block
 
 pub stands_at : (is : List PlainInst) (n : ℕ) (s : State) (c : Class) (x : Spans) → n < length is → n < no_number → slice_get (classes is) n ≡ Some c → Follows is n s x
     → Stands is n (entered_in x c n).function (entered_in x c n).block

@@ -18,8 +18,8 @@ use Rattle.spv_layout.specs.inner.Kept.{early_place, late_place, late_places, la
 use Rattle.spv_layout.specs.inner.Outcome.{ArePlacesOf}
 use Rattle.spv_layout.specs.inner.Span.{no_number}
 use Rattle.spv_layout.proofs.Spans.{at_moved}
-use Rattle.spv_layout.proofs.Following.{Begun}
-use Rattle.spv_layout.proofs.Keeping.{KeptEarly, front_get, back_get, late_get, late_length, function_late, not_early}
+use Rattle.spv_layout.specs.inner.Pass.{Begun, KeptEarly}
+use Rattle.spv_layout.proofs.Keeping.{front_get, back_get, late_get, late_length, function_late, not_early}
 
 -- a section of a class that stands in one alone
 small_by : (b : Bool) (n s : ℕ) → nat_lt n 10 ≡ b → (if b then Some (1 + n) else None) ≡ Some s → s ≤ 10

@@ -23,11 +23,12 @@ use Rattle.spv_layout.specs.Layout.{IsLayout, classes, seen}
 use Rattle.spv_layout.specs.Shape.{FitsShape}
 use Rattle.spv_layout.specs.Place.{IsAt, IsLast, IsWithin, IsDefinition, IsOfSection, terminators, section_of, first_word_of}
 use Rattle.spv_layout.specs.Plan.{IsPlaceOf, IsPlan}
+use Rattle.spv_layout.specs.inner.Pass.{SpannedTo, Begun, Defined, Follows, Stands, Kept, KeptEarly, KeptLate, is_definition}
 use Rattle.spv_layout.specs.inner.Kept.{early_place, late_place, late_places, places_in, early_with, late_with}
 use Rattle.spv_layout.specs.inner.Span.{Span, UpTo, no_number, mark}
 use Rattle.spv_layout.specs.inner.State.{is_first, may_stop, next_of}
 use Rattle.spv_layout.proofs.Spans.{within}
-use Rattle.spv_layout.proofs.Following.{SpannedTo, Begun, Defined, Follows, Stands, Fine, fine_seen, is_definition, implies}
+use Rattle.spv_layout.proofs.Following.{Fine, fine_seen, implies}
 
 -- the class of an instruction of a slice
 pub class_there : (insts : List Inst) (n : ℕ) (i : Inst) → n < length insts → i ≡ get_or insts n i → slice_get (classes (map plain_inst insts)) n ≡ Some (class_of i.opcode)
@@ -41,27 +42,6 @@ pushed [] x zero y e = inr (refl, cc)
 pushed [] x (suc k) y e = cc
 pushed (z ∷ xs) x zero y e = inl e
 pushed (z ∷ xs) x (suc k) y e = elim (pushed xs x k y e) [ inl h ↦ inl h | inr p ↦ inr (ap suc p.0, p.1) ]
-
--- what is kept of instruction n of sections 1 to 8
-pub record KeptEarly (is : List PlainInst) (n : ℕ) (e : Early) : Type 0 where
-  pub class : Class
-  pub there : slice_get (classes is) n ≡ Some class
-  pub section : section_of class ≡ Some e.section
-  pub word : e.word ≡ first_word_of is n
-
--- what is kept of instruction n of a later section
-pub record KeptLate (is : List PlainInst) (n : ℕ) (s : Standing) : Type 0 where
-  pub class : Class
-  pub there : slice_get (classes is) n ≡ Some class
-  pub section : section_of class ≡ None
-  pub stands : Stands is n s.function s.block
-  pub word : s.word ≡ first_word_of is n
-
-pub record Kept (is : List PlainInst) (n : ℕ) (s : State) (early : List Early) (late : List Standing) : Type 0 where
-  pub count : length early + length late ≡ n
-  pub each_early : (k : ℕ) (e : Early) → slice_get early k ≡ Some e → KeptEarly is k e
-  pub each_late : (k : ℕ) (x : Standing) → slice_get late k ≡ Some x → KeptLate is (length early + k) x
-  pub split : (late ≡ []) ⊎ (is_first s ≡ false)
 
 pub none_kept : (is : List PlainInst) (s : State) (early : List Early) (late : List Standing) → early ≡ [] → late ≡ [] → Kept is 0 s early late
 none_kept is s early late e l = record {

@@ -16,7 +16,7 @@ use Rattle.spv_layout.specs.inner.Kept.{AreSectioned, IsUnsectioned}
 use Rattle.spv_layout.specs.inner.Span.{entered_in, left_in}
 use Rattle.spv_layout.specs.inner.State.{is_first, next_of}
 use Rattle.spv_layout.proofs.Following.{implies, fine_seen}
-use Rattle.spv_layout.proofs.Keeping.{Kept}
+use Rattle.spv_layout.specs.inner.Pass.{Kept}
 
 pub none_sectioned : (is : List PlainInst) → AreSectioned is 0
 none_sectioned is = record { each = λ k c l h. absurd (omega (arith, l)) }

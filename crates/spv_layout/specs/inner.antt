@@ -10,3 +10,4 @@ pub mod Shape
 pub mod Layout
 pub mod Outcome
 pub mod Unkinded
+pub mod Pass

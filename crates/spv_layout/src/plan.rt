@@ -1,5 +1,5 @@
 ghost use Rattle.std.specs.Prelude.{◌≡◌, ◌≤◌, ◌<◌, ◌∷◌, [], ℕ, List, length, map, slice_get, IfOk};
-ghost use Rattle.std.specs.Prelude.{IfErr, IfSome, IfNone, Some};
+ghost use Rattle.std.specs.Prelude.{◌+◌, IfErr, IfSome, IfNone, Some, vec_len, vec_capacity};
 ghost use Rattle.spv_words.specs.Header.{greatest_length};
 ghost use Rattle.spv_module.specs.Module.{plain_inst, plain_insts};
 ghost use Rattle.spv_module.specs.Operand.{PlainInst};
@@ -12,8 +12,11 @@ ghost use Rattle.spv_layout.specs.DeadPlace.{IsDeadPlace};
 ghost use Rattle.spv_layout.specs.Profile.{FitsProfile};
 ghost use Rattle.spv_layout.specs.Place.{AreFew, IsAt, IsShort, first_word_of};
 ghost use Rattle.spv_layout.specs.declared.class.Class.TheVariants.{Function};
+ghost use Rattle.spv_layout.specs.declared.place.Early.{Early as EarlyKept};
 ghost use Rattle.spv_layout.specs.inner.Kept.{AreSectioned, IsUnsectioned};
 ghost use Rattle.spv_layout.specs.inner.Outcome.{ArePlacesOf, IsStopAt};
+ghost use Rattle.spv_layout.specs.inner.Pass.{IsReached, Kept};
+ghost use Rattle.spv_layout.specs.inner.Span.{no_spans};
 ghost use Rattle.spv_layout.specs.Plan.{IsPlan, IsLaidOut, IsRefusal};
 
 use crate::fitting::fitting;
@@ -186,22 +189,37 @@ fn count_early(insts: &[Inst<'_>]) -> usize
     insts.len()
 }
 
-/// Lays instructions out, in one pass.
-#[inline(never)]
-fn plan_of(
-    alloc: Global,
+/// What a pass over instructions has come to.
+#[derive(Clone, Copy)]
+pub struct Reached {
+    /// The state of the automaton of the layout after those before.
+    pub state: State,
+    /// What they leave open.
+    pub spans: Spans,
+    /// The number of the next one's first word.
+    pub word: u32,
+}
+
+/// Lays out the instructions of sections 1 to 8, which stand first.
+#[inline(always)]
+fn lay_early(
     profile: Profile,
     kinds: &Kinds<'_>,
     insts: &[Inst<'_>],
-) -> Result<Plan, Stop>
+    count: usize,
+    early: &mut Vec<Early>,
+) -> Result<Reached, Stop>
     requires words { IsShort (map plain_inst insts.now) }
-    ensures plan { IfOk result (λ p. IsPlan kinds.now (map plain_inst insts.now) p) }
-    ensures laid_out { IfOk result (λ p. IsLaidOut profile kinds.now (map plain_inst insts.now)) }
+    requires within { count ≤ length insts.now }
+    requires early { AreSectioned (map plain_inst insts.now) count }
+    requires none { early.now.items ≡ [] }
+    requires size { vec_len early.now ≡ 0 }
+    requires room { count ≤ vec_capacity early.now }
+    ensures reached { IfOk result (λ r. IsReached profile kinds.now insts.now count r) }
+    ensures spans { IfOk result (λ r. r.spans ≡ no_spans) }
+    ensures kept { IfOk result (λ r. Kept (map plain_inst insts.now) count r.state early.new.items []) }
     ensures refused { IfErr result (λ s. IsRefusal profile kinds.now (map plain_inst insts.now) s) }
 {
-    let count = count_early(insts);
-    let mut early = Vec::with_capacity(alloc, count)?;
-    let mut late = Vec::with_capacity(alloc, insts.len() - count)?;
     let mut state = State::Capabilities;
     let mut word = 5;
     for i in 0..count {
@@ -218,7 +236,39 @@ fn plan_of(
         }
         word += words_of(inst, row);
     }
-    let mut spans = Spans::new();
+    Ok(Reached {
+        state,
+        spans: Spans::new(),
+        word,
+    })
+}
+
+/// Lays out the instructions from a number on, where those before are all of sections 1 to 8, but for none of them.
+#[inline(always)]
+fn lay_late(
+    profile: Profile,
+    kinds: &Kinds<'_>,
+    insts: &[Inst<'_>],
+    count: usize,
+    begun: Reached,
+    late: &mut Vec<Standing>,
+) -> Result<Reached, Stop>
+    requires words { IsShort (map plain_inst insts.now) }
+    requires within { count ≤ length insts.now }
+    requires late { IsUnsectioned (map plain_inst insts.now) count }
+    requires begun { IsReached profile kinds.now insts.now count begun }
+    requires none { late.now.items ≡ [] }
+    requires size { vec_len late.now ≡ 0 }
+    requires room { length insts.now ≤ count + vec_capacity late.now }
+    ensures reached { IfOk result (λ r. IsReached profile kinds.now insts.now (length insts.now) r) }
+    ensures kept { IfOk result (λ r. (early : List EarlyKept)
+        → Kept (map plain_inst insts.now) count begun.state early []
+        → Kept (map plain_inst insts.now) (length insts.now) r.state early late.new.items) }
+    ensures refused { IfErr result (λ s. IsRefusal profile kinds.now (map plain_inst insts.now) s) }
+{
+    let mut state = begun.state;
+    let mut spans = begun.spans;
+    let mut word = begun.word;
     for at in count..insts.len() {
         let inst = &insts[at];
         let Some(row) = fitting(profile, kinds, inst) else {
@@ -237,14 +287,35 @@ fn plan_of(
         spans.leave(row.class);
         word += words_of(inst, row);
     }
-    if !stops(state) {
-        return Err(refused(profile, kinds, insts, Rule::L2, insts.len(), word));
+    Ok(Reached { state, spans, word })
+}
+
+/// Lays instructions out, in one pass.
+#[inline(never)]
+fn plan_of(
+    alloc: Global,
+    profile: Profile,
+    kinds: &Kinds<'_>,
+    insts: &[Inst<'_>],
+) -> Result<Plan, Stop>
+    requires words { IsShort (map plain_inst insts.now) }
+    ensures plan { IfOk result (λ p. IsPlan kinds.now (map plain_inst insts.now) p) }
+    ensures laid_out { IfOk result (λ p. IsLaidOut profile kinds.now (map plain_inst insts.now)) }
+    ensures refused { IfErr result (λ s. IsRefusal profile kinds.now (map plain_inst insts.now) s) }
+{
+    let count = count_early(insts);
+    let mut early = Vec::with_capacity(alloc, count)?;
+    let mut late = Vec::with_capacity(alloc, insts.len() - count)?;
+    let begun = lay_early(profile, kinds, insts, count, &mut early)?;
+    let reached = lay_late(profile, kinds, insts, count, begun, &mut late)?;
+    if !stops(reached.state) {
+        return Err(refused(profile, kinds, insts, Rule::L2, insts.len(), reached.word));
     }
     Ok(Plan {
         early,
         late,
-        functions: spans.functions,
-        definitions: spans.definitions,
+        functions: reached.spans.functions,
+        definitions: reached.spans.definitions,
     })
 }
 

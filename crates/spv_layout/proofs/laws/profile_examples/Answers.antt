@@ -13,7 +13,8 @@ use Rattle.spv_layout.specs.Layout.{IsLayout, seen_classes}
 use Rattle.spv_layout.specs.DeadPlace.{IsDeadPlace}
 use Rattle.spv_layout.specs.Broken.{Broken}
 use Rattle.spv_layout.specs.Example.{bare, image_read, extended_between, extended_within}
-use Rattle.spv_layout.proofs.Layouts.{Leads, leads_end}
+use Rattle.spv_layout.specs.inner.Pass.{Leads}
+use Rattle.spv_layout.proofs.Layouts.{leads_end}
 use Rattle.spv_layout.proofs.Dead.{after_inst, dead_inst}
 use Rattle.spv_layout.proofs.Tested.{tested_fits}
 use Rattle.spv_layout.proofs.Worked.{leads_by}
