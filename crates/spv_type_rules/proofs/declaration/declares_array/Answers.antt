@@ -17,3 +17,9 @@ returns-in_default c = too_few c.args.definitions.now c.args.operands.now (omega
 
 pub returns-in_default-5 : goal.returns-in_default-5
 returns-in_default-5 c = too_many c.args.definitions.now c.args.operands.now (omega arith)
+
+pub returns-then-is_data : goal.returns-then-is_data
+returns-then-is_data c = grind (arith, common_steps)
+
+pub returns-else-is_data : goal.returns-else-is_data
+returns-else-is_data c = grind (arith, common_steps)

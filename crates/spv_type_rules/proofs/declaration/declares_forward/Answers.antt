@@ -13,3 +13,6 @@ returns-in_default-3 c = grind (arith, common_steps)
 
 pub returns-in_default-4 : goal.returns-in_default-4
 returns-in_default-4 c = grind (arith, common_steps)
+
+pub returns-in-Id : goal.returns-in-Id
+returns-in-Id c = grind (arith, common_steps)

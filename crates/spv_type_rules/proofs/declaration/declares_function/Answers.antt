@@ -10,3 +10,6 @@ returns-in_default-2 c = grind (arith, common_steps)
 
 pub returns-in_default-3 : goal.returns-in_default-3
 returns-in_default-3 c = grind (arith, common_steps)
+
+pub returns-then-is_returned : goal.returns-then-is_returned
+returns-then-is_returned c = grind (arith, common_steps)

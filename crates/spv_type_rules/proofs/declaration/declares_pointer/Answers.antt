@@ -16,3 +16,6 @@ returns-in_default-4 c = grind (arith, common_steps)
 
 pub returns-in_default-5 : goal.returns-in_default-5
 returns-in_default-5 c = grind (arith, common_steps)
+
+pub returns-in-Result : goal.returns-in-Result
+returns-in-Result c = grind (arith, common_steps)

@@ -22,3 +22,6 @@ returns-in_default-4 c = grind (arith, common_steps)
 
 pub returns-in_default-5 : goal.returns-in_default-5
 returns-in_default-5 c = grind (arith, common_steps)
+
+pub returns-in-Some-Scalar : goal.returns-in-Some-Scalar
+returns-in-Some-Scalar c = grind (arith, common_steps)

@@ -1,3 +1,4 @@
+use Rattle.std.proofs.lemmas.Grind.{common_steps}
 use Rattle.std.proofs.Common.{◌≡◌, ◌<◌, ◌+◌, ◌∷◌, ◌∙◌, false, sym, ap, map, drop, length, arith, nat_eq}
 use Rattle.std.specs.Prelude.{◌||◌}
 use Rattle.spv_module.specs.declared.opcode.TheConstants as opcode
@@ -36,3 +37,9 @@ loop-inst-preserved c =
             (plain_inst x) rest c.loop-inst.count all e w.if-inst-eq-FUNCTION_PARAMETER.false at);
       }
     ]
+
+pub returns-then-ends_parameters : goal.returns-then-ends_parameters
+returns-then-ends_parameters c = grind (arith, common_steps)
+
+pub returns : goal.returns
+returns c = grind (arith, common_steps)

@@ -1,4 +1,5 @@
-use Rattle.std.proofs.Common.{rules, ◌≡◌, true, get_or}
+use Rattle.std.proofs.lemmas.Grind.{common_steps}
+use Rattle.std.proofs.Common.{rules, ◌≡◌, true, get_or, arith}
 use Rattle.spv_module.specs.declared.operand.Operand.TheVariants as code
 use Rattle.spv_module.specs.Operand.{OfType, Id}
 use Rattle.spv_module.specs.Module.{plain_operand}
@@ -18,3 +19,12 @@ returns-in-OfType-2 c =
     accessed_played c.args.definitions.now a.first a.others a.masked c.are_type_and-in-OfType-2.result os d
     c.in-OfType-2.t c.in-OfType-2.a c.in-OfType-2.len_at_least c.in-OfType-2.len_below
     p0 p1 p2 p3 p4 c.are_type_and-in-OfType-2.ensures
+
+pub returns-in-OfType : goal.returns-in-OfType
+returns-in-OfType c = grind (arith, common_steps)
+
+pub returns-in-OfType-4 : goal.returns-in-OfType-4
+returns-in-OfType-4 c = grind (arith, common_steps)
+
+pub returns-in-OfType-3 : goal.returns-in-OfType-3
+returns-in-OfType-3 c = grind (arith, common_steps)

@@ -1,4 +1,5 @@
-use Rattle.std.proofs.Common.{rules, ◌≡◌, true, get_or}
+use Rattle.std.proofs.lemmas.Grind.{common_steps}
+use Rattle.std.proofs.Common.{rules, ◌≡◌, true, get_or, arith}
 use Rattle.spv_module.specs.declared.operand.Operand.TheVariants as code
 use Rattle.spv_module.specs.Operand.{OfType, Id}
 use Rattle.spv_module.specs.Module.{plain_operand}
@@ -18,3 +19,15 @@ returns-in-OfType-3 c =
     accessed_played c.args.definitions.now role.Value role.Value role.Any c.are_type_and-in-OfType-3.result os d
     c.in-OfType-3.t c.in-OfType-3.a c.in-OfType-3.len_at_least c.in-OfType-3.len_below
     p0 p1 p2 p3 p4 c.are_type_and-in-OfType-3.ensures
+
+pub returns-in-OfType-2 : goal.returns-in-OfType-2
+returns-in-OfType-2 c = grind (arith, common_steps)
+
+pub returns-then-defines_type : goal.returns-then-defines_type
+returns-then-defines_type c = grind (arith, common_steps)
+
+pub returns-else-defines_type : goal.returns-else-defines_type
+returns-else-defines_type c = grind (arith, common_steps)
+
+pub returns-in-Id : goal.returns-in-Id
+returns-in-Id c = grind (arith, common_steps)

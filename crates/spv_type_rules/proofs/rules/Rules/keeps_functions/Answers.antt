@@ -1,4 +1,5 @@
-use Rattle.std.proofs.Common.{◌≡◌, ◌+◌, sym, ap, map, drop, ◌∙◌}
+use Rattle.std.proofs.lemmas.Grind.{elements}
+use Rattle.std.proofs.Common.{◌≡◌, ◌+◌, sym, ap, map, drop, ◌∙◌, arith}
 use Rattle.std.proofs.lemmas.List.{drop-map, take_rest}
 use Rattle.std.proofs.lemmas.Option.{slice_get_within}
 use Rattle.spv_module.specs.Module.{plain_inst}
@@ -18,3 +19,9 @@ is_sound_function-requires c =
 pub is_sound_parameter-requires-clause-number : goal.is_sound_parameter-requires-clause-number
 is_sound_parameter-requires-clause-number c =
     slice_get_within c.args.self.now.definitions c.args.number (plain_inst c.args.inst.now) c.requires.inst
+
+pub slice_bounds-rest-count : goal.slice_bounds-rest-count
+slice_bounds-rest-count c = grind (arith, elements)
+
+pub slice_bounds-rest-start : goal.slice_bounds-rest-start
+slice_bounds-rest-start c = grind (arith, elements)
