@@ -101,7 +101,14 @@ typedef enum spvk_code {
     SPVK_E1 = 801, SPVK_E2 = 802,
     SPVK_F1 = 901, SPVK_F2 = 902, SPVK_F3 = 903, SPVK_F4 = 904,
     SPVK_A1 = 1001, SPVK_A2 = 1002,
-    SPVK_G1 = 1101
+    SPVK_G1 = 1101,
+    /* with SPVK_OPENCL alone; the hundred before is that of texts */
+    SPVK_O1 = 1301, SPVK_O2 = 1302, SPVK_O3 = 1303, SPVK_O4 = 1304,
+    SPVK_O5 = 1305, SPVK_O6 = 1306, SPVK_O7 = 1307, SPVK_O8 = 1308,
+    SPVK_O9 = 1309, SPVK_O10 = 1310, SPVK_O11 = 1311, SPVK_O12 = 1312,
+    SPVK_O13 = 1313, SPVK_O14 = 1314, SPVK_O15 = 1315, SPVK_O16 = 1316,
+    SPVK_O17 = 1317, SPVK_O18 = 1318, SPVK_O19 = 1319, SPVK_O20 = 1320,
+    SPVK_O21 = 1321, SPVK_O22 = 1322, SPVK_O23 = 1323
 } spvk_code;
 
 /** Why a text was not assembled. */

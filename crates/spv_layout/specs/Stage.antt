@@ -44,3 +44,7 @@ of_extended = 9
 -- which types instructions of OpenCL.std take and return: Y10
 abbrev pub of_std_types : ℕ
 of_std_types = 10
+
+-- what the standard asks of a kernel of OpenCL besides: O
+abbrev pub of_standard : ℕ
+of_standard = 11

@@ -3,9 +3,17 @@ ghost use Rattle.std.specs.Prelude.{◌≡◌};
 use std::alloc::{AllocError, AllocFailed};
 
 /// A rule of the profile, by its code: I of single instructions, P of the profile, L of layout, D of ids, Y, C, M and E
+<<<<<<< ours
+/// of types and declarations, F and A of flow, G of calls, and O of what the standard asks of a kernel of OpenCL
+/// besides, which is asked only where a module is looked at as one. They stand in the order in which they are told: by
+/// stage, and within a stage at one instruction. The numbers in brackets are sections of the Khronos SPIR-V
+/// Specification 1.6, and names are those of instructions in it.
+#[derive(Clone, Copy, Debug, PartialEq, Eq)]
+=======
 /// of types and declarations, F and A of flow, G of calls. They stand in the order in which they are told: by stage,
 /// and within a stage at one instruction. The numbers in brackets are sections of the Khronos SPIR-V Specification 1.6.
 #[derive(Clone, Copy, PartialEq, Eq)]
+>>>>>>> theirs
 pub enum Rule {
     /// The first word of an instruction tells a count of 0 words. (2.3)
     I1,
@@ -93,6 +101,52 @@ pub enum Rule {
     /// The types that an instruction of OpenCL.std takes or returns. It is asked only where a module is looked at as a
     /// kernel of OpenCL.
     Y10,
+    /// The order of a definition's blocks. (2.16.1)
+    O1,
+    /// A use of a local value before its definition, in a block that no walk reaches. (2.16.1)
+    O2,
+    /// Two entry points of one execution model and one name. (OpEntryPoint)
+    O3,
+    /// The interface of an entry point. (OpEntryPoint)
+    O4,
+    /// An execution mode of OpExecutionMode that takes an id. (OpExecutionMode)
+    O5,
+    /// A member that is named or decorated. (OpMemberName, OpMemberDecorate)
+    O6,
+    /// A decoration on what it may not decorate. (3.20)
+    O7,
+    /// Restrict and Aliased of one id. (2.18.2)
+    O8,
+    /// The linkage of an entry point's function. (2.16.1)
+    O9,
+    /// An initializer of a variable that takes none. (3.7, 2.16.1)
+    O10,
+    /// BuiltIn on members of a struct. (2.16.1)
+    O11,
+    /// A forward pointer to what is no struct. (OpTypeForwardPointer)
+    O12,
+    /// An int of 8 bits, or a memory model, against the capabilities. (2.16.1, 3.31)
+    O13,
+    /// A scope, or memory semantics. (3.25, 3.27)
+    O14,
+    /// The width of what an atomic works on. (2.16.1)
+    O15,
+    /// A write to a storage class that is read alone. (3.7)
+    O16,
+    /// A copy of nothing. (OpCopyMemorySized)
+    O17,
+    /// A loop control, or the weights of a branch. (3.23, OpBranchConditional)
+    O18,
+    /// The literals of OpSwitch. (OpSwitch)
+    O19,
+    /// OpReturnValue of what is no value. (OpReturnValue)
+    O20,
+    /// What the version of the header does not have. (3, OpExtension)
+    O21,
+    /// A universal limit. (2.17)
+    O22,
+    /// Where a sampled image is made. (OpSampledImage)
+    O23,
 }
 
 /// The first broken rule of a module, and where.

@@ -79,7 +79,7 @@ all_parts : joined parts ≡ rows
 unfolding parts rows
 all_parts = refl
 
-count_parts : length parts ≡ 6
+count_parts : length parts ≡ 7
 unfolding parts
 count_parts = refl
 
@@ -90,10 +90,10 @@ StandsIn part left place = slice_get (joined (drop part parts)) left ≡ slice_g
 pub stands_in_all : (place : ℕ) → StandsIn 0 place place
 stands_in_all place = ap (λ rs. slice_get rs place) all_parts
 
-parts_from : (part : ℕ) → part < 6 → joined (drop part parts) ≡ get_or parts part [] ++ joined (drop (part + 1) parts)
+parts_from : (part : ℕ) → part < 7 → joined (drop part parts) ≡ get_or parts part [] ++ joined (drop (part + 1) parts)
 parts_from part l = ap joined (drop_more parts part [] (omega (arith, l, count_parts)))
 
-pub stands_here : (rs : List Held) (part left place : ℕ) (d : Held) → part < 6 → map plain rs ≡ get_or parts part []
+pub stands_here : (rs : List Held) (part left place : ℕ) (d : Held) → part < 7 → map plain rs ≡ get_or parts part []
     → StandsIn part left place → left < length rs → slice_get rows place ≡ Some (plain (get_or rs left d))
 stands_here rs part left place d l e h t =
     let n = length-map rs plain in
@@ -104,7 +104,7 @@ stands_here rs part left place d l e h t =
     ∙ before p (joined (drop (part + 1) parts)) left (omega (arith, n, m, t))
     ∙ there ∙ ap (option_map plain) (slice_get-get_or rs left d t)
 
-pub stands_behind : (rs : List Held) (part left place : ℕ) → part < 6 → map plain rs ≡ get_or parts part []
+pub stands_behind : (rs : List Held) (part left place : ℕ) → part < 7 → map plain rs ≡ get_or parts part []
     → StandsIn part left place → length rs ≤ left → StandsIn (part + 1) (left - length rs) place
 stands_behind rs part left place l e h t =
     let n = length-map rs plain in
@@ -115,15 +115,15 @@ stands_behind rs part left place l e h t =
     let whole = ap (λ zs. slice_get zs left) (parts_from part l) ∙ ap (slice_get (p ++ more)) k in
     sym (whole ∙ behind p more (left - length rs)) ∙ h
 
-none_left : joined (drop 6 parts) ≡ []
+none_left : joined (drop 7 parts) ≡ []
 unfolding parts
 none_left = refl
 
-pub stands_nowhere : (left place : ℕ) → place < row_count → StandsIn 6 left place → ⊥
+pub stands_nowhere : (left place : ℕ) → place < row_count → StandsIn 7 left place → ⊥
 stands_nowhere left place l h =
     let none : Text = record { now = [] } in
     let other : Row = (Word W1, 0, none, none, none, none, none) in
-    let past : slice_get (joined (drop 6 parts)) left ≡ None = rw none_left (slice_get_past [] left (omega arith)) in
+    let past : slice_get (joined (drop 7 parts)) left ≡ None = rw none_left (slice_get_past [] left (omega arith)) in
     let there = slice_get-get_or rows place other (omega (arith, how_many, l)) in
     cc
 

@@ -21,8 +21,8 @@ code_text w = codes "W" ++ ((49 + tag_of word.the_type w) ∷ [])
 -- The rules whose code begins a run of codes: of each its letter and its number. The rules that come after it, up to
 -- the next of these, have the same letter and the numbers that follow. From the last of them to the first. [own]
 abbrev pub beginnings : List (AnyRule × List ℕ × ℕ)
-beginnings = (rule.Y9, codes "Y", 9) ∷ (rule.G1, codes "G", 1) ∷ (rule.A1, codes "A", 1) ∷ (rule.F1, codes "F", 1)
-    ∷ (rule.Y2, codes "Y", 2) ∷ (rule.E1, codes "E", 1) ∷ (rule.M1, codes "M", 1) ∷ (rule.C1, codes "C", 1)
+beginnings = (rule.O1, codes "O", 1) ∷ (rule.Y9, codes "Y", 9) ∷ (rule.G1, codes "G", 1) ∷ (rule.A1, codes "A", 1)
+    ∷ (rule.F1, codes "F", 1) ∷ (rule.Y2, codes "Y", 2) ∷ (rule.E1, codes "E", 1) ∷ (rule.M1, codes "M", 1) ∷ (rule.C1, codes "C", 1)
     ∷ (rule.Y1, codes "Y", 1) ∷ (rule.D1, codes "D", 1) ∷ (rule.L1, codes "L", 1) ∷ (rule.P1, codes "P", 1)
     ∷ (rule.I1, codes "I", 1) ∷ []
 
@@ -55,9 +55,9 @@ name_of (Rule r) = rule_text r
 abbrev pub IsNamed : List ℕ → List ℕ → Type 0
 IsNamed text name = map to_ascii_lowercase text ≡ map to_ascii_lowercase name
 
--- the letters of names, in the order in which C numbers them
+-- the letters of names, in the order in which C numbers them; S is that of texts
 abbrev pub letters : List ℕ
-letters = codes "WIPLDYCMEFAG"
+letters = codes "WIPLDYCMEFAGSO"
 
 -- a number that begins with the digits of n, and goes on with these
 abbrev pub value_from : ℕ → List ℕ → ℕ

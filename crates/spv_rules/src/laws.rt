@@ -1,7 +1,7 @@
 //! Laws of the definitions, and worked examples. A function here does nothing: its contract is what is proved.
 
 ghost use Rattle.std.specs.Prelude.{◌≡◌, ◌≢◌, ◌++◌, ℕ, List, codes};
-ghost use Rattle.spv_module.specs.declared.fault.Rule.TheVariants.{I1, I12, Y1, Y2, F1, G1, Y9, Y10};
+ghost use Rattle.spv_module.specs.declared.fault.Rule.TheVariants.{I1, I12, Y1, Y2, F1, G1, Y9, Y10, O1, O23};
 ghost use Rattle.spv_words.specs.declared.words.WordError.TheVariants.{W5};
 ghost use Rattle.spv_rules.specs.Codes.{code_line, indented};
 ghost use Rattle.spv_rules.specs.Errors.{any_meaning, any_section, any_sentence};
@@ -21,11 +21,14 @@ pub fn code_examples()
     ensures not_the_letter { rule_text F1 ≢ codes "A1" }
     ensures calls { rule_text G1 ≡ codes "G1" }
     ensures extended { rule_text Y9 ≡ codes "Y9" }
-    ensures last { rule_text Y10 ≡ codes "Y10" }
+    ensures of_types { rule_text Y10 ≡ codes "Y10" }
+    ensures standard { rule_text O1 ≡ codes "O1" }
+    ensures last { rule_text O23 ≡ codes "O23" }
     ensures two { two_digits 40 ≡ codes "40" }
     ensures not_one { two_digits 40 ≢ codes "4" }
     // In C each letter has its hundred.
     ensures number { number_in (codes "I12") ≡ 112 }
+    ensures past_texts { number_in (codes "O23") ≡ 1323 }
     ensures other_number { number_in (codes "P1") ≢ 101 }
     ensures small { IsNamed (codes "i12") (codes "I12") }
     ensures not_small { ¬ (IsNamed (codes "i1") (codes "I12")) }

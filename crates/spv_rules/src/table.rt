@@ -3,7 +3,7 @@ ghost use Rattle.std.specs.Prelude.{◌≡◌, ◌<◌, [], Some, get_or, length
 ghost use Rattle.spv_rules.specs.Table.{row_count, rows};
 ghost use Rattle.spv_rules.specs.inner.Held.{parts, plain};
 ghost use Rattle.spv_rules.specs.declared.table.TheConstants.{WORD_ROWS, INSTRUCTION_ROWS, ORDER_ROWS, PARTS};
-ghost use Rattle.spv_rules.specs.declared.table.TheConstants.{ENTRY_ROWS, TYPE_ROWS, FLOW_ROWS};
+ghost use Rattle.spv_rules.specs.declared.table.TheConstants.{ENTRY_ROWS, TYPE_ROWS, FLOW_ROWS, STANDARD_ROWS};
 
 use crate::rules::Code;
 use spv_module::Rule;
@@ -53,7 +53,7 @@ macro_rules! rule {
 }
 
 /// How many parts the table has, each a static of its own: what has to be proved of one grows faster than it.
-const PARTS: usize = 6;
+const PARTS: usize = 7;
 
 /// The codes on words, in the order of the variants.
 pub static WORD_ROWS: &[Row] = &[
@@ -479,6 +479,195 @@ pub static FLOW_ROWS: &[Row] = &[
     ),
 ];
 
+/// The rules on what the standard asks of a kernel of OpenCL besides. They are checked only with `--opencl`.
+pub static STANDARD_ROWS: &[Row] = &[
+    rule!(
+        O1,
+        1301,
+        "A block stands behind the block that dominates it nearest.",
+        "2.2.5, 2.16.1",
+        "OpLabel: some walk ends there, and a block of the same definition that stands higher is on every walk that \
+        ends there"
+    ),
+    rule!(
+        O2,
+        1302,
+        "A local value is defined before an instruction that uses it, but for OpPhi.",
+        "2.16.1",
+        "an instruction of a block, other than OpPhi: it uses a local value that is the result of no lower \
+        instruction"
+    ),
+    rule!(
+        O3,
+        1303,
+        "No two entry points have the same execution model and the same name.",
+        "3.49.5",
+        "OpEntryPoint: a lower OpEntryPoint has the same execution model and the same name"
+    ),
+    rule!(
+        O4,
+        1304,
+        "The interface of an entry point has the variables that its call tree uses: from 1.4 on all of section 9, \
+        each once; before, those of Input and Output alone.",
+        "3.49.5",
+        "OpEntryPoint: from 1.4 on, an id is twice in its interface, or a variable of section 9 is not there that a \
+        definition uses to which a chain of calls leads from its function; before 1.4, a variable in it is of \
+        another storage class than Input (1) and Output (3), or one of these classes is not there that is used so"
+    ),
+    rule!(
+        O5,
+        1305,
+        "OpExecutionMode has no operand that is an id.",
+        "3.49.5",
+        "OpExecutionMode: an operand behind its mode is an id"
+    ),
+    rule!(
+        O6,
+        1306,
+        "What names or decorates a member names one that its struct has.",
+        "3.49.2, 3.49.3",
+        "OpMemberName, OpMemberDecorate, OpMemberDecorateString: the target is no OpTypeStruct, or the number is not \
+        below that struct's number of members"
+    ),
+    rule!(
+        O7,
+        1307,
+        "A decoration stands on what it may decorate, and OpDecorate takes no ids: docs/PROFILE.md, 'Decorations'.",
+        "3.20, 3.49.3",
+        "an instruction by which an id or a member has a decoration: an operand of OpDecorate behind its decoration \
+        is an id; or an id has a decoration of the table that does not stand on such ids; or a member has one of \
+        those that never stand on members"
+    ),
+    rule!(
+        O8,
+        1308,
+        "No id is decorated both Restrict and Aliased.",
+        "2.18.2",
+        "an instruction by which an id has Restrict (19) or Aliased (20), where it has the other by another one: of \
+        the least instruction by which it has the one and the least by which it has the other, the greater"
+    ),
+    rule!(
+        O9,
+        1309,
+        "The function of an entry point has no linkage.",
+        "2.16.1",
+        "an instruction by which the function of an OpEntryPoint has LinkageAttributes (41)"
+    ),
+    rule!(
+        O10,
+        1310,
+        "A variable with an initializer is neither of the storage class Input nor imported.",
+        "2.16.1, 3.7",
+        "OpVariable with an initializer: its storage class is Input (1), or it has LinkageAttributes (41) with the \
+        LinkageType Import (1)"
+    ),
+    rule!(
+        O11,
+        1311,
+        "Of a struct's members all have BuiltIn or none, and a struct with such members is no member.",
+        "2.16.1",
+        "OpTypeStruct: one of its members has BuiltIn (11) and another has not, or a member's type is an \
+        OpTypeStruct with a member that has BuiltIn"
+    ),
+    rule!(
+        O12,
+        1312,
+        "A forward pointer is one to a struct.",
+        "3.49.6",
+        "OpTypeForwardPointer: the pointer type that it names points to what is no OpTypeStruct"
+    ),
+    rule!(
+        O13,
+        1313,
+        "Ints of 8 bits are declared by a capability, and the Vulkan memory model is not.",
+        "2.16.1, 3.31",
+        "OpTypeInt of 8 bits: none of Int8 (39), StorageBuffer8BitAccess (4448), UniformAndStorageBuffer8BitAccess \
+        (4449) and StoragePushConstant8 (4450) is implied\nOpMemoryModel: VulkanMemoryModel (5345) is implied"
+    ),
+    rule!(
+        O14,
+        1314,
+        "Scopes and memory semantics are ones that the instruction takes: docs/PROFILE.md, 'Scopes and semantics'.",
+        "3.25, 3.27, 3.49.18, 3.49.20",
+        "an instruction with a scope or memory semantics, where that operand is a constant: the scope is over 4, or \
+        of a group instruction neither Workgroup (2) nor Subgroup (3); the semantics have two orders, or a bit that \
+        no kernel has, or of OpAtomicCompareExchange and OpAtomicFlagClear an order that does not go there"
+    ),
+    rule!(
+        O15,
+        1315,
+        "An atomic works on numbers of a width that atomics take.",
+        "2.16.1, 3.31",
+        "opcodes 227 to 242: the type pointed to is int of width 8 or 16; or int of width 64, and Int64Atomics (12) \
+        is not implied; or float of width 16, and neither AtomicFloat16MinMaxEXT (5616) nor AtomicFloat16AddEXT \
+        (6095) is"
+    ),
+    rule!(
+        O16,
+        1316,
+        "Nothing is written to the storage classes UniformConstant and Input.",
+        "2.16.1, 3.7",
+        "OpStore, OpCopyMemory, OpCopyMemorySized, an atomic: the storage class of its pointer is UniformConstant \
+        (0) or Input (1)"
+    ),
+    rule!(
+        O17,
+        1317,
+        "The size of a copy is not the constant 0.",
+        "3.49.8",
+        "OpCopyMemorySized: its size is a constant of an int type with the value 0"
+    ),
+    rule!(
+        O18,
+        1318,
+        "The bits of a loop control go together, and the weights of a branch have a sum from 1 to 4,294,967,295.",
+        "3.23, 3.49.17",
+        "OpLoopMerge: its control has Unroll (1) with DontUnroll (2), DontUnroll with PeelCount (128) or \
+        PartialCount (256), DependencyInfinite (4) with DependencyLength (8), or IterationMultiple (64) with the \
+        number 0\nOpBranchConditional with two weights: their sum is 0 or over 4,294,967,295"
+    ),
+    rule!(
+        O19,
+        1319,
+        "The literals of a switch are different, and each fits the width of the selector's type.",
+        "2.2.1, 3.49.17",
+        "OpSwitch: two of its literals are equal, or one has a bit from the width of the selector's type up"
+    ),
+    rule!(
+        O20,
+        1320,
+        "A value that is returned is of no void type.",
+        "2.2.2, 3.49.17",
+        "OpReturnValue: the type of its value is OpTypeVoid"
+    ),
+    rule!(
+        O21,
+        1321,
+        "What a module uses came with its version or before, or by an extension that it declares: docs/PROFILE.md, \
+        'The version of the header'.",
+        "3, 3.49.4; own",
+        "any instruction: its opcode, or a value or a set bit among its operands, came with a later version than \
+        that of the header, or with none, and no OpExtension of the module names an extension that has it; or it \
+        has a form that came with a later version"
+    ),
+    rule!(
+        O22,
+        1322,
+        "No universal limit is passed: docs/PROFILE.md, 'Limits'.",
+        "2.17",
+        "any instruction: by it a number of the table of limits is passed, as the members of a struct, the depth of \
+        structs, the parameters of a function type, the indexes of an access, the pairs of a switch or the \
+        variables of the module"
+    ),
+    rule!(
+        O23,
+        1323,
+        "A sampled image is made in the block that uses it, by OpSampledImage.",
+        "3.49.10",
+        "opcodes 88, 100: the definition of the first value operand is no OpSampledImage, or one of another block"
+    ),
+];
+
 /// The rows of the codes on words.
 fn word_rows() -> &'static [Row]
     ensures same { map plain result.now ≡ WORD_ROWS.now }
@@ -527,12 +716,20 @@ fn flow_rows() -> &'static [Row]
     FLOW_ROWS
 }
 
+/// The rows of the rules on what the standard asks besides.
+fn standard_rows() -> &'static [Row]
+    ensures same { map plain result.now ≡ STANDARD_ROWS.now }
+    ensures long { length result.now ≡ length STANDARD_ROWS.now }
+{
+    STANDARD_ROWS
+}
+
 /// How many rows there are.
 pub fn count() -> usize
     ensures { result ≡ row_count }
 {
     let of_orders = word_rows().len() + instruction_rows().len() + order_rows().len();
-    of_orders + entry_rows().len() + type_rows().len() + flow_rows().len()
+    of_orders + entry_rows().len() + type_rows().len() + flow_rows().len() + standard_rows().len()
 }
 
 /// The rows of one part of the table.
@@ -546,7 +743,8 @@ fn part_at(part: usize) -> &'static [Row]
         2 => order_rows(),
         3 => entry_rows(),
         4 => type_rows(),
-        _ => flow_rows(),
+        5 => flow_rows(),
+        _ => standard_rows(),
     }
 }
 

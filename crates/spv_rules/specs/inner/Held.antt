@@ -5,7 +5,7 @@ use Rattle.spv_rules.specs.declared.errors.ErrorCode.{ErrorCode}
 use Rattle.spv_rules.specs.declared.rules.Code.{Code}
 use Rattle.spv_rules.specs.Errors.{ErrorRow}
 use Rattle.spv_rules.specs.declared.table.TheConstants.{WORD_ROWS, INSTRUCTION_ROWS, ORDER_ROWS}
-use Rattle.spv_rules.specs.declared.table.TheConstants.{ENTRY_ROWS, TYPE_ROWS, FLOW_ROWS}
+use Rattle.spv_rules.specs.declared.table.TheConstants.{ENTRY_ROWS, TYPE_ROWS, FLOW_ROWS, STANDARD_ROWS}
 use Rattle.spv_rules.specs.Table.{Row, Text}
 
 -- a row with references to its texts
@@ -27,4 +27,5 @@ plain_error row = (row.0, text_of row.1, text_of row.2, text_of row.3, text_of r
 
 -- the table, in parts
 unfoldable pub parts : List (List Row)
-parts = WORD_ROWS.now ∷ INSTRUCTION_ROWS.now ∷ ORDER_ROWS.now ∷ ENTRY_ROWS.now ∷ TYPE_ROWS.now ∷ FLOW_ROWS.now ∷ []
+parts = WORD_ROWS.now ∷ INSTRUCTION_ROWS.now ∷ ORDER_ROWS.now ∷ ENTRY_ROWS.now ∷ TYPE_ROWS.now ∷ FLOW_ROWS.now
+    ∷ STANDARD_ROWS.now ∷ []

@@ -22,6 +22,10 @@ pub returns-in-4 : goal.returns-in-4
 unfolding parts
 returns-in-4 c = rw c.in-4.is c.type_rows.ensures.same
 
+pub returns-in-5 : goal.returns-in-5
+unfolding parts
+returns-in-5 c = rw c.in-5.is c.flow_rows.ensures.same
+
 pub returns-in_default : goal.returns-in_default
 unfolding parts
-returns-in_default c = let e : c.args.part ≡ 5 = omega arith in rw e c.flow_rows.ensures.same
+returns-in_default c = let e : c.args.part ≡ 6 = omega arith in rw e c.standard_rows.ensures.same

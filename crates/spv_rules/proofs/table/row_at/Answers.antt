@@ -17,5 +17,5 @@ returns-then-left-rows c =
 
 pub unreachable-requires : goal.unreachable-requires
 unreachable-requires c =
-    let n : c.loop-part.part ≡ 6 = omega arith in
+    let n : c.loop-part.part ≡ 7 = omega arith in
     stands_nowhere c.loop-part.left c.args.place c.requires (rw n at c.loop-part.invariant)

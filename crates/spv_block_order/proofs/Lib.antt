@@ -1,0 +1,6 @@
+mod Bridging
+mod Telling
+mod Using
+mod Joining
+mod Coding
+mod Worked

@@ -1,0 +1,4 @@
+pub mod Early
+pub mod Broken
+pub mod Example
+pub mod inner

@@ -1,0 +1,3 @@
+-- Definitions that serve the code alone.
+pub mod First
+pub mod Uses

@@ -1,0 +1,120 @@
+//! The first block that stands before one that dominates it.
+
+ghost use Rattle.std.specs.Prelude.{◌≡◌, ◌≤◌, IfOk, OnOk, length};
+ghost use Rattle.spv_table.specs.Table.{Table};
+ghost use Rattle.spv_layout.specs.Place.{AreFew};
+ghost use Rattle.spv_flow.specs.walks.inner.Code.{insts_of, IsCode};
+ghost use Rattle.spv_flow.specs.walks.inner.Leading.{AreBlocks};
+ghost use Rattle.spv_flow.specs.walks.inner.Starts.{IsExtent};
+ghost use Rattle.spv_block_order.specs.inner.First.{IsFirstIn, IsFirstBlock};
+
+use spv_flow::walks::code::Code;
+use spv_flow::walks::divide::{divide, function_extent};
+use spv_flow::walks::edges::{Blocks, build};
+use spv_graph_order::first_early;
+use spv_graphs::Graph;
+use spv_module::opcode::FUNCTION;
+use std::alloc::{AllocError, Global};
+
+/// Lists that are used for one function after the other.
+#[derive(Drop)]
+struct Buffers {
+    /// The first instructions of a function's blocks, and the number of the block that begins at an instruction.
+    starts: Vec<u32>,
+    numbers: Vec<u32>,
+    graph: Graph,
+}
+
+impl Buffers {
+    /// Empty lists, for a module of so many instructions.
+    fn new(alloc: Global, count: usize) -> Result<Buffers, AllocError>
+        ensures { IfOk result (λ b. length b.numbers.items ≡ count) }
+    {
+        Ok(Buffers {
+            starts: Vec::new(alloc),
+            numbers: vec![in alloc; 0u32; count]?,
+            graph: Graph {
+                blocks: Vec::new(alloc),
+                targets: Vec::new(alloc),
+            },
+        })
+    }
+}
+
+/// The OpLabel of the first block of a function that is divided that stands before one that dominates it. `graph` is to
+/// be used; what it holds is of no account.
+fn first_in_blocks(
+    alloc: Global,
+    code: &Code<'_, '_>,
+    blocks: &Blocks<'_>,
+    graph: &mut Graph,
+) -> Result<Option<u32>, AllocError>
+    requires code { (G : Table) × IsCode G code.now }
+    requires blocks { AreBlocks (insts_of code.now) blocks.now }
+    requires most { AreFew code.now.insts.now }
+    ensures { IfOk result (λ o. (G : Table) → IsCode G code.now
+        → IsFirstIn G (insts_of code.now) blocks.now.function o) }
+{
+    build(code, blocks, graph)?;
+    match first_early(alloc, graph)? {
+        Some(block) => Ok(Some(blocks.starts[block as usize])),
+        None => Ok(None),
+    }
+}
+
+/// The OpLabel of the first block of a function that stands before one that dominates it.
+fn first_in_function(
+    alloc: Global,
+    code: &Code<'_, '_>,
+    function: u32,
+    end: u32,
+    buffers: &mut Buffers,
+) -> Result<Option<u32>, AllocError>
+    requires code { (G : Table) × IsCode G code.now }
+    requires extent { IsExtent (insts_of code.now) function end }
+    requires count { length buffers.old.numbers.items ≡ length code.now.insts.now }
+    requires most { AreFew code.now.insts.now }
+    ensures count { OnOk result (length buffers.new.numbers.items ≡ length code.now.insts.now) }
+    ensures first { IfOk result (λ o. (G : Table) → IsCode G code.now → IsFirstIn G (insts_of code.now) function o) }
+{
+    divide(
+        code,
+        function,
+        end,
+        &mut buffers.starts,
+        &mut buffers.numbers,
+    )?;
+    let blocks = Blocks {
+        function,
+        end,
+        starts: buffers.starts.as_slice(),
+        numbers: buffers.numbers.as_slice(),
+    };
+    first_in_blocks(alloc, code, &blocks, &mut buffers.graph)
+}
+
+/// The OpLabel of the first block that stands before one that dominates it: some walk ends there, and each walk that
+/// does comes by a certain higher block.
+///
+/// An `AllocError` comes only where a growth of memory was refused.
+pub fn first_early_block(alloc: Global, code: &Code<'_, '_>) -> Result<Option<u32>, AllocError>
+    requires code { (G : Table) × IsCode G code.now }
+    requires most { AreFew code.now.insts.now }
+    ensures { IfOk result (λ o. (G : Table) → IsCode G code.now → IsFirstBlock G (insts_of code.now) o) }
+{
+    let mut buffers = Buffers::new(alloc, code.insts.len())?;
+    let count = code.insts.len() as u32;
+    let mut at = code.globals;
+    while at < count {
+        if code.insts[at as usize].opcode == FUNCTION {
+            let end = function_extent(code, at).end;
+            if let Some(inst) = first_in_function(alloc, code, at, end, &mut buffers)? {
+                return Ok(Some(inst));
+            }
+            at = end;
+        } else {
+            at += 1;
+        }
+    }
+    Ok(None)
+}

@@ -1,0 +1,52 @@
+-- The table, by the opcode of an id's definition.
+use Rattle.std.proofs.Common.{◌≡◌, ◌∙◌, ◌↔◌, inl, inr, ℕ, Bool, true, false, sym, subst, List, [], ◌∷◌, Option, Some, None, IsTrue}
+use Rattle.std.specs.Prelude.{IsSomeAnd}
+use Rattle.spv_module.specs.Operand.{PlainInst}
+use Rattle.spv_module.specs.Width.{definition_of}
+use Rattle.spv_declarations.specs.Table.{Line, IsOnSome, StandsOn, is_among, is_listed, lines}
+use Rattle.spv_declarations.specs.inner.Table.{IsOnLine}
+
+on_some : (is : List PlainInst) (ls : List Line) (d x : ℕ) (i : PlainInst) → definition_of is x ≡ Some i
+    → IsOnLine is ls d i.opcode x → IsOnSome is ls d x
+on_some is [] d x i e h = h
+on_some is (l ∷ ls) d x i e (inl h) = inl (
+  h.0,
+  (
+    subst (λ (o : Option PlainInst). IsSomeAnd o (λ (j : PlainInst). IsTrue (is_among l.1.now j.opcode))) (sym e) h.1.0,
+    h.1.1,
+  ),
+)
+on_some is (l ∷ ls) d x i e (inr h) = inr (on_some is ls d x i e h)
+
+on_line : (is : List PlainInst) (ls : List Line) (d x : ℕ) (i : PlainInst) → definition_of is x ≡ Some i
+    → IsOnSome is ls d x → IsOnLine is ls d i.opcode x
+on_line is [] d x i e h = h
+on_line is (l ∷ ls) d x i e (inl h) = inl (
+  h.0,
+  (
+    subst (λ (o : Option PlainInst). IsSomeAnd o (λ (j : PlainInst). IsTrue (is_among l.1.now j.opcode))) e h.1.0,
+    h.1.1,
+  ),
+)
+on_line is (l ∷ ls) d x i e (inr h) = inr (on_line is ls d x i e h)
+
+on_none : (is : List PlainInst) (ls : List Line) (d x : ℕ) → definition_of is x ≡ None → IsOnSome is ls d x → ⊥
+on_none is [] d x e h = h
+on_none is (l ∷ ls) d x e (inl h) = absurd
+    (subst (λ (o : Option PlainInst). IsSomeAnd o (λ (j : PlainInst). IsTrue (is_among l.1.now j.opcode))) e h.1.0)
+on_none is (l ∷ ls) d x e (inr h) = on_none is ls d x e h
+
+-- The decoration is on a line, and the id has a definition, or none.
+pub stands_listed : (is : List PlainInst) (d x : ℕ) (i : PlainInst) (b c : Bool) → b ≡ is_listed lines d → b ≡ true
+    → definition_of is x ≡ Some i → (IsTrue c ↔ IsOnLine is lines d i.opcode x) → IsTrue c ↔ StandsOn is d x
+stands_listed is d x i b c e f at t = (
+  λ y l. on_some is lines d x i at (t.0 y),
+  λ h. t.1 (on_line is lines d x i at (h (sym e ∙ f))),
+)
+
+pub stands_nowhere : (is : List PlainInst) (d x : ℕ) (b : Bool) → b ≡ is_listed lines d → b ≡ true
+    → definition_of is x ≡ None → IsTrue false ↔ StandsOn is d x
+stands_nowhere is d x b e f at = (
+  λ y. let no : false ≡ true = y in absurd (cc),
+  λ h. absurd (on_none is lines d x at (h (sym e ∙ f))),
+)

@@ -1,0 +1,29 @@
+use Rattle.std.proofs.Common.{ℕ, arith}
+use Rattle.spv_module.specs.Operand.{PlainInst}
+use Rattle.spv_declarations.specs.inner.Said.{HasAt, ImportsBy}
+use Rattle.spv_declarations.proofs.Gathered.{gathers_none, gathers_more, gathers_all}
+use Rattle.spv_declarations.proofs.Stated.{has_import_early}
+use Rattle.spv_declarations.proofs.initialized.imported.Goals as goal
+
+pub loop-number-init : goal.loop-number-init
+loop-number-init c =
+    let is = c.args.definitions.now in
+    gathers_none is (λ (i : PlainInst) (x : ℕ). HasAt is (ImportsBy c.args.linkage) x i) c.new-imported.result
+    c.new-imported.ensures.empty
+
+pub add_imported-requires-clause-inst : goal.add_imported-requires-clause-inst
+add_imported-requires-clause-inst c = (c.loop-number.number, c.inst.ensures)
+
+pub loop-number-preserved : goal.loop-number-preserved
+loop-number-preserved c =
+    let is = c.args.definitions.now in
+    gathers_more is (λ (i : PlainInst) (x : ℕ). HasAt is (ImportsBy c.args.linkage) x i) c.loop-number.number _
+    c.loop-number.imported c.add_imported.new.imported c.inst.ensures c.in_ok-add_imported.ensures
+    c.loop-number.invariant
+
+pub returns : goal.returns
+returns c =
+    let is = c.args.definitions.now in
+    gathers_all is (λ (i : PlainInst) (x : ℕ). HasAt is (ImportsBy c.args.linkage) x i) c.args.count
+    c.loop-number.number c.loop-number.imported c.requires.early (λ i x. has_import_early is c.args.linkage x i)
+    (omega arith) c.loop-number.invariant

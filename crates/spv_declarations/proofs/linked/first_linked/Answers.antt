@@ -1,0 +1,26 @@
+use Rattle.std.proofs.Common.{arith}
+use Rattle.spv_declarations.specs.Decorated.{IsLinkedEntry}
+use Rattle.spv_declarations.proofs.Passes.{found_by, more_by, none}
+use Rattle.spv_declarations.proofs.Telling.{linked_tells}
+use Rattle.spv_declarations.proofs.linked.first_linked.Goals as goal
+
+pub links-requires-clause-inst : goal.links-requires-clause-inst
+links-requires-clause-inst c = (c.loop-number.number, c.inst.ensures)
+
+pub returns-then-links : goal.returns-then-links
+returns-then-links c =
+    let is = c.args.definitions.now in
+    found_by (IsLinkedEntry is) c.args.count c.loop-number.number c.links.result c.loop-number-test.true
+    (linked_tells is c.in_ok-entered.entered c.loop-number.number _ c.links.result c.in_ok-entered.ensures
+    c.inst.ensures c.links.ensures) c.if-links.true c.loop-number.invariant
+
+pub loop-number-preserved : goal.loop-number-preserved
+loop-number-preserved c =
+    let is = c.args.definitions.now in
+    more_by (IsLinkedEntry is) c.loop-number.number c.links.result
+    (linked_tells is c.in_ok-entered.entered c.loop-number.number _ c.links.result c.in_ok-entered.ensures
+    c.inst.ensures c.links.ensures) c.if-links.false c.loop-number.invariant
+
+pub returns : goal.returns
+returns c = none c.args.count c.loop-number.number (IsLinkedEntry c.args.definitions.now) (omega arith)
+    c.loop-number.invariant

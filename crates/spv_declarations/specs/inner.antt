@@ -1,0 +1,11 @@
+-- Definitions that serve the code alone.
+pub mod BuiltIn
+pub mod Early
+pub mod First
+pub mod Initialized
+pub mod Misplaced
+pub mod Named
+pub mod Said
+pub mod Second
+pub mod Sets
+pub mod Table

@@ -1,0 +1,99 @@
+//! The first of the rules O3 and O5 to O13 that is broken.
+
+ghost use Rattle.std.specs.Prelude.{◌≡◌, ◌≤◌, ◌∷◌, [], ℕ, IfOk, MatchOption, codes, length, map};
+ghost use Rattle.spv_table.specs.Table.{Table};
+ghost use Rattle.spv_table.specs.Lookups.{number_named};
+ghost use Rattle.spv_module.specs.Module.{plain_inst};
+ghost use Rattle.spv_module.specs.declared.fault.Rule.TheVariants as rule;
+ghost use Rattle.spv_layout.specs.First.{IsFirst, IsUnbroken};
+ghost use Rattle.spv_layout.specs.Place.{AreFew};
+ghost use Rattle.spv_layout.specs.Plan.{IsPlan};
+ghost use Rattle.spv_layout.specs.Stage.{of_standard};
+ghost use Rattle.spv_ids.specs.Outcome.{IsDefinitionOf, definition_in};
+ghost use Rattle.spv_declarations.specs.Broken.{Broken};
+ghost use Rattle.spv_declarations.specs.inner.Early.{AreEarly};
+ghost use Rattle.spv_declarations.specs.inner.First.{IsFirstAmong};
+
+use crate::built_in::first_half_built_in;
+use crate::capable::first_incapable;
+use crate::entry::{first_repeated, first_with_id};
+use crate::found::{Found, earlier};
+use crate::initialized::first_initialized;
+use crate::linked::first_linked;
+use crate::member::first_of_no_member;
+use crate::misplaced::first_misplaced;
+use crate::pointer::first_elsewhere;
+use crate::said::Said;
+use crate::second::first_second;
+use spv_capabilities::Survey;
+use spv_ids::Ids;
+use spv_layout::Plan;
+use spv_module::{Inst, Rule};
+use spv_type_forms::Definitions;
+use std::alloc::{AllocError, Global};
+
+/// The first of the rules O6 to O11 that is broken by the first `count` instructions, or what was found before of O3
+/// and O5, if that is told first.
+fn first_decorated(
+    alloc: Global,
+    definitions: &Definitions,
+    linkage: Option<u32>,
+    count: u32,
+    before: Option<Found>,
+) -> Result<Option<Found>, AllocError>
+    requires count { count ≤ length definitions.now }
+    requires early { AreEarly definitions.now count }
+    ensures { (G : Table) → linkage ≡ number_named G (codes "LinkageType")
+        → IsFirstAmong G definitions.now (rule.O5 ∷ rule.O3 ∷ []) before
+        → IfOk result (IsFirstAmong G definitions.now
+        (rule.O11 ∷ rule.O10 ∷ rule.O9 ∷ rule.O8 ∷ rule.O7 ∷ rule.O6 ∷ rule.O5 ∷ rule.O3 ∷ [])) }
+{
+    let said = Said::gather(alloc, definitions, linkage, count)?;
+    let of_no_member = first_of_no_member(definitions, count);
+    let misplaced = first_misplaced(alloc, definitions, &said, count)?;
+    let second = first_second(alloc, definitions, &said, count)?;
+    let linked = first_linked(alloc, definitions, &said, count)?;
+    let initialized = first_initialized(alloc, definitions, linkage, &said, count)?;
+    let half = first_half_built_in(alloc, definitions, &said, count)?;
+    let found = earlier(before, Rule::O6, of_no_member);
+    let found = earlier(found, Rule::O7, misplaced);
+    let found = earlier(found, Rule::O8, second);
+    let found = earlier(found, Rule::O9, linked);
+    let found = earlier(found, Rule::O10, initialized);
+    Ok(earlier(found, Rule::O11, half))
+}
+
+/// The first of the rules O3 and O5 to O13 that is broken in a module: the lowest instruction at which one is, and
+/// there the first of them. `survey` is of the module, and `plan` and `ids` are what `lay_out` and `number` answered of
+/// it.
+///
+/// Each rule has a pass over the sections before the functions. Time is near-linear in the words of these sections. An
+/// `AllocError` comes only where a growth of memory was refused.
+pub fn first_misdeclared(
+    alloc: Global,
+    survey: &Survey<'_, '_>,
+    insts: &[Inst<'_>],
+    plan: &Plan,
+    ids: &Ids,
+) -> Result<Option<Found>, AllocError>
+    requires few { AreFew insts.now }
+    requires plan { IsPlan survey.now.table (map plain_inst insts.now) plan.now }
+    requires ids { (x : ℕ) → IsDefinitionOf (map plain_inst insts.now) x (definition_in ids.now x) }
+    requires survey { survey.now.insts ≡ map plain_inst insts.now }
+    ensures { IfOk result (λ found. MatchOption found
+        (IsUnbroken (Broken survey.now.table survey.now.insts) of_standard)
+        (λ f. IsFirst (Broken survey.now.table survey.now.insts) of_standard f.rule f.inst)) }
+{
+    let definitions = Definitions::new(insts, plan, ids);
+    let count = plan.before_functions();
+    let linkage = survey.table().kind_named("LinkageType");
+    let repeated = first_repeated(alloc, &definitions, count)?;
+    let with_id = first_with_id(&definitions, count);
+    let found = earlier(None, Rule::O3, repeated);
+    let found = earlier(found, Rule::O5, with_id);
+    let decorated = first_decorated(alloc, &definitions, linkage, count, found)?;
+    let elsewhere = first_elsewhere(&definitions, count);
+    let incapable = first_incapable(survey, count);
+    let found = earlier(decorated, Rule::O12, elsewhere);
+    Ok(earlier(found, Rule::O13, incapable))
+}

@@ -1,0 +1,111 @@
+//! Whether a decoration may stand on an id.
+
+ghost use Rattle.std.specs.Prelude.{◌≡◌, ◌↔◌, IsTrue, map};
+ghost use Rattle.spv_declarations.specs.Table as spec;
+ghost use Rattle.spv_declarations.specs.declared.table.Further.TheVariants as further;
+ghost use Rattle.spv_declarations.specs.inner.Said.{IsKnown};
+ghost use Rattle.spv_declarations.specs.inner.Table as inner;
+
+use crate::table::{Further, Line, NEVER_ON_MEMBERS, TABLE, is_among, is_opcode_among};
+use spv_type_forms::{Definitions, Form, Sort, has_sort};
+
+/// Whether the type of an id is a pointer type.
+fn is_pointer(definitions: &Definitions, x: u32) -> bool
+    ensures { IsTrue result ↔ spec.IsAsked definitions.now further.Pointer x }
+{
+    let Some(t) = definitions.type_of(x) else {
+        return false;
+    };
+    match definitions.form(t) {
+        Some(Form::Pointer { .. }) => true,
+        _ => false,
+    }
+}
+
+/// Whether the type of an id is an int type or a vector of ints.
+fn has_ints(definitions: &Definitions, x: u32) -> bool
+    ensures { IsTrue result ↔ spec.IsAsked definitions.now further.Ints x }
+{
+    match definitions.type_of(x) {
+        Some(t) => has_sort(definitions, Sort::Int, t),
+        None => false,
+    }
+}
+
+/// Whether an id is what a line asks besides its opcode.
+fn is_asked(definitions: &Definitions, further: Further, x: u32) -> bool
+    ensures { IsTrue result ↔ spec.IsAsked definitions.now further x }
+{
+    match further {
+        Further::Nothing => true,
+        Further::Pointer => is_pointer(definitions, x),
+        Further::Global => definitions.is_global(x),
+        Further::Ints => has_ints(definitions, x),
+    }
+}
+
+/// Whether an id whose definition has that opcode is such a one as a line says.
+fn is_such(definitions: &Definitions, line: &Line, opcode: u16, x: u32) -> bool
+    ensures { IsTrue result ↔ inner.IsOfLine definitions.now (inner.line line.now) opcode x }
+{
+    is_opcode_among(line.1, opcode) && is_asked(definitions, line.2, x)
+}
+
+/// Whether a decoration is on one of some lines.
+fn is_listed_in(lines: &[Line], d: u32) -> bool
+    ensures { result ≡ spec.is_listed (map inner.line lines.now) d }
+{
+    for line in lines {
+        if is_among(line.0, d) {
+            return true;
+        }
+    }
+    false
+}
+
+/// Whether a decoration is on some line.
+fn is_listed(d: u32) -> bool
+    ensures { result ≡ spec.is_listed spec.lines d }
+{
+    is_listed_in(&TABLE, d)
+}
+
+/// Whether a decoration is never one of members.
+pub fn is_never_on_members(d: u32) -> bool
+    ensures { IsTrue result ↔ spec.IsNeverOnMembers d }
+{
+    is_among(NEVER_ON_MEMBERS, d)
+}
+
+/// Whether a decoration is on some line, or is never one of members.
+pub fn is_known(d: u32) -> bool
+    ensures { IsTrue result ↔ IsKnown d }
+{
+    is_listed(d) || is_never_on_members(d)
+}
+
+/// Whether an id, whose definition has that opcode, is such a one as one of some lines says that the decoration is on.
+fn is_on_some(definitions: &Definitions, lines: &[Line], d: u32, opcode: u16, x: u32) -> bool
+    ensures { IsTrue result ↔ inner.IsOnLine definitions.now (map inner.line lines.now) d opcode x }
+{
+    for line in lines {
+        if is_among(line.0, d) && is_such(definitions, line, opcode, x) {
+            return true;
+        }
+    }
+    false
+}
+
+/// Whether a decoration may stand on an id (SPIR-V Specification 1.6, section 3.20): it is on no line of table T, or
+/// the id is such a one as one of its lines says. It takes no memory.
+pub fn stands_on(definitions: &Definitions, d: u32, x: u32) -> bool
+    ensures { IsTrue result ↔ spec.StandsOn definitions.now d x }
+{
+    if !is_listed(d) {
+        return true;
+    }
+    match definitions.definition(x) {
+        Some(inst) => is_on_some(definitions, &TABLE, d, inst.opcode, x),
+        None => false,
+    }
+}

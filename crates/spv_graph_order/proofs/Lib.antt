@@ -1,0 +1,10 @@
+mod Paths
+mod Low
+mod Places
+mod Avoiding
+mod Forests
+mod Uppers
+mod Growing
+mod Settled
+mod Searching
+mod Worked

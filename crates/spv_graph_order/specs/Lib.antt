@@ -1,0 +1,3 @@
+pub mod Order
+pub mod Example
+pub mod inner

@@ -1,0 +1,6 @@
+pub mod Valued
+pub mod Misscopes
+pub mod Images
+pub mod Firsts
+pub mod Literals
+pub mod Worked

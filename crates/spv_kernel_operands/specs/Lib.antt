@@ -1,0 +1,10 @@
+pub mod Value
+pub mod Seats
+pub mod Scopes
+pub mod Pointers
+pub mod Control
+pub mod Switch
+pub mod Objects
+pub mod Broken
+pub mod Example
+pub mod inner

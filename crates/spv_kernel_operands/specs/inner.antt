@@ -1,0 +1,5 @@
+-- Definitions that serve the code alone.
+pub mod First
+pub mod Seats
+pub mod Scopes
+pub mod Switch

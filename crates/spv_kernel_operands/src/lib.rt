@@ -1,0 +1,16 @@
+//! What the standard asks of the operands of single instructions besides: O14 to O20, and O23 (SPIR-V Specification
+//! 1.6, sections 2.16.1, 3.7, 3.23, 3.25, 3.27, and the entries of the instructions).
+#![tactic(auto)]
+
+mod check;
+mod control;
+pub mod laws;
+mod objects;
+mod pointers;
+mod scopes;
+mod seats;
+mod switch;
+mod value;
+
+pub use check::{Found, check_operands, first_found};
+pub use seats::{scopes_of, semantics_of};

@@ -1,0 +1,7 @@
+pub mod Importing
+pub mod Deep
+pub mod Deepest
+pub mod Modes
+pub mod Passing
+pub mod Locals
+pub mod Worked

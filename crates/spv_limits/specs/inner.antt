@@ -1,0 +1,5 @@
+-- Definitions that serve the code alone.
+pub mod First
+pub mod Kept
+pub mod Alone
+pub mod Counting

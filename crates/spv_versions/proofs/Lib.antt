@@ -1,0 +1,7 @@
+pub mod Listed
+pub mod Declaring
+pub mod Telling
+pub mod Numbering
+pub mod Lateness
+pub mod Shaping
+pub mod Worked

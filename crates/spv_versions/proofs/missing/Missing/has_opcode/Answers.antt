@@ -1,0 +1,16 @@
+use Rattle.std.proofs.Common.{◌↔◌, ℕ, IsTrue, subst, arith}
+use Rattle.std.proofs.lemmas.Bool.{false≢true}
+use Rattle.spv_versions.specs.declared.table.Kind.TheVariants as kind
+use Rattle.spv_versions.specs.Table.{lines}
+use Rattle.spv_versions.specs.inner.Lines.{IsListed}
+use Rattle.spv_versions.proofs.missing.Missing.has_opcode.Goals as goal
+
+pub returns-then-number-self : goal.returns-then-number-self
+returns-then-number-self c = (
+  λ t. absurd (false≢true t),
+  λ h. let least = c.requires c.args.number h in absurd (omega (arith, least)),
+)
+
+pub returns : goal.returns
+returns c = subst (λ (n : ℕ). IsTrue c.has.result ↔ IsListed lines c.args.self.now.lines kind.Opcode n)
+    c.from-number.ensures c.has.ensures
