@@ -216,7 +216,7 @@ all_ordered cs l =
     (lines_ordered l.back (later_ordered (filter is_no_line l.back) l.later)))
 
 -- the class of an instruction
-class_at : (is : List PlainInst) (n : ℕ) (i : PlainInst) → slice_get is n ≡ Some i
+pub class_at : (is : List PlainInst) (n : ℕ) (i : PlainInst) → slice_get is n ≡ Some i
     → slice_get (classes is) n ≡ Some (class_of i.opcode)
 class_at is n i at =
     slice_get-map (λ (j : PlainInst). class_of j.opcode) is n ∙ ap (option_map (λ (j : PlainInst). class_of j.opcode)) at
@@ -258,7 +258,7 @@ not_other : (c : Class) → is_among c (class.Function ∷ []) ≡ true → is_o
 not_other c a = rw a refl
 
 -- none of the classes stands at an OpFunction, or behind one
-never_behind : (is : List PlainInst) (m n : ℕ) (i : PlainInst) → IsLayout (classes is)
+pub never_behind : (is : List PlainInst) (m n : ℕ) (i : PlainInst) → IsLayout (classes is)
     → IsAt is m (class.Function ∷ []) → m ≤ n → slice_get is n ≡ Some i → is_early i.opcode ≡ true → ⊥
 never_behind is m n i l a le at e =
     let f = is_function is m a in

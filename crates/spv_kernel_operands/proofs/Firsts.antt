@@ -138,14 +138,14 @@ pub first_nowhere : (G : Table) (is : List PlainInst) (n : ℕ) (i : PlainInst) 
     → IsFirstOf (IsBrokenBy G is i) None → ¬ (IsMadeElsewhere is n) → IsFirstAt G is n None
 first_nowhere G is n i there none not = none_at G is n i there none not
 
-broken_there : (G : Table) (is : List PlainInst) (r : Rule) (n : ℕ) → Broken G is r n → n < length is
+pub broken_there : (G : Table) (is : List PlainInst) (r : Rule) (n : ℕ) → Broken G is r n → n < length is
 broken_there G is _ _ (Broken.operands r n i t b) = slice_get_within is n i t
 broken_there G is _ _ (Broken.elsewhere n e) = slice_get_within is n e.inst e.there
 
 pub found_there : (G : Table) (is : List PlainInst) (f : Found) → IsFirstFound G is (Some f) → f.inst < length is
 found_there G is f h = broken_there G is f.rule f.inst h.0.0
 
-stage_by : (G : Table) (is : List PlainInst) (r : Rule) (n : ℕ) → Broken G is r n → stage_of r ≡ of_standard
+pub stage_by : (G : Table) (is : List PlainInst) (r : Rule) (n : ℕ) → Broken G is r n → stage_of r ≡ of_standard
 stage_by G is _ _ (Broken.operands r n i t b) = by_rule G is i (λ q. stage_of q ≡ of_standard) (λ _. refl) (λ _. refl)
     (λ _. refl) (λ _. refl) (λ _. refl) (λ _. refl) (λ _. refl) r b
 stage_by G is _ _ (Broken.elsewhere n e) = refl
@@ -161,7 +161,7 @@ least_by G is r n before here q m b = elim (cases_order n m) [
   ]
 ]
 
-first_found : (G : Table) (is : List PlainInst) (f : Found) → IsFirstFound G is (Some f)
+pub first_found : (G : Table) (is : List PlainInst) (f : Found) → IsFirstFound G is (Some f)
     → IsFirst (Broken G is) of_standard f.rule f.inst
 first_found G is f h = record {
   of_stage = stage_by G is f.rule f.inst h.0.0;

@@ -1,0 +1,150 @@
+-- The first broken rule of stage O, by what each crate answers; and what is told of it.
+use Rattle.std.proofs.Common.{◌≡◌, ◌⊎◌, ◌<◌, ◌≤◌, ◌∙◌, ℕ, List, Option, Some, None, inl, inr, length, refl, sym, ap, subst, arith}
+use Rattle.std.specs.Prelude.{slice_get}
+use Rattle.std.proofs.lemmas.Bool.{cases_order}
+use Rattle.spv_table.specs.Table.{Table}
+use Rattle.spv_module.specs.Operand.{PlainInst}
+use Rattle.spv_module.specs.declared.fault.Rule.{Rule}
+use Rattle.spv_module.specs.declared.fault.Rule.TheVariants.{O21, O22}
+use Rattle.spv_module.specs.declared.fault.Stop.{Stop}
+use Rattle.spv_module.specs.declared.fault.Stop.TheVariants.{Fault, Memory}
+use Rattle.spv_extended.specs.declared.reach.Reach.TheVariants.{OpenCl}
+use Rattle.spv_layout.specs.First.{IsFirst, rank_of, stage_of}
+use Rattle.spv_layout.specs.Place.{first_word_of}
+use Rattle.spv_layout.specs.Stage.{of_standard}
+use Rattle.spv_layout.specs.inner.Outcome.{IsStopAt}
+use Rattle.spv_block_order.specs.Broken as order
+use Rattle.spv_declarations.specs.Broken as declarations
+use Rattle.spv_kernel_operands.specs.Broken as operands
+use Rattle.spv_versions.specs.Broken as versions
+use Rattle.spv_versions.specs.Missing.{IsLateAt}
+use Rattle.spv_versions.specs.inner.First as late_first
+use Rattle.spv_limits.specs.Broken as limits
+use Rattle.spv_limits.specs.Past.{IsPast}
+use Rattle.spv_limits.specs.inner.First as past_first
+use Rattle.spv_standard.specs.Broken.{Broken, KernelBroken, IsRefusal}
+use Rattle.spv_standard.specs.declared.found.Found.{Found}
+use Rattle.spv_standard.specs.inner.Earlier.{IsEarlier}
+use Rattle.spv_standard.specs.inner.First.{Either, IsFirstIn}
+use Rattle.spv_standard.specs.inner.Found.{found_by}
+use Rattle.spv_standard.proofs.Earlier.{earlier_first, first_same}
+
+-- The rules of two crates, of three, of four and of all, in the order in which the answers are put together.
+abbrev Two : Table → List PlainInst → Rule → ℕ → Type 0
+Two G is = Either (order.Broken G is) (declarations.Broken G is)
+
+abbrev Three : Table → List PlainInst → Rule → ℕ → Type 0
+Three G is = Either (Two G is) (operands.Broken G is)
+
+abbrev Four : Table → ℕ → List PlainInst → Rule → ℕ → Type 0
+Four G minor is = Either (Three G is) (versions.Broken G minor is)
+
+abbrev All : Table → ℕ → List PlainInst → Rule → ℕ → Type 0
+All G minor is = Either (Four G minor is) (limits.Broken is)
+
+to_all : (G : Table) (minor : ℕ) (is : List PlainInst) (r : Rule) (n : ℕ) → All G minor is r n
+    → KernelBroken G minor is r n
+to_all G minor is r n (inl (inl (inl (inl b)))) = KernelBroken.of_order r n b
+to_all G minor is r n (inl (inl (inl (inr b)))) = KernelBroken.of_declarations r n b
+to_all G minor is r n (inl (inl (inr b))) = KernelBroken.of_operands r n b
+to_all G minor is r n (inl (inr b)) = KernelBroken.of_versions r n b
+to_all G minor is r n (inr b) = KernelBroken.of_limits r n b
+
+of_all : (G : Table) (minor : ℕ) (is : List PlainInst) (r : Rule) (n : ℕ) → KernelBroken G minor is r n
+    → All G minor is r n
+of_all G minor is _ _ (KernelBroken.of_order r n b) = inl (inl (inl (inl b)))
+of_all G minor is _ _ (KernelBroken.of_declarations r n b) = inl (inl (inl (inr b)))
+of_all G minor is _ _ (KernelBroken.of_operands r n b) = inl (inl (inr b))
+of_all G minor is _ _ (KernelBroken.of_versions r n b) = inl (inr b)
+of_all G minor is _ _ (KernelBroken.of_limits r n b) = inr b
+
+-- what each crate answers, put together
+pub record AreAnswers (G : Table) (minor : ℕ) (is : List PlainInst) (result : Option Found) : Type 0 where
+  pub order : Option Found
+  pub declarations : Option Found
+  pub operands : Option Found
+  pub version : Option Found
+  pub limits : Option Found
+  pub two : Option Found
+  pub three : Option Found
+  pub four : Option Found
+  pub in_order : IsFirstIn (order.Broken G is) order
+  pub in_declarations : IsFirstIn (declarations.Broken G is) declarations
+  pub in_operands : IsFirstIn (operands.Broken G is) operands
+  pub in_version : IsFirstIn (versions.Broken G minor is) version
+  pub in_limits : IsFirstIn (limits.Broken is) limits
+  pub of_two : IsEarlier order declarations two
+  pub of_three : IsEarlier two operands three
+  pub of_four : IsEarlier three version four
+  pub of_all : IsEarlier four limits result
+
+pub joined : (G : Table) (minor : ℕ) (is : List PlainInst) (result : Option Found) → AreAnswers G minor is result
+    → IsFirstIn (KernelBroken G minor is) result
+joined G minor is result a =
+    let two = earlier_first (order.Broken G is) (declarations.Broken G is) a.order a.declarations a.two
+    a.in_order a.in_declarations a.of_two in
+    let three = earlier_first (Two G is) (operands.Broken G is) a.two a.operands a.three two a.in_operands a.of_three in
+    let four = earlier_first (Three G is) (versions.Broken G minor is) a.three a.version a.four three a.in_version
+    a.of_four in
+    let all = earlier_first (Four G minor is) (limits.Broken is) a.four a.limits result four a.in_limits a.of_all in
+    first_same (All G minor is) (KernelBroken G minor is) result (to_all G minor is) (of_all G minor is) all
+
+-- the crates with one rule
+abbrev OneBroken : Rule → (ℕ → Type 0) → Rule → ℕ → Type 0
+OneBroken r P q n = (q ≡ r) × P n
+
+one_first : (r : Rule) (P : ℕ → Type 0) (o : Option ℕ) → stage_of r ≡ of_standard → late_first.IsFirstOf P o
+    → IsFirstIn (OneBroken r P) (found_by r o)
+one_first r P None s none = λ q n t b. none n b.1
+one_first r P (Some n) s first = record {
+  of_stage = s;
+  broken = (refl, first.0);
+  least = λ q m t b. elim (cases_order n m) [
+    | inl same ↦ inr (same, let e : rank_of q ≡ rank_of r = ap rank_of b.0 in omega (arith, e))
+    | inr apart ↦ elim apart [ inl less ↦ inl less | inr more ↦ absurd (first.1 m more b.1) ]
+  ];
+}
+
+to_late : (G : Table) (minor : ℕ) (is : List PlainInst) (q : Rule) (n : ℕ) → OneBroken O21 (IsLateAt G minor is) q n
+    → versions.Broken G minor is q n
+to_late G minor is q n b =
+    subst (λ (r : Rule). versions.Broken G minor is r n) (sym b.0) (versions.late n b.1)
+
+of_late : (G : Table) (minor : ℕ) (is : List PlainInst) (q : Rule) (n : ℕ) → versions.Broken G minor is q n
+    → OneBroken O21 (IsLateAt G minor is) q n
+of_late G minor is _ _ (versions.late n h) = (refl, h)
+
+pub version_first : (G : Table) (minor : ℕ) (is : List PlainInst) (o : Option ℕ)
+    → late_first.IsFirstOf (IsLateAt G minor is) o → IsFirstIn (versions.Broken G minor is) (found_by O21 o)
+version_first G minor is o h =
+    first_same (OneBroken O21 (IsLateAt G minor is)) (versions.Broken G minor is) (found_by O21 o)
+    (to_late G minor is) (of_late G minor is) (one_first O21 (IsLateAt G minor is) o refl h)
+
+to_past : (is : List PlainInst) (q : Rule) (n : ℕ) → OneBroken O22 (IsPast is) q n → limits.Broken is q n
+to_past is q n b = subst (λ (r : Rule). limits.Broken is r n) (sym b.0) (limits.past n b.1)
+
+of_past : (is : List PlainInst) (q : Rule) (n : ℕ) → limits.Broken is q n → OneBroken O22 (IsPast is) q n
+of_past is _ _ (limits.past n h) = (refl, h)
+
+pub limits_first : (is : List PlainInst) (o : Option ℕ) → past_first.IsFirstOf (IsPast is) o
+    → IsFirstIn (limits.Broken is) (found_by O22 o)
+limits_first is o h =
+    first_same (OneBroken O22 (IsPast is)) (limits.Broken is) (found_by O22 o) (to_past is) (of_past is)
+    (one_first O22 (IsPast is) o refl h)
+
+-- what is told
+stage_by : (G : Table) (minor : ℕ) (is : List PlainInst) (o : Option Found) → o ≡ None
+    → IsFirstIn (KernelBroken G minor is) o → (r : Rule) (n : ℕ) → stage_of r ≡ of_standard
+    → ¬ (KernelBroken G minor is r n)
+stage_by G minor is o e h = subst (λ (x : Option Found). IsFirstIn (KernelBroken G minor is) x) e h
+
+pub told : (G : Table) (minor : ℕ) (is : List PlainInst) (r : Rule) (n : ℕ) (stop : Stop)
+    → IsFirst (KernelBroken G minor is) of_standard r n → IsStopAt is r n stop
+    → IsRefusal G (OpenCl minor) is stop
+told G minor is r n Memory first h = absurd h
+told G minor is r n (Fault f) first (e, where_at, word) =
+    let one : IsFirst (KernelBroken G minor is) of_standard f.rule n =
+    subst (λ (q : Rule). IsFirst (KernelBroken G minor is) of_standard q n) (sym e) first in (
+      subst (λ (m : ℕ). IsFirst (KernelBroken G minor is) of_standard f.rule m) (sym where_at) one,
+      word ∙ ap (first_word_of is) (sym where_at),
+    )

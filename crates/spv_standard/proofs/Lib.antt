@@ -1,0 +1,5 @@
+pub mod Earlier
+pub mod Joined
+pub mod Lower
+pub mod Stages
+pub mod Within

@@ -1,0 +1,4 @@
+-- Definitions that serve the code alone.
+pub mod Earlier
+pub mod First
+pub mod Found

@@ -1,0 +1,99 @@
+//! The first broken rule of stage O.
+
+ghost use Rattle.std.specs.Prelude.{ℕ, IfOk, IfErr};
+ghost use Rattle.spv_module.specs.Module.{plain_insts};
+ghost use Rattle.spv_module.specs.declared.fault.Rule.{Rule};
+ghost use Rattle.spv_layout.specs.First.{IsUnbroken};
+ghost use Rattle.spv_layout.specs.Place.{IsShort};
+ghost use Rattle.spv_layout.specs.Plan.{IsPlan};
+ghost use Rattle.spv_layout.specs.Stage.{of_branches};
+ghost use Rattle.spv_ids.specs.Outcome.{AreIds};
+ghost use Rattle.spv_flow.specs.branches.Broken as flow;
+ghost use Rattle.spv_flow.specs.declared.branches.fork.Fork.{Fork};
+ghost use Rattle.spv_limits.specs.Depth.{AreLower};
+ghost use Rattle.spv_standard.specs.Broken.{Broken, KernelBroken, IsRefusal};
+ghost use Rattle.spv_standard.specs.inner.First.{IsFirstIn};
+
+use crate::found::{Found, earlier};
+use crate::passes::{in_declarations, in_limits, in_operands, in_order, in_version};
+use spv_capabilities::Survey;
+use spv_extended::Reach;
+use spv_ids::Ids;
+use spv_layout::Plan;
+use spv_module::{Module, Stop};
+use spv_table::{Memory, Table};
+use spv_type_forms::Definitions;
+use std::alloc::Global;
+
+/// The first rule of stage O that a kernel of version 1.`minor` breaks: by instruction, and at one instruction by
+/// number.
+fn first_broken(
+    alloc: Global,
+    minor: u8,
+    table: &Table,
+    module: &Module<'_>,
+    plan: &Plan,
+    ids: &Ids,
+) -> Result<Option<Found>, Memory>
+    requires words { IsShort (plain_insts «module».now) }
+    requires plan { IsPlan table.now (plain_insts «module».now) plan.now }
+    requires ids { AreIds table.now «module».now.header.bound (plain_insts «module».now) ids.now }
+    requires branches { (fork : Fork)
+        × IsUnbroken (flow.Broken fork table.now (plain_insts «module».now)) of_branches }
+    requires structs { AreLower (plain_insts «module».now) }
+    ensures { IfOk result (IsFirstIn (KernelBroken table.now minor (plain_insts «module».now))) }
+{
+    let insts = module.insts.as_slice();
+    let count = insts.len() as u32;
+    let survey = Survey::new(alloc, table, insts, plan, ids)?;
+    let definitions = Definitions::new(insts, plan, ids);
+    let order = in_order(alloc, module, plan, ids)?;
+    let declarations = in_declarations(alloc, &survey, insts, plan, ids)?;
+    let operands = in_operands(alloc, &survey, &definitions, count)?;
+    let version = in_version(table, &definitions, minor, count);
+    let limits = in_limits(alloc, &definitions, count)?;
+    let found = earlier(order, declarations);
+    let found = earlier(found, operands);
+    let found = earlier(found, version);
+    Ok(earlier(found, limits))
+}
+
+/// Looks at what the standard asks of a kernel of OpenCL besides (SPIR-V Specification 1.6), if a module is looked at
+/// so far. `plan` and `ids` are what `lay_out` and `number` answered of that module, in which no rule of an earlier
+/// stage is broken.
+///
+/// A `Fault` tells the first rule of stage O that is broken, by instruction and at one instruction by number, with that
+/// instruction's first word (words and instructions from 0): O1 and O2 as `check_order` tells them, O3 and O5 to O13 as
+/// `first_misdeclared`, O14 to O20 and O23 as `check_operands`, O21 as `first_late`, and O22 as `first_past`.
+///
+/// `Memory` comes only where a growth of memory was refused.
+pub fn standard_check(
+    alloc: Global,
+    reach: Reach,
+    table: &Table,
+    module: &Module<'_>,
+    plan: &Plan,
+    ids: &Ids,
+) -> Result<(), Stop>
+    // What the stages before have found: of them O1 takes that branches lead to blocks, and O22 that the structs that
+    // are members of a struct stand before it.
+    requires words { IsShort (plain_insts «module».now) }
+    requires plan { IsPlan table.now (plain_insts «module».now) plan.now }
+    requires ids { AreIds table.now «module».now.header.bound (plain_insts «module».now) ids.now }
+    requires branches { (fork : Fork)
+        × IsUnbroken (flow.Broken fork table.now (plain_insts «module».now)) of_branches }
+    requires structs { AreLower (plain_insts «module».now) }
+    ensures unbroken { IfOk result (λ _. (r : Rule) (n : ℕ)
+        → ¬ (Broken table.now reach (plain_insts «module».now) r n)) }
+    ensures refused { IfErr result (λ s. IsRefusal table.now reach (plain_insts «module».now) s) }
+{
+    match reach {
+        Reach::Profile => Ok(()),
+        Reach::Extended => Ok(()),
+        Reach::OpenCl { minor } => match first_broken(alloc, minor, table, module, plan, ids) {
+            Ok(None) => Ok(()),
+            Ok(Some(found)) => Err(plan.stop_at(found.rule, found.inst)),
+            Err(_) => Err(Stop::Memory),
+        },
+    }
+}
