@@ -9,6 +9,7 @@ use Rattle.spv_extended.specs.declared.reach.Reach.{Reach}
 use Rattle.spv_extended.specs.Broken as extended_rules
 use Rattle.spv_extended.specs.Reach.{profile_of}
 use Rattle.spv_std_types.specs.Broken as std_rules
+use Rattle.spv_standard.specs.Broken as standard_rules
 use Rattle.spv_inst.specs.Outcome.{IsDecodeFault, IsHeaderOf}
 use Rattle.spv_module.specs.Module.{plain_insts}
 use Rattle.spv_module.specs.declared.fault.Stop.{Stop}
@@ -56,8 +57,9 @@ pub kept_of : (G : Table) (reach : Reach) (p : Program) (ids : Ids) (flow : Flow
     → IsUnbroken (type_rules.Broken G p.insts) stages.of_roles
     × IsUnbroken (type_rules.Broken G p.insts) stages.of_types → IsFlow (fork_of reach) G p.insts flow
     → ((r : Rule) (n : ℕ) → ¬ (extended_rules.Broken reach p.insts r n))
-    → ((r : Rule) (n : ℕ) → ¬ (std_rules.Broken reach p.insts r n)) → IsKept G reach p
-kept_of G reach p ids flow w a b r c t u f x y = record {
+    → ((r : Rule) (n : ℕ) → ¬ (std_rules.Broken reach p.insts r n))
+    → ((r : Rule) (n : ℕ) → ¬ (standard_rules.Broken G reach p.insts r n)) → IsKept G reach p
+kept_of G reach p ids flow w a b r c t u f x y z = record {
   few = w;
   laid_out = a;
   ids = b.unbroken;
@@ -70,6 +72,7 @@ kept_of G reach p ids flow w a b r c t u f x y = record {
   calls = f.calls;
   extended = x;
   std_types = y;
+  standard = z;
 }
 
 pub parts_of : (G : Table) (reach : Reach) (m : Module) (places : List Place) (ids : Ids) (flow : Flow)
@@ -79,7 +82,7 @@ pub parts_of : (G : Table) (reach : Reach) (m : Module) (places : List Place) (i
 parts_of G reach m places ids flow k a b f =
     record { bound = refl; insts = refl; kept = k; plan = a; numbered = b; flowing = f }
 
--- no rule is broken but, it may be, Y9 and Y10
+-- no rule is broken but, it may be, Y9, Y10 and the rules O
 pub up_to_calls : (G : Table) (reach : Reach) (bound : ℕ) (is : List PlainInst) (ids : Ids) (flow : Flow)
     → ((q : Rule) (m : ℕ) → ¬ (layout_rules.Broken (profile_of reach) G is q m)) → AreIds G bound is ids
     → IsUnbroken (type_rules.Broken G is) stages.of_roles × IsUnbroken (type_rules.Broken G is) stages.of_types
@@ -101,7 +104,7 @@ sound_of G reach p u k =
       values = k.values;
       calls = k.calls;
     } in
-    sound G reach p.bound p.insts most k.extended k.std_types
+    sound G reach p.bound p.insts most k.extended k.std_types k.standard
 
 pub checked_of : (G : Table) (reach : Reach) (words : List ℕ) (m : Module) (p : Program) → p ≡ program_of m
     → IsReading G reach (plain_insts m) (drop 5 words) → IsHeaderOf words m.header

@@ -7,6 +7,8 @@ use Rattle.spv_extended.specs.Broken as extended
 use Rattle.spv_extended.specs.declared.reach.Reach.{Reach}
 use Rattle.spv_extended.specs.Reach.{profile_of}
 use Rattle.spv_std_types.specs.Broken as std_types
+use Rattle.spv_standard.specs.Broken as standard
+use Rattle.spv_standard.proofs.Stages.{standard_stage}
 use Rattle.spv_layout.specs.declared.place.Place.{Place}
 use Rattle.spv_layout.specs.DeadPlace.{IsDeadPlace}
 use Rattle.spv_layout.specs.Layout.{IsLayout, seen_classes}
@@ -100,6 +102,8 @@ profile_first G reach bound is r n f = record { broken = Broken.of_layout r n f.
       Precedes.stage (omega arith)
   least _ _ (Broken.of_std_types q m b) = let s = f.of_stage in let e = std_types_stage reach is q m b in
       Precedes.stage (omega arith)
+  least _ _ (Broken.of_standard q m b) = let s = f.of_stage in let e = standard_stage G reach is q m b in
+      Precedes.stage (omega arith)
 
 -- a rule of the layout, where each instruction fits the profile
 pub layout_first : (G : Table) (reach : Reach) (bound : ℕ) (is : List PlainInst) (r : Rule) (n : ℕ)
@@ -128,6 +132,8 @@ layout_first G reach bound is r n u f = record { broken = Broken.of_layout r n f
       Precedes.stage (omega arith)
   least _ _ (Broken.of_std_types q m b) = let s = f.of_stage in let e = std_types_stage reach is q m b in
       Precedes.stage (omega arith)
+  least _ _ (Broken.of_standard q m b) = let s = f.of_stage in let e = standard_stage G reach is q m b in
+      Precedes.stage (omega arith)
 
 -- a rule on ids, where no rule of the profile or the layout is broken
 pub ids_first : (G : Table) (reach : Reach) (bound : ℕ) (is : List PlainInst) (r : Rule) (n : ℕ)
@@ -149,6 +155,8 @@ ids_first G reach bound is r n u f = record { broken = Broken.of_ids r n f.broke
   least _ _ (Broken.of_extended q m b) = let s = f.of_stage in let e = extended_stage reach is q m b in
       Precedes.stage (omega arith)
   least _ _ (Broken.of_std_types q m b) = let s = f.of_stage in let e = std_types_stage reach is q m b in
+      Precedes.stage (omega arith)
+  least _ _ (Broken.of_standard q m b) = let s = f.of_stage in let e = standard_stage G reach is q m b in
       Precedes.stage (omega arith)
 
 -- a rule on roles, where no rule of the profile, the layout or on ids is broken
@@ -175,6 +183,8 @@ roles_first G reach bound is r n u v f = record { broken = Broken.of_types r n f
       Precedes.stage (omega arith)
   least _ _ (Broken.of_std_types q m b) = let s = f.of_stage in let e = std_types_stage reach is q m b in
       Precedes.stage (omega arith)
+  least _ _ (Broken.of_standard q m b) = let s = f.of_stage in let e = standard_stage G reach is q m b in
+      Precedes.stage (omega arith)
 
 -- a rule on capabilities, entry points or types, where no rule on roles is broken either
 pub types_first : (G : Table) (reach : Reach) (bound : ℕ) (is : List PlainInst) (r : Rule) (n : ℕ)
@@ -200,6 +210,8 @@ types_first G reach bound is r n u v w f = record { broken = Broken.of_types r n
   least _ _ (Broken.of_extended q m b) = let s = f.of_stage in let e = extended_stage reach is q m b in
       Precedes.stage (omega arith)
   least _ _ (Broken.of_std_types q m b) = let s = f.of_stage in let e = std_types_stage reach is q m b in
+      Precedes.stage (omega arith)
+  least _ _ (Broken.of_standard q m b) = let s = f.of_stage in let e = standard_stage G reach is q m b in
       Precedes.stage (omega arith)
 
 -- no rule of the profile, the layout, on ids or on types is broken
@@ -236,6 +248,8 @@ branches_first G reach bound is r n u f = record { broken = Broken.of_flow r n f
       Precedes.stage (omega arith)
   least _ _ (Broken.of_std_types q m b) = let s = f.of_stage in let e = std_types_stage reach is q m b in
       Precedes.stage (omega arith)
+  least _ _ (Broken.of_standard q m b) = let s = f.of_stage in let e = standard_stage G reach is q m b in
+      Precedes.stage (omega arith)
 
 -- a rule on values, where no rule on branches is broken either
 pub values_first : (G : Table) (reach : Reach) (bound : ℕ) (is : List PlainInst) (r : Rule) (n : ℕ)
@@ -259,6 +273,8 @@ values_first G reach bound is r n u v f = record { broken = Broken.of_flow r n f
       Precedes.stage (omega arith)
   least _ _ (Broken.of_std_types q m b) = let s = f.of_stage in let e = std_types_stage reach is q m b in
       Precedes.stage (omega arith)
+  least _ _ (Broken.of_standard q m b) = let s = f.of_stage in let e = standard_stage G reach is q m b in
+      Precedes.stage (omega arith)
 
 -- the rule on calls, where no rule on values is broken either
 pub calls_first : (G : Table) (reach : Reach) (bound : ℕ) (is : List PlainInst) (r : Rule) (n : ℕ)
@@ -279,6 +295,8 @@ calls_first G reach bound is r n u v w f = record { broken = Broken.of_calls r n
       Precedes.stage (omega arith)
   least _ _ (Broken.of_std_types q m b) = let s = f.of_stage in let e = std_types_stage reach is q m b in
       Precedes.stage (omega arith)
+  least _ _ (Broken.of_standard q m b) = let s = f.of_stage in let e = standard_stage G reach is q m b in
+      Precedes.stage (omega arith)
 
 -- a module that is laid out breaks no rule of the profile or the layout
 pub planned : (reach : Reach) (G : Table) (is : List PlainInst)
@@ -296,19 +314,21 @@ pub record IsUpToCalls (G : Table) (reach : Reach) (bound : ℕ) (is : List Plai
   pub values : IsUnbroken (flow.Broken (fork_of reach) G is) stages.of_values
   pub calls : IsUnbroken (calls.Broken is) stages.of_calls
 
--- and no rule is, where Y9 and Y10 are not
+-- and no rule is, where Y9, Y10 and the rules O are not
 pub sound : (G : Table) (reach : Reach) (bound : ℕ) (is : List PlainInst) → IsUpToCalls G reach bound is
     → ((r : Rule) (n : ℕ) → ¬ (extended.Broken reach is r n))
-    → ((r : Rule) (n : ℕ) → ¬ (std_types.Broken reach is r n)) → IsSound G reach bound is
-sound G reach bound is u x y _ _ (Broken.of_layout r n b) = u.before.of_layout r n b
-sound G reach bound is u x y _ _ (Broken.of_ids r n b) = u.before.of_ids r n (ids_stage G bound is r n b) b
-sound G reach bound is u x y _ _ (Broken.of_types r n b) =
+    → ((r : Rule) (n : ℕ) → ¬ (std_types.Broken reach is r n))
+    → ((r : Rule) (n : ℕ) → ¬ (standard.Broken G reach is r n)) → IsSound G reach bound is
+sound G reach bound is u x y z _ _ (Broken.of_layout r n b) = u.before.of_layout r n b
+sound G reach bound is u x y z _ _ (Broken.of_ids r n b) = u.before.of_ids r n (ids_stage G bound is r n b) b
+sound G reach bound is u x y z _ _ (Broken.of_types r n b) =
     elim (types_stage G is r n b) [ inl e ↦ u.before.of_roles r n e b | inr e ↦ u.before.of_types r n e b ]
-sound G reach bound is u x y _ _ (Broken.of_flow r n b) =
+sound G reach bound is u x y z _ _ (Broken.of_flow r n b) =
     elim (flow_stage reach G is r n b) [ inl e ↦ u.branches r n e b | inr e ↦ u.values r n e b ]
-sound G reach bound is u x y _ _ (Broken.of_calls r n b) = u.calls r n (calls_stage is r n b) b
-sound G reach bound is u x y _ _ (Broken.of_extended r n b) = x r n b
-sound G reach bound is u x y _ _ (Broken.of_std_types r n b) = y r n b
+sound G reach bound is u x y z _ _ (Broken.of_calls r n b) = u.calls r n (calls_stage is r n b) b
+sound G reach bound is u x y z _ _ (Broken.of_extended r n b) = x r n b
+sound G reach bound is u x y z _ _ (Broken.of_std_types r n b) = y r n b
+sound G reach bound is u x y z _ _ (Broken.of_standard r n b) = z r n b
 
 -- Y9, where no rule of those stages is broken
 pub extended_first : (G : Table) (reach : Reach) (bound : ℕ) (is : List PlainInst) (r : Rule) (n : ℕ)
@@ -326,8 +346,10 @@ extended_first G reach bound is r n u f = record { broken = Broken.of_extended r
       within r q n m (omega arith) (f.least q m e b)
   least _ _ (Broken.of_std_types q m b) = let s = f.of_stage in let e = std_types_stage reach is q m b in
       Precedes.stage (omega arith)
+  least _ _ (Broken.of_standard q m b) = let s = f.of_stage in let e = standard_stage G reach is q m b in
+      Precedes.stage (omega arith)
 
--- Y10, where no other rule is broken
+-- Y10, where no rule of an earlier stage is broken
 pub std_types_first : (G : Table) (reach : Reach) (bound : ℕ) (is : List PlainInst) (r : Rule) (n : ℕ)
     → IsUpToCalls G reach bound is → ((q : Rule) (m : ℕ) → ¬ (extended.Broken reach is q m))
     → stage.IsFirst (std_types.Broken reach is) stages.of_std_types r n → IsFirstOfAll G reach bound is r n
@@ -341,6 +363,26 @@ std_types_first G reach bound is r n u x f = record { broken = Broken.of_std_typ
   least _ _ (Broken.of_calls q m b) = absurd (u.calls q m (calls_stage is q m b) b)
   least _ _ (Broken.of_extended q m b) = absurd (x q m b)
   least _ _ (Broken.of_std_types q m b) = let s = f.of_stage in let e = std_types_stage reach is q m b in
+      within r q n m (omega arith) (f.least q m e b)
+  least _ _ (Broken.of_standard q m b) = let s = f.of_stage in let e = standard_stage G reach is q m b in
+      Precedes.stage (omega arith)
+
+-- a rule of stage O, where no rule of another stage is broken
+pub standard_first : (G : Table) (reach : Reach) (bound : ℕ) (is : List PlainInst) (r : Rule) (n : ℕ)
+    → IsUpToCalls G reach bound is → ((q : Rule) (m : ℕ) → ¬ (extended.Broken reach is q m))
+    → ((q : Rule) (m : ℕ) → ¬ (std_types.Broken reach is q m))
+    → stage.IsFirst (standard.Broken G reach is) stages.of_standard r n → IsFirstOfAll G reach bound is r n
+standard_first G reach bound is r n u x y f = record { broken = Broken.of_standard r n f.broken; least = least } where
+  least : (q : Rule) (m : ℕ) → Broken G reach bound is q m → Precedes r n q m
+  least _ _ (Broken.of_layout q m b) = absurd (u.before.of_layout q m b)
+  least _ _ (Broken.of_ids q m b) = absurd (u.before.of_ids q m (ids_stage G bound is q m b) b)
+  least _ _ (Broken.of_types q m b) = never_before reach G bound is r q n m u.before b
+  least _ _ (Broken.of_flow q m b) =
+      elim (flow_stage reach G is q m b) [ inl e ↦ absurd (u.branches q m e b) | inr e ↦ absurd (u.values q m e b) ]
+  least _ _ (Broken.of_calls q m b) = absurd (u.calls q m (calls_stage is q m b) b)
+  least _ _ (Broken.of_extended q m b) = absurd (x q m b)
+  least _ _ (Broken.of_std_types q m b) = absurd (y q m b)
+  least _ _ (Broken.of_standard q m b) = let s = f.of_stage in let e = standard_stage G reach is q m b in
       within r q n m (omega arith) (f.least q m e b)
 
 -- what the layers refuse is told
@@ -400,6 +442,14 @@ pub told_std_types : (G : Table) (reach : Reach) (bound : ℕ) (is : List PlainI
 told_std_types G reach bound is Memory u x h = tt
 told_std_types G reach bound is (Fault f) u x h = (std_types_first G reach bound is f.rule f.inst u x h.0, h.1)
 
+pub told_standard : (G : Table) (reach : Reach) (bound : ℕ) (is : List PlainInst) (s : Stop)
+    → IsUpToCalls G reach bound is → ((q : Rule) (m : ℕ) → ¬ (extended.Broken reach is q m))
+    → ((q : Rule) (m : ℕ) → ¬ (std_types.Broken reach is q m))
+    → standard.IsRefusal G reach is s → IsTold G reach bound is s
+told_standard G reach bound is Memory u x y h = tt
+told_standard G reach bound is (Fault f) u x y h =
+    (standard_first G reach bound is f.rule f.inst u x y h.0, h.1)
+
 -- two rules that are told
 pub record SameRule (q r : Rule) (m n : ℕ) : Type 0 where
   pub rule : q ≡ r
@@ -437,10 +487,31 @@ of_calls_stage G reach bound is _ _ s (Broken.of_extended r n b) = let e = exten
     absurd (omega (arith, s, e))
 of_calls_stage G reach bound is _ _ s (Broken.of_std_types r n b) = let e = std_types_stage reach is r n b in
     absurd (omega (arith, s, e))
+of_calls_stage G reach bound is _ _ s (Broken.of_standard r n b) = let e = standard_stage G reach is r n b in
+    absurd (omega (arith, s, e))
 
--- a rule of the last stage is one on the types of calls of OpenCL.std
-pub of_last_stage : (G : Table) (reach : Reach) (bound : ℕ) (is : List PlainInst) (r : Rule) (n : ℕ)
+-- a rule of the stage of Y10 is one on the types of calls of OpenCL.std
+pub of_std_types_stage : (G : Table) (reach : Reach) (bound : ℕ) (is : List PlainInst) (r : Rule) (n : ℕ)
     → stage_of r ≡ stages.of_std_types → Broken G reach bound is r n → std_types.Broken reach is r n
+of_std_types_stage G reach bound is _ _ s (Broken.of_layout r n b) =
+    elim (layout_stage reach G is r n b) [ inl e ↦ absurd (omega (arith, s, e)) | inr e ↦ absurd (omega (arith, s, e)) ]
+of_std_types_stage G reach bound is _ _ s (Broken.of_ids r n b) = let e = ids_stage G bound is r n b in
+    absurd (omega (arith, s, e))
+of_std_types_stage G reach bound is _ _ s (Broken.of_types r n b) =
+    elim (types_stage G is r n b) [ inl e ↦ absurd (omega (arith, s, e)) | inr e ↦ absurd (omega (arith, s, e)) ]
+of_std_types_stage G reach bound is _ _ s (Broken.of_flow r n b) =
+    elim (flow_stage reach G is r n b) [ inl e ↦ absurd (omega (arith, s, e)) | inr e ↦ absurd (omega (arith, s, e)) ]
+of_std_types_stage G reach bound is _ _ s (Broken.of_calls r n b) = let e = calls_stage is r n b in
+    absurd (omega (arith, s, e))
+of_std_types_stage G reach bound is _ _ s (Broken.of_extended r n b) = let e = extended_stage reach is r n b in
+    absurd (omega (arith, s, e))
+of_std_types_stage G reach bound is _ _ s (Broken.of_std_types r n b) = b
+of_std_types_stage G reach bound is _ _ s (Broken.of_standard r n b) = let e = standard_stage G reach is r n b in
+    absurd (omega (arith, s, e))
+
+-- a rule of the last stage is one that the standard asks besides
+pub of_last_stage : (G : Table) (reach : Reach) (bound : ℕ) (is : List PlainInst) (r : Rule) (n : ℕ)
+    → stage_of r ≡ stages.of_standard → Broken G reach bound is r n → standard.Broken G reach is r n
 of_last_stage G reach bound is _ _ s (Broken.of_layout r n b) =
     elim (layout_stage reach G is r n b) [ inl e ↦ absurd (omega (arith, s, e)) | inr e ↦ absurd (omega (arith, s, e)) ]
 of_last_stage G reach bound is _ _ s (Broken.of_ids r n b) = let e = ids_stage G bound is r n b in
@@ -453,7 +524,9 @@ of_last_stage G reach bound is _ _ s (Broken.of_calls r n b) = let e = calls_sta
     absurd (omega (arith, s, e))
 of_last_stage G reach bound is _ _ s (Broken.of_extended r n b) = let e = extended_stage reach is r n b in
     absurd (omega (arith, s, e))
-of_last_stage G reach bound is _ _ s (Broken.of_std_types r n b) = b
+of_last_stage G reach bound is _ _ s (Broken.of_std_types r n b) = let e = std_types_stage reach is r n b in
+    absurd (omega (arith, s, e))
+of_last_stage G reach bound is _ _ s (Broken.of_standard r n b) = b
 
 -- a rule of a later stage is not told before one of an earlier stage
 pub never_earlier : (r q : Rule) (n m : ℕ) → stage_of q < stage_of r → ¬ (Precedes r n q m)

@@ -75,6 +75,7 @@ kept law G reach p few s = record {
   calls = λ r n e b. s r n (Broken.of_calls r n b);
   extended = λ r n b. s r n (Broken.of_extended r n b);
   std_types = λ r n b. s r n (Broken.of_std_types r n b);
+  standard = λ r n b. s r n (Broken.of_standard r n b);
 }
 
 no_layout : LayoutLaw → (G : Table) (reach : Reach) (p : Program) → IsKept G reach p → (q : Rule) (m : ℕ)

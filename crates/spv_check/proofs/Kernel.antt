@@ -75,6 +75,7 @@ kept = record {
   calls = λ r n s b. calls_kept r n b;
   extended = not_asked Profile kernel refl;
   std_types = types_not_asked Profile kernel refl;
+  standard = λ r n b. b;
 }
 
 pub sound : IsSound grammar Profile 5 kernel

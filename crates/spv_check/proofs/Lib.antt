@@ -5,6 +5,7 @@ pub mod Judgments
 pub mod Miscalls
 pub mod Mistypings
 pub mod Firsts
+pub mod Forwards
 pub mod Elements
 pub mod KernelRules
 pub mod Kernel

@@ -8,6 +8,7 @@ use Rattle.spv_module.specs.declared.fault.Stop.TheVariants.{Fault, Memory}
 use Rattle.spv_extended.specs.declared.reach.Reach.{Reach}
 use Rattle.spv_extended.specs.Broken as extended
 use Rattle.spv_std_types.specs.Broken as std_types
+use Rattle.spv_standard.specs.Broken as standard
 use Rattle.spv_extended.specs.Reach.{profile_of}
 use Rattle.spv_layout.specs.First.{stage_of, rank_of}
 use Rattle.spv_layout.specs.Place.{first_word_of}
@@ -21,7 +22,8 @@ use Rattle.spv_check.specs.Fork.{fork_of}
 -- Under the bound of ids, the rule is broken at the instruction of that number, as far as the list is looked at: a rule
 -- of the profile or of the layout; on ids; on roles, capabilities, entry points or types; on where branches lead, or on
 -- values that are defined on every walk; on cycles of calls; or, where extended instructions are looked at, on what
--- they take; or, in a kernel of OpenCL, on the types of the calls of OpenCL.std. [own]
+-- they take; or, in a kernel of OpenCL, on the types of the calls of OpenCL.std, or on what the standard asks of it
+-- besides. [own]
 pub data Broken (G : Table) (reach : Reach) (bound : ℕ) (is : List PlainInst) : Rule → ℕ → Type 0 where
   of_layout : (r : Rule) (n : ℕ) → layout.Broken (profile_of reach) G is r n → Broken G reach bound is r n
   of_ids : (r : Rule) (n : ℕ) → ids.Broken G bound is r n → Broken G reach bound is r n
@@ -30,6 +32,7 @@ pub data Broken (G : Table) (reach : Reach) (bound : ℕ) (is : List PlainInst) 
   of_calls : (r : Rule) (n : ℕ) → calls.Broken is r n → Broken G reach bound is r n
   of_extended : (r : Rule) (n : ℕ) → extended.Broken reach is r n → Broken G reach bound is r n
   of_std_types : (r : Rule) (n : ℕ) → std_types.Broken reach is r n → Broken G reach bound is r n
+  of_standard : (r : Rule) (n : ℕ) → standard.Broken G reach is r n → Broken G reach bound is r n
 
 -- A rule at instruction n is told before, or is, another at instruction m: that of an earlier stage, and within a stage
 -- that at a lower instruction, and at one instruction that which comes first in the order of rules. [own]

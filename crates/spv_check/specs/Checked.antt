@@ -8,6 +8,7 @@ use Rattle.spv_module.specs.declared.module.Module.{Module}
 use Rattle.spv_extended.specs.declared.reach.Reach.{Reach}
 use Rattle.spv_extended.specs.Broken as extended_rules
 use Rattle.spv_std_types.specs.Broken as std_rules
+use Rattle.spv_standard.specs.Broken as standard_rules
 use Rattle.spv_extended.specs.Reach.{profile_of}
 use Rattle.spv_layout.specs.First.{IsUnbroken}
 use Rattle.spv_layout.specs.Place.{IsShort}
@@ -54,6 +55,8 @@ pub record IsKept (G : Table) (reach : Reach) (p : Program) : Type 0 where
   pub extended : (r : Rule) (n : ℕ) → ¬ (extended_rules.Broken reach p.insts r n)
   -- Y10
   pub std_types : (r : Rule) (n : ℕ) → ¬ (std_rules.Broken reach p.insts r n)
+  -- O
+  pub standard : (r : Rule) (n : ℕ) → ¬ (standard_rules.Broken G reach p.insts r n)
 
 -- The module is that one, and the places, ids and flow are its own.
 pub record AreParts (G : Table) (reach : Reach) (p : Program) (m : Module) (places : List Place) (ids : Ids)

@@ -14,6 +14,7 @@ use Rattle.spv_layout.specs.Plan as layout
 use Rattle.spv_layout.specs.Plan.{IsPlan}
 use Rattle.spv_ids.specs.Outcome as ids
 use Rattle.spv_ids.specs.Outcome.{AreIds}
+use Rattle.spv_standard.specs.Broken as standard
 use Rattle.spv_check.specs.types.Outcome as types
 use Rattle.spv_check.specs.extended.Outcome as extended
 use Rattle.spv_check.specs.std_types.Outcome as std_types
@@ -27,6 +28,7 @@ use Rattle.spv_check.specs.declared.judged.Judged.{Judged}
 use Rattle.spv_check.specs.declared.judged.Judged.TheVariants.{Valid, Broken}
 use Rattle.spv_check.specs.declared.judged.Reached.{Reached}
 use Rattle.spv_check.specs.declared.judged.Reached.TheVariants.{Decoded, Placed, Numbered, Typed, Sound, Called}
+use Rattle.spv_check.specs.declared.judged.Reached.TheVariants.{Settled}
 
 -- Words of the module: from word 5 on they spell its instructions, as far as these are looked at, and word 3 is its
 -- bound.
@@ -45,6 +47,8 @@ IsRefusedAt G reach bound is (Typed places numbers) s =
 IsRefusedAt G reach bound is Sound s = extended.IsRefusal reach is s
 IsRefusedAt G reach bound is (Called places numbers) s =
     IsPlan G is places × AreIds G bound is numbers × std_types.IsRefusal reach is s
+IsRefusedAt G reach bound is (Settled places numbers) s =
+    IsPlan G is places × AreIds G bound is numbers × standard.IsRefusal G reach is s
 
 -- The module, under the bound, is that of the list; its fault is the first broken rule of all; and a stage refused it
 -- with that.

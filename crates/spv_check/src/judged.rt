@@ -16,6 +16,7 @@ use spv_ids::{Ids, number};
 use spv_layout::laws::member_or_dead;
 use spv_layout::{Plan, lay_out};
 use spv_module::{Fault, Module, Stop};
+use spv_standard::standard_check;
 use spv_table::{Memory, Table};
 use std::alloc::Global;
 
@@ -50,6 +51,8 @@ pub enum Reached {
     Sound,
     /// It breaks no rule up to Y9, and Y10 was asked.
     Called(Plan, Ids),
+    /// It breaks no rule up to Y10, and the rules O were asked.
+    Settled(Plan, Ids),
 }
 
 /// What the refusal of a stage comes to.
@@ -70,7 +73,7 @@ fn refused<'a>(stop: Stop, module: Module<'a>, reached: Reached) -> Result<Judge
 /// capabilities, entry points and types, where branches lead, values on every walk, and cycles of calls (own). Where
 /// one is broken, the module comes back with what the stages before made. `reach` is how far the module is looked at,
 /// as `read` answered it; where its extended instructions are looked at, what they take is asked after that (Y9), and
-/// of a kernel of OpenCL at last the types of its calls of OpenCL.std (Y10).
+/// of a kernel of OpenCL the types of its calls of OpenCL.std (Y10), and at last what the standard asks besides (O).
 ///
 /// `Memory` comes only where a growth of memory was refused.
 pub fn judge<'a>(
@@ -106,7 +109,11 @@ pub fn judge<'a>(
         Err(stop) => return refused(stop, module, Reached::Sound),
     }
     match std_types_check(reach, &module, &plan, &ids) {
+        Ok(()) => (),
+        Err(stop) => return refused(stop, module, Reached::Called(plan, ids)),
+    }
+    match standard_check(alloc, reach, table, &module, &plan, &ids) {
         Ok(()) => Ok(Judged::Valid(Checked::new(module, plan, ids, flow))),
-        Err(stop) => refused(stop, module, Reached::Called(plan, ids)),
+        Err(stop) => refused(stop, module, Reached::Settled(plan, ids)),
     }
 }

@@ -32,8 +32,9 @@ fn stopped<'a>(stop: Stop) -> Result<Verdict<'a>, Memory>
 /// A `Fault` tells the first instruction that fails, by I1 to I12, with its number and the word by which that is told
 /// (SPIR-V Specification 1.6, section 2.3; instructions and words from 0); or, where the words spell a list, the first
 /// rule that it breaks, by stage, then by instruction, then by rule, with the first word of the instruction. The stages
-/// are P, L, D, Y1, then C, M, E and the other rules Y, then F, A, G, Y9, and at last Y10; `lay_out`, `number`,
-/// `type_check` and `flow_check` tell their rules, `first_miscalled` tells Y9, and `first_mistyped` Y10.
+/// are P, L, D, Y1, then C, M, E and the other rules Y, then F, A, G, Y9, Y10, and at last O; `lay_out`, `number`,
+/// `type_check`, `flow_check` and `standard_check` tell their rules, `first_miscalled` tells Y9, and `first_mistyped`
+/// Y10.
 ///
 /// `Memory` comes only where a growth of memory was refused.
 pub fn check<'a>(

@@ -6,7 +6,7 @@ ghost use Rattle.spv_module.specs.Operand.{PlainInst};
 ghost use Rattle.spv_module.specs.Module.{plain_insts};
 ghost use Rattle.spv_module.specs.declared.fault.Fault.{Fault};
 ghost use Rattle.spv_module.specs.declared.fault.Rule.{Rule};
-ghost use Rattle.spv_module.specs.declared.fault.Rule.TheVariants.{A1, G1, I7, L2, Y7, Y9, Y10};
+ghost use Rattle.spv_module.specs.declared.fault.Rule.TheVariants.{A1, G1, I7, L2, O1, O3, Y7, Y9, Y10};
 ghost use Rattle.spv_module.specs.declared.module.Module.{Module};
 ghost use Rattle.spv_extended.specs.declared.reach.Reach.{Reach};
 ghost use Rattle.spv_extended.specs.declared.reach.Reach.TheVariants.{Profile, Extended, OpenCl};
@@ -18,6 +18,7 @@ ghost use Rattle.spv_ids.specs.declared.ids.Ids.{Ids};
 ghost use Rattle.spv_ids.specs.Outcome.{IsDefinitionOf, definition_in};
 ghost use Rattle.spv_check.specs.declared.flow.Flow.{Flow};
 ghost use Rattle.spv_std_types.specs.Example.{unlike};
+ghost use Rattle.spv_standard.specs.Example.{entries};
 ghost use Rattle.spv_flow.specs.calls.Example.{functions, looped};
 ghost use Rattle.spv_check.specs.Outcome.{HasFailed, IsUntouched, OfKnown};
 ghost use Rattle.spv_check.specs.Answer.{IsFault};
@@ -109,12 +110,18 @@ pub fn broken_examples()
     ensures earlier { Precedes Y7 9 A1 3 }
     ensures later { ¬ (Precedes A1 3 Y7 9) }
     // A call of OpenCL.std whose operand has not the type of its result breaks a rule of kernels of OpenCL, which is
-    // told after all others.
+    // told after Y9.
     ensures types { (G : Table) (minor bound : ℕ) → Broken G (OpenCl minor) bound unlike Y10 22 }
     ensures no_types { (G : Table) (bound n : ℕ) → ¬ (Broken G Extended bound unlike Y10 n) }
-    ensures last { Precedes Y9 9 Y10 3 }
+    ensures after { Precedes Y9 9 Y10 3 }
+    // Two entry points of one model and one name break one that the standard asks of kernels of OpenCL besides, which
+    // are told after all others.
+    ensures standard { (G : Table) (minor bound : ℕ) → Broken G (OpenCl minor) bound entries O3 1 }
+    ensures no_standard { (G : Table) (bound n : ℕ) → ¬ (Broken G Extended bound entries O3 n) }
+    ensures last { Precedes Y10 9 O1 3 }
 {
     spv_flow::calls::laws::call_examples();
+    spv_standard::laws::broken_examples();
 }
 
 /// Worked examples of what a check leaves in its writer.

@@ -4,7 +4,7 @@ ghost use Rattle.std.specs.Prelude.{ℕ};
 ghost use Rattle.spv_table.specs.Table.{Table};
 ghost use Rattle.spv_module.specs.declared.fault.Rule.TheVariants.{O3, O5};
 ghost use Rattle.spv_extended.specs.declared.reach.Reach.TheVariants.{Extended, OpenCl};
-ghost use Rattle.spv_declarations.specs.Example.{entries};
+ghost use Rattle.spv_standard.specs.Example.{entries};
 ghost use Rattle.spv_standard.specs.Broken.{Broken, KernelBroken};
 
 /// Two entry points of one execution model and one name.

@@ -5,7 +5,7 @@ use Rattle.spv_table.specs.Table.{Table}
 use Rattle.spv_module.specs.Operand.{Argument, Id, PlainInst}
 use Rattle.spv_module.specs.declared.profile.Profile.TheVariants as profile
 use Rattle.spv_module.specs.declared.fault.Rule.{Rule}
-use Rattle.spv_module.specs.declared.fault.Rule.TheVariants.{Y9, Y10}
+use Rattle.spv_module.specs.declared.fault.Rule.TheVariants.{O3, Y9, Y10}
 use Rattle.spv_extended.specs.declared.reach.Reach.TheVariants.{Profile, Extended, OpenCl}
 use Rattle.spv_extended.proofs.Brokens.{moved}
 use Rattle.spv_extended.specs.Broken as extended
@@ -18,13 +18,17 @@ use Rattle.spv_std_types.specs.Example.{unlike}
 use Rattle.spv_std_types.specs.Mistyped.{IsMistyped}
 use Rattle.spv_std_types.proofs.Brokens.{of_call}
 use Rattle.spv_std_types.proofs.Worked.{unlike_mistyped}
+use Rattle.spv_standard.specs.Broken as standard
+use Rattle.spv_standard.specs.Broken.{KernelBroken}
+use Rattle.spv_standard.specs.Example.{entries}
 use Rattle.spv_flow.specs.declared.branches.fork.Fork.{Fork}
 use Rattle.spv_flow.specs.declared.branches.fork.Fork.TheVariants.{Distinct}
 use Rattle.spv_flow.specs.branches.Broken as flow
 use Rattle.spv_layout.specs.First.{stage_of}
 use Rattle.spv_layout.specs.Plan.{IsLaidOut}
 use Rattle.spv_layout.specs.Stage as stages
-use Rattle.spv_check.proofs.Firsts.{calls_stage, flow_stage, ids_stage, layout_stage, of_last_stage, planned}
+use Rattle.spv_check.proofs.Firsts.{calls_stage, flow_stage, ids_stage, layout_stage, of_last_stage}
+use Rattle.spv_check.proofs.Firsts.{of_std_types_stage, planned}
 use Rattle.spv_check.proofs.Kept.{LayoutLaw, laid}
 use Rattle.spv_check.proofs.Miscalls.{not_asked}
 use Rattle.spv_check.proofs.Mistypings.{types_not_asked}
@@ -63,6 +67,7 @@ broken_too G bound is _ _ (Broken.of_calls r n b) =
     Broken.of_calls r n (calls_broken is (opened is) (alike_opened (set_in is) is) r n b)
 broken_too G bound is _ _ (Broken.of_extended r n b) = absurd (not_asked Profile is refl r n b)
 broken_too G bound is _ _ (Broken.of_std_types r n b) = absurd (types_not_asked Profile is refl r n b)
+broken_too G bound is _ _ (Broken.of_standard r n b) = absurd b
 
 pub valid_too : (G : Table) (bytes : List ℕ) → IsValid G Extended bytes → IsValid G Profile bytes
 valid_too G bytes v = record {
@@ -75,7 +80,7 @@ valid_too G bytes v = record {
       (sym v.reading.seen) (broken_too G (slice_index v.words 3) v.reading.spelled r n b));
 }
 
--- What is valid there is a kernel of OpenCL, unless it breaks Y10.
+-- What is valid there is a kernel of OpenCL, unless it breaks Y10 or a rule of stage O.
 
 -- what is broken however much is asked of the labels of an OpBranchConditional is broken where most is
 strict : (fork : Fork) (G : Table) (is : List PlainInst) (r : Rule) (n : ℕ) → flow.Broken fork G is r n
@@ -90,31 +95,33 @@ strict fork G is _ _ (flow.pair_missing n m) = flow.pair_missing n m
 wide_sound : LayoutLaw → ((G : Table) (is : List PlainInst) → IsLaidOut profile.Own G is
     → IsLaidOut profile.OpenCl G is)
     → (G : Table) (minor bound : ℕ) (is : List PlainInst) → ((n : ℕ) → ¬ (IsMistyped is n))
-    → IsSound G Extended bound is → IsSound G (OpenCl minor) bound is
-wide_sound law wider G minor bound is never s _ _ (Broken.of_layout r n b) =
+    → ((r : Rule) (n : ℕ) → ¬ (KernelBroken G minor is r n)) → IsSound G Extended bound is
+    → IsSound G (OpenCl minor) bound is
+wide_sound law wider G minor bound is never keeps s _ _ (Broken.of_layout r n b) =
     planned (OpenCl minor) G is (law.not_both profile.OpenCl)
     (wider G is (laid law G Extended (record { bound = bound; insts = is }) s)) r n b
-wide_sound law wider G minor bound is never s _ _ (Broken.of_ids r n b) = s r n (Broken.of_ids r n b)
-wide_sound law wider G minor bound is never s _ _ (Broken.of_types r n b) = s r n (Broken.of_types r n b)
-wide_sound law wider G minor bound is never s _ _ (Broken.of_flow r n b) =
+wide_sound law wider G minor bound is never keeps s _ _ (Broken.of_ids r n b) = s r n (Broken.of_ids r n b)
+wide_sound law wider G minor bound is never keeps s _ _ (Broken.of_types r n b) = s r n (Broken.of_types r n b)
+wide_sound law wider G minor bound is never keeps s _ _ (Broken.of_flow r n b) =
     s r n (Broken.of_flow r n (strict (fork_of (OpenCl minor)) G is r n b))
-wide_sound law wider G minor bound is never s _ _ (Broken.of_calls r n b) = s r n (Broken.of_calls r n b)
-wide_sound law wider G minor bound is never s _ _ (Broken.of_extended r n b) =
+wide_sound law wider G minor bound is never keeps s _ _ (Broken.of_calls r n b) = s r n (Broken.of_calls r n b)
+wide_sound law wider G minor bound is never keeps s _ _ (Broken.of_extended r n b) =
     s r n (Broken.of_extended r n (moved (OpenCl minor) Extended is r n refl b))
-wide_sound law wider G minor bound is never s _ _ (Broken.of_std_types r n b) =
+wide_sound law wider G minor bound is never keeps s _ _ (Broken.of_std_types r n b) =
     never n (of_call (OpenCl minor) is r n b)
+wide_sound law wider G minor bound is never keeps s _ _ (Broken.of_standard r n b) = keeps r n b
 
 pub valid_wider : LayoutLaw
     → ((G : Table) (is : List PlainInst) → IsLaidOut profile.Own G is → IsLaidOut profile.OpenCl G is)
     → (G : Table) (minor : ℕ) (bytes : List ℕ) (v : IsValid G Extended bytes) → ((n : ℕ) → ¬ (IsMistyped v.insts n))
-    → IsValid G (OpenCl minor) bytes
-valid_wider law wider G minor bytes v never = record {
+    → ((r : Rule) (n : ℕ) → ¬ (KernelBroken G minor v.insts r n)) → IsValid G (OpenCl minor) bytes
+valid_wider law wider G minor bytes v never keeps = record {
   words = v.words;
   order = v.order;
   is_module = v.is_module;
   insts = v.insts;
   reading = record { spelled = v.reading.spelled; listing = v.reading.listing; seen = v.reading.seen };
-  sound = wide_sound law wider G minor (slice_index v.words 3) v.insts never v.sound;
+  sound = wide_sound law wider G minor (slice_index v.words 3) v.insts never keeps v.sound;
 }
 
 -- Y9 is of the stage that the profile does not ask.
@@ -131,6 +138,7 @@ not_extended G bound is _ _ s (Broken.of_flow r n b) =
 not_extended G bound is _ _ s (Broken.of_calls r n b) = let e = calls_stage is r n b in omega (arith, e, s)
 not_extended G bound is _ _ s (Broken.of_extended r n b) = not_asked Profile is refl r n b
 not_extended G bound is _ _ s (Broken.of_std_types r n b) = types_not_asked Profile is refl r n b
+not_extended G bound is _ _ s (Broken.of_standard r n b) = b
 
 pub not_y9 : (G : Table) (bound : ℕ) (is : List PlainInst) (n : ℕ) → Broken G Profile bound is Y9 n → ⊥
 not_y9 G bound is n b = not_extended G bound is Y9 n refl b
@@ -148,7 +156,7 @@ short_broken G bound =
 -- Y10 is asked of a kernel of OpenCL alone.
 
 pub not_y10 : (G : Table) (bound : ℕ) (is : List PlainInst) (n : ℕ) → Broken G Extended bound is Y10 n → ⊥
-not_y10 G bound is n b = types_not_asked Extended is refl Y10 n (of_last_stage G Extended bound is Y10 n refl b)
+not_y10 G bound is n b = types_not_asked Extended is refl Y10 n (of_std_types_stage G Extended bound is Y10 n refl b)
 
 -- the values of the small module are opened as they are
 opened_unlike : opened unlike ≡ unlike
@@ -160,3 +168,18 @@ unlike_broken G minor bound =
     let b : std_types.Broken (OpenCl minor) unlike Y10 22 = std_types.mistyped 22 refl (_, unlike_mistyped) in
     Broken.of_std_types Y10 22
     (subst (λ (is : List PlainInst). std_types.Broken (OpenCl minor) is Y10 22) (sym opened_unlike) b)
+
+-- So are the rules of stage O.
+
+pub not_o3 : (G : Table) (bound : ℕ) (is : List PlainInst) (n : ℕ) → Broken G Extended bound is O3 n → ⊥
+not_o3 G bound is n b = of_last_stage G Extended bound is O3 n refl b
+
+-- entry points are opened as they are
+opened_entries : opened entries ≡ entries
+opened_entries = refl
+
+pub entries_broken : (G : Table) (minor bound : ℕ) → standard.Broken G (OpenCl minor) entries O3 1
+    → Broken G (OpenCl minor) bound (opened entries) O3 1
+entries_broken G minor bound b =
+    Broken.of_standard O3 1
+    (subst (λ (is : List PlainInst). standard.Broken G (OpenCl minor) is O3 1) (sym opened_entries) b)

@@ -5,11 +5,13 @@ ghost use Rattle.std.specs.Prelude.{◌++◌, ◌∷◌, [], ℕ, List};
 ghost use Rattle.spv_table.specs.Table.{Table};
 ghost use Rattle.spv_module.specs.Operand.{Id, PlainInst};
 ghost use Rattle.spv_module.specs.declared.fault.Rule.{Rule};
-ghost use Rattle.spv_module.specs.declared.fault.Rule.TheVariants.{G1, Y9, Y10};
+ghost use Rattle.spv_module.specs.declared.fault.Rule.TheVariants.{G1, O3, Y9, Y10};
 ghost use Rattle.spv_extended.specs.declared.reach.Reach.TheVariants.{Extended, OpenCl, Profile};
 ghost use Rattle.spv_extended.specs.Example.{call, imports};
 ghost use Rattle.spv_std_types.specs.Example.{unlike};
 ghost use Rattle.spv_std_types.specs.Mistyped.{IsMistyped};
+ghost use Rattle.spv_standard.specs.Broken.{KernelBroken};
+ghost use Rattle.spv_standard.specs.Example.{entries};
 ghost use Rattle.spv_flow.specs.calls.Example.{looped};
 ghost use Rattle.spv_check.specs.Valid.{IsValid};
 ghost use Rattle.spv_verdict.specs.Further.{BreaksToo};
@@ -30,10 +32,12 @@ pub fn refused_too()
 {}
 
 /// A module that is valid where its extended instructions are looked at is valid as a kernel of OpenCL, of whatever
-/// version, unless it breaks Y10: the rows and the places of the profile are among those of OpenCL.
+/// version, unless it breaks Y10 or what the standard asks of that version's kernels besides: the rows and the places of
+/// the profile are among those of OpenCL.
 pub fn wider_too()
     ensures { (G : Table) (minor : ℕ) (bytes : List ℕ) (v : IsValid G Extended bytes)
-        → ((n : ℕ) → ¬ (IsMistyped v.insts n)) → IsValid G (OpenCl minor) bytes }
+        → ((n : ℕ) → ¬ (IsMistyped v.insts n)) → ((r : Rule) (n : ℕ) → ¬ (KernelBroken G minor v.insts r n))
+        → IsValid G (OpenCl minor) bytes }
 {
     spv_layout::laws::member_or_dead();
     spv_layout::laws::own_profile();
@@ -48,6 +52,9 @@ pub fn refused_examples()
         → ¬ (BreaksToo G Extended Profile bound (imports ++ call 1 171 (Id 7 ∷ Id 8 ∷ []) ∷ []) Y9 2) }
     // One whose operand has not the type of its result: where it is no kernel of OpenCL, nothing is asked of types.
     ensures mistype { (G : Table) (minor bound : ℕ) → ¬ (BreaksToo G (OpenCl minor) Extended bound unlike Y10 22) }
+    // Two entry points of one name.
+    ensures repeated { (G : Table) (minor bound : ℕ) → ¬ (BreaksToo G (OpenCl minor) Extended bound entries O3 1) }
 {
     spv_check::laws::broken_examples();
+    spv_standard::laws::broken_examples();
 }

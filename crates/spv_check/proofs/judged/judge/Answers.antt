@@ -1,9 +1,11 @@
 use Rattle.spv_module.specs.Module.{plain_insts}
 use Rattle.spv_extended.specs.Reach.{profile_of}
+use Rattle.spv_standard.proofs.Lower.{are_lower}
 use Rattle.spv_check.specs.Checked.{program_of}
 use Rattle.spv_check.proofs.Checks.{kept_of, parts_of, up_to_calls}
 use Rattle.spv_check.proofs.Firsts.{IsBefore, planned, sound, told_extended, told_flow, told_ids, told_layout}
-use Rattle.spv_check.proofs.Firsts.{told_std_types, told_types}
+use Rattle.spv_check.proofs.Firsts.{told_standard, told_std_types, told_types}
+use Rattle.spv_check.proofs.Forwards.{are_forwards}
 use Rattle.spv_check.proofs.Judgments.{refused_so}
 use Rattle.spv_check.proofs.judged.judge.Goals as goal
 
@@ -53,6 +55,29 @@ std_types_check-requires-clause-plan c = (c.args.table.now, c.in-Ok.ensures.plan
 pub std_types_check-requires-clause-ids : goal.std_types_check-requires-clause-ids
 std_types_check-requires-clause-ids c = (c.in-Ok-number.ensures.ids c.args.table.now c.in-Ok.ensures.plan).each
 
+pub standard_check-requires-clause-words : goal.standard_check-requires-clause-words
+standard_check-requires-clause-words c = c.requires.short
+
+pub standard_check-requires-clause-plan : goal.standard_check-requires-clause-plan
+standard_check-requires-clause-plan c = c.in-Ok.ensures.plan
+
+pub standard_check-requires-clause-ids : goal.standard_check-requires-clause-ids
+standard_check-requires-clause-ids c = c.in-Ok-number.ensures.ids c.args.table.now c.in-Ok.ensures.plan
+
+pub standard_check-requires-clause-branches : goal.standard_check-requires-clause-branches
+standard_check-requires-clause-branches c =
+    let G = c.args.table.now in
+    let plan = c.in-Ok.ensures.plan in
+    (c.fork_of.result, (c.in-Ok-flow_check.ensures.flow G plan (c.in-Ok-number.ensures.ids G plan)).branches)
+
+pub standard_check-requires-clause-structs : goal.standard_check-requires-clause-structs
+standard_check-requires-clause-structs c =
+    let G = c.args.table.now in
+    let plan = c.in-Ok.ensures.plan in
+    let ids = c.in-Ok-number.ensures.ids G plan in
+    are_lower G c.args.module.header.bound (plain_insts c.args.module) c.in-Ok.plan plan ids.unbroken
+    (are_forwards G (plain_insts c.args.module) c.in-Ok-type_check.ensures.types.rules)
+
 pub new-requires : goal.new-requires
 new-requires c =
     let G = c.args.table.now in
@@ -66,7 +91,9 @@ new-requires c =
     let p = program_of c.args.module in
     let y9 = c.in-Ok-extended_check.ensures.unbroken in
     let y10 = c.in-Ok-std_types_check.ensures.unbroken in
-    let kept = kept_of G reach p _ _ c.requires.short laid ids types.roles types.capabilities types.rules u flow y9 y10 in
+    let o = c.in-Ok-standard_check.ensures.unbroken in
+    let kept = kept_of G reach p _ _ c.requires.short laid ids types.roles types.capabilities types.rules u flow y9 y10
+    o in
     let w = c.requires.words in
     let none = planned reach G _ (c.member_or_dead.ensures.not_both (profile_of reach)) laid in
     let most = up_to_calls G reach p.bound p.insts _ _ none ids u flow in (
@@ -77,14 +104,14 @@ new-requires c =
         checked = record {
           reading = w.1.reading;
           bound = w.1.bound;
-          sound = sound G reach p.bound p.insts most y9 y10;
+          sound = sound G reach p.bound p.insts most y9 y10 o;
         };
         parts = parts_of G reach c.args.module _ _ _ kept plan ids flow;
       },
     )
 
-pub returns-in-Ok-std_types_check : goal.returns-in-Ok-std_types_check
-returns-in-Ok-std_types_check c =
+pub returns-in-Ok-standard_check : goal.returns-in-Ok-standard_check
+returns-in-Ok-standard_check c =
     let G = c.args.table.now in
     let reach = c.args.reach in
     let plan = c.in-Ok.ensures.plan in
@@ -96,12 +123,14 @@ returns-in-Ok-std_types_check c =
     let p = program_of c.args.module in
     let y9 = c.in-Ok-extended_check.ensures.unbroken in
     let y10 = c.in-Ok-std_types_check.ensures.unbroken in
-    let kept = kept_of G reach p _ _ c.requires.short laid ids types.roles types.capabilities types.rules u flow y9 y10 in
+    let o = c.in-Ok-standard_check.ensures.unbroken in
+    let kept = kept_of G reach p _ _ c.requires.short laid ids types.roles types.capabilities types.rules u flow y9 y10
+    o in
     let none = planned reach G _ (c.member_or_dead.ensures.not_both (profile_of reach)) laid in
     record {
       whole = c.new.ensures;
       kept = rw c.new.ensures kept;
-      sound = sound G reach p.bound p.insts (up_to_calls G reach p.bound p.insts _ _ none ids u flow) y9 y10;
+      sound = sound G reach p.bound p.insts (up_to_calls G reach p.bound p.insts _ _ none ids u flow) y9 y10 o;
     }
 
 pub returns-in-Err-std_types_check : goal.returns-in-Err-std_types_check
@@ -120,6 +149,24 @@ returns-in-Err-std_types_check c =
     let h = c.in-Err-std_types_check.ensures.refused in
     refused_so G reach c.args.module _ c.in-Err-std_types_check.stop _ c.refused-in-Err-std_types_check.ensures
     (told_std_types G reach p.bound p.insts c.in-Err-std_types_check.stop most y9 h) (plan, ids, h)
+
+pub returns-in-Err-standard_check : goal.returns-in-Err-standard_check
+returns-in-Err-standard_check c =
+    let G = c.args.table.now in
+    let reach = c.args.reach in
+    let plan = c.in-Ok.ensures.plan in
+    let ids = c.in-Ok-number.ensures.ids G plan in
+    let u = c.in-Ok-type_check.ensures.unbroken in
+    let flow = rw c.fork_of.ensures at (c.in-Ok-flow_check.ensures.flow G plan ids) in
+    let laid = rw c.profile_of.ensures at c.in-Ok.ensures.laid_out in
+    let p = program_of c.args.module in
+    let none = planned reach G _ (c.member_or_dead.ensures.not_both (profile_of reach)) laid in
+    let most = up_to_calls G reach p.bound p.insts _ _ none ids u flow in
+    let y9 = c.in-Ok-extended_check.ensures.unbroken in
+    let y10 = c.in-Ok-std_types_check.ensures.unbroken in
+    let h = c.in-Err-standard_check.ensures.refused in
+    refused_so G reach c.args.module _ c.in-Err-standard_check.stop _ c.refused-in-Err-standard_check.ensures
+    (told_standard G reach p.bound p.insts c.in-Err-standard_check.stop most y9 y10 h) (plan, ids, h)
 
 pub returns-in-Err-extended_check : goal.returns-in-Err-extended_check
 returns-in-Err-extended_check c =
