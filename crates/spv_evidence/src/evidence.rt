@@ -114,6 +114,8 @@ pub enum Evidence {
     },
     /// E1: there is no entry point.
     NoEntry,
+    /// The rules O: nothing besides the rule and its instruction.
+    Alone,
     /// E2: which part of the rule is broken.
     Entry {
         part: EntryPart,

@@ -16,10 +16,12 @@ use Rattle.spv_extended.specs.Reach.{opens, profile_of}
 use Rattle.spv_std_types.specs.Broken as std_rule
 use Rattle.spv_std_types.specs.Broken.{asks_types}
 use Rattle.spv_std_types.specs.Mistyped.{IsMistyped}
+use Rattle.spv_standard.specs.Broken as standard_rule
 use Rattle.spv_check.specs.Fork.{fork_of}
 use Rattle.spv_layout.specs.Broken as broken
 use Rattle.spv_layout.specs.Plan as plan
 use Rattle.spv_evidence.specs.declared.evidence.Evidence.{Evidence}
+use Rattle.spv_evidence.specs.declared.evidence.Evidence.TheVariants.{Alone}
 use Rattle.spv_form_evidence.specs.layout.Evidence as layout
 use Rattle.spv_form_evidence.specs.ids.Evidence as ids
 use Rattle.spv_form_evidence.specs.ids.Roles as roles
@@ -105,3 +107,8 @@ pub mistyping_shown : (G : Table) (reach : Reach) (bound : ℕ) (is : List Plain
 mistyping_shown G reach bound is f e b h =
     let m = the_mistyping reach is f.rule f.inst b in
     λ s. IsEvidence.of_std_types f.rule f.inst e m.1 (subst (λ r. mistyped.IsEvidence is r f.inst e) (sym m.0) h)
+
+-- what the standard asks besides
+pub standard_shown : (G : Table) (reach : Reach) (bound : ℕ) (is : List PlainInst) (f : Fault)
+    → standard_rule.Broken G reach is f.rule f.inst → IsShownAt G reach bound is f Alone
+standard_shown G reach bound is f b = λ s. IsEvidence.of_standard f.rule f.inst b

@@ -20,6 +20,7 @@ use Rattle.spv_form_evidence.specs.extended.Evidence as by_extended
 use Rattle.spv_layout.specs.First.{stage_of}
 use Rattle.spv_layout.specs.Stage as stages
 use Rattle.spv_check.proofs.Firsts.{calls_stage, extended_stage, flow_stage, ids_stage, layout_stage, std_types_stage}
+use Rattle.spv_standard.proofs.Stages.{standard_stage}
 use Rattle.spv_check.proofs.Stages.{types_stage}
 use Rattle.spv_form_evidence.specs.layout.Evidence as by_layout
 use Rattle.spv_form_evidence.specs.ids.Roles as roles
@@ -114,6 +115,7 @@ suffices G reach bound is _ _ _ (IsEvidence.of_extended r n e on h) =
     Broken.of_extended r n (extended_broken reach is r n e on h)
 suffices G reach bound is _ _ _ (IsEvidence.of_std_types r n e on h) =
     Broken.of_std_types r n (std_types_broken reach is r n e on h)
+suffices G reach bound is _ _ _ (IsEvidence.of_standard r n b) = Broken.of_standard r n b
 
 -- evidence of a stage before D is that of the shapes and the layout
 apart : (r : Rule) (a b : ℕ) → stage_of r < stages.of_ids → (stage_of r ≡ a) ⊎ (stage_of r ≡ b) → 3 ≤ a → 3 ≤ b → ⊥
@@ -148,6 +150,8 @@ of_layout_alone G reach bound is _ _ _ (IsEvidence.of_extended r n e on h) s =
 of_layout_alone G reach bound is _ _ _ (IsEvidence.of_std_types r n e on h) s =
     absurd (apart r 10 10 s (inl (std_types_stage reach is r n (std_types_broken reach is r n e on h))) (omega arith)
     (omega arith))
+of_layout_alone G reach bound is _ _ _ (IsEvidence.of_standard r n b) s =
+    absurd (apart r 11 11 s (inl (standard_stage G reach is r n b)) (omega arith) (omega arith))
 
 -- evidence of the stage of Y9 is that of calls of extended instructions
 below : (r : Rule) (a b : ℕ) → stage_of r ≡ stages.of_extended → (stage_of r ≡ a) ⊎ (stage_of r ≡ b) → a ≤ 8 → b ≤ 8 → ⊥
@@ -185,8 +189,11 @@ of_extended_alone G reach bound is _ _ _ (IsEvidence.of_extended r n e on h) s =
 of_extended_alone G reach bound is _ _ _ (IsEvidence.of_std_types r n e on h) s =
     let t = std_types_stage reach is r n (std_types_broken reach is r n e on h) in
     absurd (omega (arith, s, t))
+of_extended_alone G reach bound is _ _ _ (IsEvidence.of_standard r n b) s =
+    let t = standard_stage G reach is r n b in
+    absurd (omega (arith, s, t))
 
--- evidence of the last stage is that of the types of calls of OpenCL.std
+-- evidence of the stage of Y10 is that of the types of calls of OpenCL.std
 past : (r : Rule) (a b : ℕ) → stage_of r ≡ stages.of_std_types → (stage_of r ≡ a) ⊎ (stage_of r ≡ b) → a ≤ 9 → b ≤ 9 → ⊥
 past r a b s (inl e) l m = omega (arith, s, e, l)
 past r a b s (inr e) l m = omega (arith, s, e, m)
@@ -222,3 +229,6 @@ of_std_types_alone G reach bound is _ _ _ (IsEvidence.of_extended r n e on h) s 
     absurd (past r 9 9 s (inl (extended_stage reach is r n (extended_broken reach is r n e on h))) (omega arith)
     (omega arith))
 of_std_types_alone G reach bound is _ _ _ (IsEvidence.of_std_types r n e on h) s = record { on = on; shows = h }
+of_std_types_alone G reach bound is _ _ _ (IsEvidence.of_standard r n b) s =
+    let t = standard_stage G reach is r n b in
+    absurd (omega (arith, s, t))

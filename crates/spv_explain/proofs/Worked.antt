@@ -200,6 +200,7 @@ no_broken _ _ (Broken.of_std_types r n b) e z =
     let s : stage_of r ≡ stages.of_ids = subst (λ q. stage_of q ≡ stages.of_ids) (sym e) refl in
     let t = std_types_stage Profile twice_void r n b in
     absurd (omega (arith, s, t))
+no_broken _ _ (Broken.of_standard r n b) e z = absurd b
 
 pub no_first_lines : (lines : List ℕ) → ¬ (AreLinesOf Short small Profile 5 twice_void D2 0 lines)
 no_first_lines lines l = no_broken D2 0 (suffices small Profile 5 twice_void D2 0 l.evidence l.shows) refl refl

@@ -137,5 +137,7 @@ pub fn evidence_of(
         Reached::Typed(plan, ids) => flow_evidence(alloc, module, plan, ids, fault),
         Reached::Sound => Ok(extended_evidence(alloc, module, fault.inst)?),
         Reached::Called(plan, ids) => Ok(std_evidence(module, plan, ids, fault.inst)),
+        // Of the rules O nothing is looked at again.
+        Reached::Settled(_, _) => Ok(Evidence::Alone),
     }
 }

@@ -19,6 +19,7 @@ parts is n (evidence.Miscast k role m) = refl
 parts is n (evidence.Capability c implied) = refl
 parts is n (evidence.Needs l) = refl
 parts is n evidence.NoEntry = refl
+parts is n evidence.Alone = refl
 parts is n (evidence.Entry part) = refl
 parts is n (evidence.Condition c k m wanted found types) = refl
 parts is n (evidence.Mismatch s wanted found of) = refl

@@ -7,7 +7,7 @@ use Rattle.std.proofs.Common.{get_or}
 use Rattle.spv_table.specs.Table.{Table}
 use Rattle.spv_module.specs.declared.opcode.TheConstants as opcode
 use Rattle.spv_module.specs.Operand.{Plain, PlainInst, Id}
-use Rattle.spv_layout.specs.declared.class.Class.TheVariants as class
+use Rattle.spv_layout.specs.declared.class.Class.TheVariants.{Declaration}
 use Rattle.spv_layout.specs.declared.form.Form.{Form}
 use Rattle.spv_layout.specs.declared.form.Form.TheVariants as form
 use Rattle.spv_layout.specs.declared.form.Role.TheVariants as role
@@ -43,6 +43,9 @@ abbrev pub AreForwards : List PlainInst → Type 0
 AreForwards is = (n x : ℕ) → Announces is n x → IsPointerType is x
 
 -- A member of a struct is a use as a type.
+abbrev of_type : Form
+of_type = form.Id role.OfType
+
 same_long : (G : Table) (fs : List Form) (os : List Plain) → AreOf G fs os → length fs ≡ length os
 same_long G _ _ AreOf.none = refl
 same_long G _ _ (AreOf.more f o fs os h r) = ap suc (same_long G fs os r)
@@ -55,29 +58,29 @@ member_form g _ (suc k) (Ends.again _ gs e) h = member_form g gs k e (omega (ari
 
 -- the row of OpTypeStruct
 abbrev struct_row : PlainRow → Type 0
-struct_row r = (r.fixed ≡ form.Result ∷ []) × (r.ending ≡ repeated (form.Id role.OfType ∷ []))
+struct_row r = (r.fixed ≡ form.Result ∷ []) × (r.ending ≡ repeated (of_type ∷ []))
 
 row_is : (r : PlainRow) → row_of opcode.TYPE_STRUCT ≡ Some r → struct_row r
 unfolding rows
 row_is r e = subst struct_row (same_Some _ r e) (refl, refl)
 
 forms_at : (G : Table) (i : PlainInst) (fs : List Form) (k : ℕ) → i.opcode ≡ opcode.TYPE_STRUCT → HasForms G i fs
-    → suc k < length i.operands → slice_get fs (suc k) ≡ Some (form.Id role.OfType)
+    → suc k < length i.operands → slice_get fs (suc k) ≡ Some of_type
 forms_at G i fs k o h l =
     let s = row_is h.row (subst (λ (n : ℕ). row_of n ≡ Some h.row) o h.known) in
     let e : fs ≡ form.Result ∷ h.rest = h.forms ∙ ap (λ (xs : List Form). xs ++ h.rest) s.0 in
     let long = same_long G fs i.operands h.each in
     let more : length fs ≡ suc (length h.rest) = ap length e in
-    let ends : Ends (repeated (form.Id role.OfType ∷ [])) h.rest = subst (λ x. Ends x h.rest) s.1 h.ending in
+    let ends : Ends (repeated (of_type ∷ [])) h.rest = subst (λ x. Ends x h.rest) s.1 h.ending in
     ap (λ (xs : List Form). slice_get xs (suc k)) e
-    ∙ member_form (form.Id role.OfType) h.rest k ends (omega (arith, long, more, l))
+    ∙ member_form of_type h.rest k ends (omega (arith, long, more, l))
 
 member_use : (G : Table) (i : PlainInst) (k x : ℕ) → i.opcode ≡ opcode.TYPE_STRUCT → FitsShape G i
     → slice_get i.operands (suc k) ≡ Some (Id x) → IsUse G i (suc k) x role.OfType
 member_use G i k x o f at = record {
   forms = f.forms;
   has = f.has;
-  form = form.Id role.OfType;
+  form = of_type;
   operand = Id x;
   form_at = forms_at G i f.forms k o f.has (slice_get_within i.operands (suc k) (Id x) at);
   operand_at = at;
@@ -87,7 +90,7 @@ member_use G i k x o f at = record {
 
 -- A struct stands in section 9.
 class_there : (is : List PlainInst) (n : ℕ) (i : PlainInst) → slice_get is n ≡ Some i → i.opcode ≡ opcode.TYPE_STRUCT
-    → slice_get (classes is) n ≡ Some class.Declaration
+    → slice_get (classes is) n ≡ Some Declaration
 unfolding rows
 class_there is n i at o = class_at is n i at ∙ ap (λ (k : ℕ). Some (class_of k)) o
 
@@ -97,8 +100,8 @@ early i o = rw o refl
 in_section : (G : Table) (is : List PlainInst) (places : List Place) (n s : ℕ) (i : PlainInst) → IsPlan G is places
     → slice_get is n ≡ Some i → i.opcode ≡ opcode.TYPE_STRUCT → IsOfSection is n s → IsOfSection is n 11
 in_section G is places n _ i p at o (IsOfSection.early c s h k) =
-    let e : c ≡ class.Declaration = same_Some c class.Declaration (sym h ∙ class_there is n i at o) in
-    let no : section_of class.Declaration ≡ Some s = subst (λ d. section_of d ≡ Some s) e k in
+    let e : c ≡ Declaration = same_Some c Declaration (sym h ∙ class_there is n i at o) in
+    let no : section_of Declaration ≡ Some s = subst (λ d. section_of d ≡ Some s) e k in
     absurd (cc)
 in_section G is places n _ i p at o (IsOfSection.global c h k nowhere) = IsOfSection.global c h k nowhere
 in_section G is places n _ i p at o (IsOfSection.declaration c f h k l d) =
@@ -154,9 +157,9 @@ are_lower G bound is places plan unbroken forwards n t m members struct member =
     let i = struct.inst in
     let named : slice_get i.operands (suc member.place) ≡ Some (Id member.id) =
     ap (λ (os : List Plain). slice_get os (suc member.place)) struct.operands ∙ member.named in
-    let use = member_use G i member.place member.id struct.opcode (plan.fits n i struct.there) named in
+    let used = member_use G i member.place member.id struct.opcode (plan.fits n i struct.there) named in
     let sound = sound_use G bound is places n (suc member.place) member.id role.OfType plan unbroken
-    (record { inst = i; there = struct.there; used = use }) in
+    (record { inst = i; there = struct.there; used = used }) in
     let section = of_section G is places n i plan struct.there struct.opcode in
     ordered is n member.id m i member.struct.inst forwards struct.there struct.opcode member.struct.there
     member.struct.opcode member.defined.only (sound.order (inr section))

@@ -3,7 +3,7 @@ use Rattle.spv_module.specs.Module.{plain_insts}
 use Rattle.spv_module.specs.declared.fault.Stop.TheVariants as stop
 use Rattle.spv_check.specs.Fork.{fork_of}
 use Rattle.spv_explain.proofs.Shown.{extended_shown, id_shown, layout_shown, mistyping_shown, refused_broken, the_miscall}
-use Rattle.spv_explain.proofs.Shown.{the_mistyping}
+use Rattle.spv_explain.proofs.Shown.{standard_shown, the_mistyping}
 use Rattle.spv_explain.proofs.evidence.evidence_of.Goals as goal
 
 pub layout_evidence-requires : goal.layout_evidence-requires
@@ -84,3 +84,9 @@ returns-in-Called c =
     let is = plain_insts c.args.module.now in
     let r = rw c.in-Called.is at c.requires.refused in
     mistyping_shown c.args.table.now c.args.reach _ is c.args.fault _ r.2.0.broken c.std_evidence.ensures
+
+pub returns-in-Settled : goal.returns-in-Settled
+returns-in-Settled c =
+    let is = plain_insts c.args.module.now in
+    let r = rw c.in-Settled.is at c.requires.refused in
+    standard_shown c.args.table.now c.args.reach _ is c.args.fault r.2.0.broken
