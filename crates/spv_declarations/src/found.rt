@@ -10,7 +10,7 @@ ghost use Rattle.spv_declarations.specs.inner.First.{AreBefore, IsFirstAmong, Is
 use spv_module::Rule;
 
 /// A rule that is broken, and the number of the instruction, from 0.
-#[derive(Clone, Copy, Debug, PartialEq, Eq)]
+#[derive(Clone, Copy)]
 pub struct Found {
     pub rule: Rule,
     pub inst: u32,
