@@ -13,13 +13,13 @@ use Rattle.spv_layout.specs.First.{IsFirst, rank_of, stage_of}
 use Rattle.spv_layout.specs.Place.{first_word_of}
 use Rattle.spv_layout.specs.Stage.{of_standard}
 use Rattle.spv_layout.specs.inner.Outcome.{IsStopAt}
-use Rattle.spv_block_order.specs.Broken as order
-use Rattle.spv_declarations.specs.Broken as declarations
-use Rattle.spv_kernel_operands.specs.Broken as operands
-use Rattle.spv_versions.specs.Broken as versions
+use Rattle.spv_block_order.specs.Broken as by_order
+use Rattle.spv_declarations.specs.Broken as by_declarations
+use Rattle.spv_kernel_operands.specs.Broken as by_operands
+use Rattle.spv_versions.specs.Broken as by_versions
 use Rattle.spv_versions.specs.Missing.{IsLateAt}
 use Rattle.spv_versions.specs.inner.First as late_first
-use Rattle.spv_limits.specs.Broken as limits
+use Rattle.spv_limits.specs.Broken as by_limits
 use Rattle.spv_limits.specs.Past.{IsPast}
 use Rattle.spv_limits.specs.inner.First as past_first
 use Rattle.spv_standard.specs.Broken.{Broken, KernelBroken, IsRefusal}
@@ -31,16 +31,16 @@ use Rattle.spv_standard.proofs.Earlier.{earlier_first, first_same}
 
 -- The rules of two crates, of three, of four and of all, in the order in which the answers are put together.
 abbrev Two : Table → List PlainInst → Rule → ℕ → Type 0
-Two G is = Either (order.Broken G is) (declarations.Broken G is)
+Two G is = Either (by_order.Broken G is) (by_declarations.Broken G is)
 
 abbrev Three : Table → List PlainInst → Rule → ℕ → Type 0
-Three G is = Either (Two G is) (operands.Broken G is)
+Three G is = Either (Two G is) (by_operands.Broken G is)
 
 abbrev Four : Table → ℕ → List PlainInst → Rule → ℕ → Type 0
-Four G minor is = Either (Three G is) (versions.Broken G minor is)
+Four G minor is = Either (Three G is) (by_versions.Broken G minor is)
 
 abbrev All : Table → ℕ → List PlainInst → Rule → ℕ → Type 0
-All G minor is = Either (Four G minor is) (limits.Broken is)
+All G minor is = Either (Four G minor is) (by_limits.Broken is)
 
 to_all : (G : Table) (minor : ℕ) (is : List PlainInst) (r : Rule) (n : ℕ) → All G minor is r n
     → KernelBroken G minor is r n
@@ -68,11 +68,11 @@ pub record AreAnswers (G : Table) (minor : ℕ) (is : List PlainInst) (result : 
   pub two : Option Found
   pub three : Option Found
   pub four : Option Found
-  pub in_order : IsFirstIn (order.Broken G is) order
-  pub in_declarations : IsFirstIn (declarations.Broken G is) declarations
-  pub in_operands : IsFirstIn (operands.Broken G is) operands
-  pub in_version : IsFirstIn (versions.Broken G minor is) version
-  pub in_limits : IsFirstIn (limits.Broken is) limits
+  pub in_order : IsFirstIn (by_order.Broken G is) order
+  pub in_declarations : IsFirstIn (by_declarations.Broken G is) declarations
+  pub in_operands : IsFirstIn (by_operands.Broken G is) operands
+  pub in_version : IsFirstIn (by_versions.Broken G minor is) version
+  pub in_limits : IsFirstIn (by_limits.Broken is) limits
   pub of_two : IsEarlier order declarations two
   pub of_three : IsEarlier two operands three
   pub of_four : IsEarlier three version four
@@ -81,12 +81,12 @@ pub record AreAnswers (G : Table) (minor : ℕ) (is : List PlainInst) (result : 
 pub joined : (G : Table) (minor : ℕ) (is : List PlainInst) (result : Option Found) → AreAnswers G minor is result
     → IsFirstIn (KernelBroken G minor is) result
 joined G minor is result a =
-    let two = earlier_first (order.Broken G is) (declarations.Broken G is) a.order a.declarations a.two
+    let two = earlier_first (by_order.Broken G is) (by_declarations.Broken G is) a.order a.declarations a.two
     a.in_order a.in_declarations a.of_two in
-    let three = earlier_first (Two G is) (operands.Broken G is) a.two a.operands a.three two a.in_operands a.of_three in
-    let four = earlier_first (Three G is) (versions.Broken G minor is) a.three a.version a.four three a.in_version
+    let three = earlier_first (Two G is) (by_operands.Broken G is) a.two a.operands a.three two a.in_operands a.of_three in
+    let four = earlier_first (Three G is) (by_versions.Broken G minor is) a.three a.version a.four three a.in_version
     a.of_four in
-    let all = earlier_first (Four G minor is) (limits.Broken is) a.four a.limits result four a.in_limits a.of_all in
+    let all = earlier_first (Four G minor is) (by_limits.Broken is) a.four a.limits result four a.in_limits a.of_all in
     first_same (All G minor is) (KernelBroken G minor is) result (to_all G minor is) (of_all G minor is) all
 
 -- the crates with one rule
@@ -106,30 +106,30 @@ one_first r P (Some n) s first = record {
 }
 
 to_late : (G : Table) (minor : ℕ) (is : List PlainInst) (q : Rule) (n : ℕ) → OneBroken O21 (IsLateAt G minor is) q n
-    → versions.Broken G minor is q n
+    → by_versions.Broken G minor is q n
 to_late G minor is q n b =
-    subst (λ (r : Rule). versions.Broken G minor is r n) (sym b.0) (versions.late n b.1)
+    subst (λ (r : Rule). by_versions.Broken G minor is r n) (sym b.0) (by_versions.late n b.1)
 
-of_late : (G : Table) (minor : ℕ) (is : List PlainInst) (q : Rule) (n : ℕ) → versions.Broken G minor is q n
+of_late : (G : Table) (minor : ℕ) (is : List PlainInst) (q : Rule) (n : ℕ) → by_versions.Broken G minor is q n
     → OneBroken O21 (IsLateAt G minor is) q n
-of_late G minor is _ _ (versions.late n h) = (refl, h)
+of_late G minor is _ _ (by_versions.late n h) = (refl, h)
 
 pub version_first : (G : Table) (minor : ℕ) (is : List PlainInst) (o : Option ℕ)
-    → late_first.IsFirstOf (IsLateAt G minor is) o → IsFirstIn (versions.Broken G minor is) (found_by O21 o)
+    → late_first.IsFirstOf (IsLateAt G minor is) o → IsFirstIn (by_versions.Broken G minor is) (found_by O21 o)
 version_first G minor is o h =
-    first_same (OneBroken O21 (IsLateAt G minor is)) (versions.Broken G minor is) (found_by O21 o)
+    first_same (OneBroken O21 (IsLateAt G minor is)) (by_versions.Broken G minor is) (found_by O21 o)
     (to_late G minor is) (of_late G minor is) (one_first O21 (IsLateAt G minor is) o refl h)
 
-to_past : (is : List PlainInst) (q : Rule) (n : ℕ) → OneBroken O22 (IsPast is) q n → limits.Broken is q n
-to_past is q n b = subst (λ (r : Rule). limits.Broken is r n) (sym b.0) (limits.past n b.1)
+to_past : (is : List PlainInst) (q : Rule) (n : ℕ) → OneBroken O22 (IsPast is) q n → by_limits.Broken is q n
+to_past is q n b = subst (λ (r : Rule). by_limits.Broken is r n) (sym b.0) (by_limits.past n b.1)
 
-of_past : (is : List PlainInst) (q : Rule) (n : ℕ) → limits.Broken is q n → OneBroken O22 (IsPast is) q n
-of_past is _ _ (limits.past n h) = (refl, h)
+of_past : (is : List PlainInst) (q : Rule) (n : ℕ) → by_limits.Broken is q n → OneBroken O22 (IsPast is) q n
+of_past is _ _ (by_limits.past n h) = (refl, h)
 
 pub limits_first : (is : List PlainInst) (o : Option ℕ) → past_first.IsFirstOf (IsPast is) o
-    → IsFirstIn (limits.Broken is) (found_by O22 o)
+    → IsFirstIn (by_limits.Broken is) (found_by O22 o)
 limits_first is o h =
-    first_same (OneBroken O22 (IsPast is)) (limits.Broken is) (found_by O22 o) (to_past is) (of_past is)
+    first_same (OneBroken O22 (IsPast is)) (by_limits.Broken is) (found_by O22 o) (to_past is) (of_past is)
     (one_first O22 (IsPast is) o refl h)
 
 -- what is told

@@ -31,7 +31,7 @@ at_within : (is : List PlainInst) (P : PlainInst → Type 0) (n : ℕ) → At is
 at_within is P n a = slice_get_within is n a.0 a.1
 
 has_within : (is : List PlainInst) (Says : PlainInst → ℕ → Type 0) (x n : ℕ) → Has is Says x n → n < length is
-has_within is Says x n (Has.own i at s no) = slice_get_within is n i at
+has_within is Says x n (Has.own i at s never) = slice_get_within is n i at
 has_within is Says x n (Has.by_group i j g m at t other s) = slice_get_within is n i at
 
 member_within : (is : List PlainInst) (t k d n : ℕ) → HasOnMember is t k d n → n < length is
@@ -40,8 +40,8 @@ member_within is t k d n (HasOnMember.by_group i j g m at e other s) = slice_get
 
 misplaced_within : (is : List PlainInst) (n : ℕ) → IsMisplaced is n → n < length is
 misplaced_within is n (IsMisplaced.with_id i at o h) = slice_get_within is n i at
-misplaced_within is n (IsMisplaced.on_id x d h no) = has_within is _ x n h
-misplaced_within is n (IsMisplaced.on_member t k d h no) = member_within is t k d n h
+misplaced_within is n (IsMisplaced.on_id x d h never) = has_within is _ x n h
+misplaced_within is n (IsMisplaced.on_member t k d h never) = member_within is t k d n h
 
 second_within : (is : List PlainInst) (n : ℕ) → IsSecond is n → n < length is
 second_within is n s = elim s.greater.2 [
@@ -50,7 +50,7 @@ second_within is n s = elim s.greater.2 [
 ]
 
 half_within : (is : List PlainInst) (n : ℕ) → IsHalfBuiltIn is n → n < length is
-half_within is n (IsHalfBuiltIn.in_part i t k j ms at o e b m no) = slice_get_within is n i at
+half_within is n (IsHalfBuiltIn.in_part i t k j ms at o e b m never) = slice_get_within is n i at
 half_within is n (IsHalfBuiltIn.within i t u ms at o e h b) = slice_get_within is n i at
 
 declarations_within : (G : Table) (is : List PlainInst) (r : Rule) (n : ℕ) → declarations.Broken G is r n

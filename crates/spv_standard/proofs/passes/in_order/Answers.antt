@@ -1,0 +1,7 @@
+use Rattle.spv_standard.proofs.passes.in_order.Goals as goal
+
+pub returns-in-Ok : goal.returns-in-Ok
+returns-in-Ok c = λ fork G plan ids unbroken. c.in-Ok.ensures.unbroken fork G plan ids unbroken
+
+pub returns-in-Err-Fault : goal.returns-in-Err-Fault
+returns-in-Err-Fault c = λ fork G plan ids unbroken. (c.in-Err-Fault.ensures.refused fork G plan ids unbroken).0
