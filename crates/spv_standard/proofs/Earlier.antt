@@ -25,6 +25,10 @@ turned a b never = elim (cases_order a.inst b.inst) [
   | inr apart ↦ elim apart [ inl less ↦ absurd (never (inl less)) | inr more ↦ inl more ]
 ]
 
+pub second_told : (one other : Option Found) (a b : Found) → one ≡ Some a → other ≡ Some b → ¬ (ComesBefore a b)
+    → IsEarlier one other (Some b)
+second_told one other a b e f never = rw (e, f) (inr refl, turned a b never, before_itself b)
+
 chained : (f a : Found) (q : Rule) (m : ℕ) → ComesBefore f a
     → (a.inst < m) ⊎ ((a.inst ≡ m) × (rank_of a.rule ≤ rank_of q))
     → (f.inst < m) ⊎ ((f.inst ≡ m) × (rank_of f.rule ≤ rank_of q))
