@@ -5,7 +5,7 @@ use Rattle.spv_table.specs.Table.{Table}
 use Rattle.spv_module.specs.declared.opcode.TheConstants as opcode
 use Rattle.spv_module.specs.Operand.{Plain, Result, Id, Word, Value, PlainInst}
 use Rattle.spv_type_forms.specs.declared.form.Form.{Form}
-use Rattle.spv_type_forms.specs.declared.form.Object.{Object}
+use Rattle.spv_type_kinds.specs.declared.kinds.Object.{Object}
 use Rattle.spv_type_forms.specs.declared.form.Form.TheVariants as form
 use Rattle.spv_type_forms.specs.declared.form.Scalar.TheVariants as scalar
 use Rattle.spv_type_forms.specs.Form.{form_in, float_in, vector_in, array_in, pointer_in, sampled_image_in, object_of}

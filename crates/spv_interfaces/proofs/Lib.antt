@@ -1,0 +1,10 @@
+pub mod Bits
+pub mod Marking
+pub mod Placing
+pub mod Using
+pub mod Interfaces
+pub mod Entering
+pub mod Naming
+pub mod Clearing
+pub mod Unused
+pub mod Worked

@@ -1,0 +1,4 @@
+pub mod Interface
+pub mod Broken
+pub mod Example
+pub mod inner

@@ -1,0 +1,7 @@
+-- Definitions that serve the code alone.
+pub mod First
+pub mod Wanted
+pub mod Uses
+pub mod Marks
+pub mod Entries
+pub mod Cleared

@@ -1,0 +1,14 @@
+//! The interfaces of entry points of a kernel of OpenCL: the rule O4 (SPIR-V Specification 1.6, OpEntryPoint).
+#![tactic(auto)]
+
+mod classes;
+mod cleared;
+mod entries;
+pub mod laws;
+mod marks;
+mod misfaced;
+mod named;
+mod order;
+mod used;
+
+pub use misfaced::first_misfaced;
