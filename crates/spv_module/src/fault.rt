@@ -3,17 +3,11 @@ ghost use Rattle.std.specs.Prelude.{◌≡◌};
 use std::alloc::{AllocError, AllocFailed};
 
 /// A rule of the profile, by its code: I of single instructions, P of the profile, L of layout, D of ids, Y, C, M and E
-<<<<<<< ours
 /// of types and declarations, F and A of flow, G of calls, and O of what the standard asks of a kernel of OpenCL
 /// besides, which is asked only where a module is looked at as one. They stand in the order in which they are told: by
 /// stage, and within a stage at one instruction. The numbers in brackets are sections of the Khronos SPIR-V
 /// Specification 1.6, and names are those of instructions in it.
-#[derive(Clone, Copy, Debug, PartialEq, Eq)]
-=======
-/// of types and declarations, F and A of flow, G of calls. They stand in the order in which they are told: by stage,
-/// and within a stage at one instruction. The numbers in brackets are sections of the Khronos SPIR-V Specification 1.6.
 #[derive(Clone, Copy, PartialEq, Eq)]
->>>>>>> theirs
 pub enum Rule {
     /// The first word of an instruction tells a count of 0 words. (2.3)
     I1,
