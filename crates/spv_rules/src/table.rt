@@ -543,15 +543,15 @@ pub static STANDARD_ROWS: &[Row] = &[
         1308,
         "No id is decorated both Restrict and Aliased.",
         "2.18.2",
-        "an instruction by which an id has Restrict (19) or Aliased (20), where it has the other by another one: of \
-        the least instruction by which it has the one and the least by which it has the other, the greater"
+        "an instruction by which an id has Restrict (19) or Aliased (20): the id has both, and of the least \
+        instruction by which it has the one and the least by which it has the other, this is the greater"
     ),
     rule!(
         O9,
         1309,
         "The function of an entry point has no linkage.",
         "2.16.1",
-        "an instruction by which the function of an OpEntryPoint has LinkageAttributes (41)"
+        "an instruction by which a function has LinkageAttributes (41): the function is that of an OpEntryPoint"
     ),
     rule!(
         O10,

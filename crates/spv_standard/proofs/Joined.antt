@@ -5,7 +5,7 @@ use Rattle.std.proofs.lemmas.Bool.{cases_order}
 use Rattle.spv_table.specs.Table.{Table}
 use Rattle.spv_module.specs.Operand.{PlainInst}
 use Rattle.spv_module.specs.declared.fault.Rule.{Rule}
-use Rattle.spv_module.specs.declared.fault.Rule.TheVariants.{O21, O22}
+use Rattle.spv_module.specs.declared.fault.Rule.TheVariants.{O4, O21, O22}
 use Rattle.spv_module.specs.declared.fault.Stop.{Stop}
 use Rattle.spv_module.specs.declared.fault.Stop.TheVariants.{Fault, Memory}
 use Rattle.spv_extended.specs.declared.reach.Reach.TheVariants.{OpenCl}
@@ -15,6 +15,9 @@ use Rattle.spv_layout.specs.Stage.{of_standard}
 use Rattle.spv_layout.specs.inner.Outcome.{IsStopAt}
 use Rattle.spv_block_order.specs.Broken as by_order
 use Rattle.spv_declarations.specs.Broken as by_declarations
+use Rattle.spv_interfaces.specs.Broken as by_interfaces
+use Rattle.spv_interfaces.specs.Interface.{IsMisfaced}
+use Rattle.spv_interfaces.specs.inner.First as misfaced_first
 use Rattle.spv_kernel_operands.specs.Broken as by_operands
 use Rattle.spv_versions.specs.Broken as by_versions
 use Rattle.spv_versions.specs.Missing.{IsLateAt}
@@ -29,31 +32,36 @@ use Rattle.spv_standard.specs.inner.First.{Either, IsFirstIn}
 use Rattle.spv_standard.specs.inner.Found.{found_by}
 use Rattle.spv_standard.proofs.Earlier.{earlier_first, first_same}
 
--- The rules of two crates, of three, of four and of all, in the order in which the answers are put together.
+-- The rules of two crates, of three, of four, of five and of all, in the order in which the answers are put together.
 abbrev Two : Table → List PlainInst → Rule → ℕ → Type 0
 Two G is = Either (by_order.Broken G is) (by_declarations.Broken G is)
 
-abbrev Three : Table → List PlainInst → Rule → ℕ → Type 0
-Three G is = Either (Two G is) (by_operands.Broken G is)
+abbrev Three : Table → ℕ → List PlainInst → Rule → ℕ → Type 0
+Three G minor is = Either (Two G is) (by_interfaces.Broken G minor is)
 
 abbrev Four : Table → ℕ → List PlainInst → Rule → ℕ → Type 0
-Four G minor is = Either (Three G is) (by_versions.Broken G minor is)
+Four G minor is = Either (Three G minor is) (by_operands.Broken G is)
+
+abbrev Five : Table → ℕ → List PlainInst → Rule → ℕ → Type 0
+Five G minor is = Either (Four G minor is) (by_versions.Broken G minor is)
 
 abbrev All : Table → ℕ → List PlainInst → Rule → ℕ → Type 0
-All G minor is = Either (Four G minor is) (by_limits.Broken is)
+All G minor is = Either (Five G minor is) (by_limits.Broken is)
 
 to_all : (G : Table) (minor : ℕ) (is : List PlainInst) (r : Rule) (n : ℕ) → All G minor is r n
     → KernelBroken G minor is r n
-to_all G minor is r n (inl (inl (inl (inl b)))) = KernelBroken.of_order r n b
-to_all G minor is r n (inl (inl (inl (inr b)))) = KernelBroken.of_declarations r n b
+to_all G minor is r n (inl (inl (inl (inl (inl b))))) = KernelBroken.of_order r n b
+to_all G minor is r n (inl (inl (inl (inl (inr b))))) = KernelBroken.of_declarations r n b
+to_all G minor is r n (inl (inl (inl (inr b)))) = KernelBroken.of_interfaces r n b
 to_all G minor is r n (inl (inl (inr b))) = KernelBroken.of_operands r n b
 to_all G minor is r n (inl (inr b)) = KernelBroken.of_versions r n b
 to_all G minor is r n (inr b) = KernelBroken.of_limits r n b
 
 of_all : (G : Table) (minor : ℕ) (is : List PlainInst) (r : Rule) (n : ℕ) → KernelBroken G minor is r n
     → All G minor is r n
-of_all G minor is _ _ (KernelBroken.of_order r n b) = inl (inl (inl (inl b)))
-of_all G minor is _ _ (KernelBroken.of_declarations r n b) = inl (inl (inl (inr b)))
+of_all G minor is _ _ (KernelBroken.of_order r n b) = inl (inl (inl (inl (inl b))))
+of_all G minor is _ _ (KernelBroken.of_declarations r n b) = inl (inl (inl (inl (inr b))))
+of_all G minor is _ _ (KernelBroken.of_interfaces r n b) = inl (inl (inl (inr b)))
 of_all G minor is _ _ (KernelBroken.of_operands r n b) = inl (inl (inr b))
 of_all G minor is _ _ (KernelBroken.of_versions r n b) = inl (inr b)
 of_all G minor is _ _ (KernelBroken.of_limits r n b) = inr b
@@ -62,31 +70,38 @@ of_all G minor is _ _ (KernelBroken.of_limits r n b) = inr b
 pub record AreAnswers (G : Table) (minor : ℕ) (is : List PlainInst) (result : Option Found) : Type 0 where
   pub order : Option Found
   pub declarations : Option Found
+  pub interfaces : Option Found
   pub operands : Option Found
   pub version : Option Found
   pub limits : Option Found
   pub two : Option Found
   pub three : Option Found
   pub four : Option Found
+  pub five : Option Found
   pub in_order : IsFirstIn (by_order.Broken G is) order
   pub in_declarations : IsFirstIn (by_declarations.Broken G is) declarations
+  pub in_interfaces : IsFirstIn (by_interfaces.Broken G minor is) interfaces
   pub in_operands : IsFirstIn (by_operands.Broken G is) operands
   pub in_version : IsFirstIn (by_versions.Broken G minor is) version
   pub in_limits : IsFirstIn (by_limits.Broken is) limits
   pub of_two : IsEarlier order declarations two
-  pub of_three : IsEarlier two operands three
-  pub of_four : IsEarlier three version four
-  pub of_all : IsEarlier four limits result
+  pub of_three : IsEarlier two interfaces three
+  pub of_four : IsEarlier three operands four
+  pub of_five : IsEarlier four version five
+  pub of_all : IsEarlier five limits result
 
 pub joined : (G : Table) (minor : ℕ) (is : List PlainInst) (result : Option Found) → AreAnswers G minor is result
     → IsFirstIn (KernelBroken G minor is) result
 joined G minor is result a =
     let two = earlier_first (by_order.Broken G is) (by_declarations.Broken G is) a.order a.declarations a.two
     a.in_order a.in_declarations a.of_two in
-    let three = earlier_first (Two G is) (by_operands.Broken G is) a.two a.operands a.three two a.in_operands a.of_three in
-    let four = earlier_first (Three G is) (by_versions.Broken G minor is) a.three a.version a.four three a.in_version
+    let three = earlier_first (Two G is) (by_interfaces.Broken G minor is) a.two a.interfaces a.three two a.in_interfaces
+    a.of_three in
+    let four = earlier_first (Three G minor is) (by_operands.Broken G is) a.three a.operands a.four three a.in_operands
     a.of_four in
-    let all = earlier_first (Four G minor is) (by_limits.Broken is) a.four a.limits result four a.in_limits a.of_all in
+    let five = earlier_first (Four G minor is) (by_versions.Broken G minor is) a.four a.version a.five four a.in_version
+    a.of_five in
+    let all = earlier_first (Five G minor is) (by_limits.Broken is) a.five a.limits result five a.in_limits a.of_all in
     first_same (All G minor is) (KernelBroken G minor is) result (to_all G minor is) (of_all G minor is) all
 
 -- the crates with one rule
@@ -119,6 +134,21 @@ pub version_first : (G : Table) (minor : ℕ) (is : List PlainInst) (o : Option 
 version_first G minor is o h =
     first_same (OneBroken O21 (IsLateAt G minor is)) (by_versions.Broken G minor is) (found_by O21 o)
     (to_late G minor is) (of_late G minor is) (one_first O21 (IsLateAt G minor is) o refl h)
+
+to_misfaced : (G : Table) (minor : ℕ) (is : List PlainInst) (q : Rule) (n : ℕ) → OneBroken O4 (IsMisfaced G minor is) q n
+    → by_interfaces.Broken G minor is q n
+to_misfaced G minor is q n b =
+    subst (λ (r : Rule). by_interfaces.Broken G minor is r n) (sym b.0) (by_interfaces.misfaced n b.1)
+
+of_misfaced : (G : Table) (minor : ℕ) (is : List PlainInst) (q : Rule) (n : ℕ) → by_interfaces.Broken G minor is q n
+    → OneBroken O4 (IsMisfaced G minor is) q n
+of_misfaced G minor is _ _ (by_interfaces.misfaced n h) = (refl, h)
+
+pub interfaces_first : (G : Table) (minor : ℕ) (is : List PlainInst) (o : Option ℕ)
+    → misfaced_first.IsFirstOf (IsMisfaced G minor is) o → IsFirstIn (by_interfaces.Broken G minor is) (found_by O4 o)
+interfaces_first G minor is o h =
+    first_same (OneBroken O4 (IsMisfaced G minor is)) (by_interfaces.Broken G minor is) (found_by O4 o)
+    (to_misfaced G minor is) (of_misfaced G minor is) (one_first O4 (IsMisfaced G minor is) o refl h)
 
 to_past : (is : List PlainInst) (q : Rule) (n : ℕ) → OneBroken O22 (IsPast is) q n → by_limits.Broken is q n
 to_past is q n b = subst (λ (r : Rule). by_limits.Broken is r n) (sym b.0) (by_limits.past n b.1)

@@ -3,3 +3,4 @@ pub mod Joined
 pub mod Lower
 pub mod Stages
 pub mod Within
+pub mod Worked

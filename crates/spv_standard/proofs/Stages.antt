@@ -8,6 +8,7 @@ use Rattle.spv_extended.specs.declared.reach.Reach.TheVariants.{Profile, Extende
 use Rattle.spv_layout.specs.First.{stage_of}
 use Rattle.spv_layout.specs.Stage.{of_standard}
 use Rattle.spv_block_order.specs.Broken as order
+use Rattle.spv_interfaces.specs.Broken as interfaces
 use Rattle.spv_declarations.specs.Broken as declarations
 use Rattle.spv_kernel_operands.proofs.Firsts.{stage_by}
 use Rattle.spv_versions.specs.Broken as versions
@@ -17,6 +18,10 @@ use Rattle.spv_standard.specs.Broken.{Broken, KernelBroken}
 of_order : (G : Table) (is : List PlainInst) (r : Rule) (n : ℕ) → order.Broken G is r n → stage_of r ≡ of_standard
 of_order G is _ _ (order.early_block n b) = refl
 of_order G is _ _ (order.early_use n u) = refl
+
+of_interfaces : (G : Table) (minor : ℕ) (is : List PlainInst) (r : Rule) (n : ℕ) → interfaces.Broken G minor is r n
+    → stage_of r ≡ of_standard
+of_interfaces G minor is _ _ (interfaces.misfaced n h) = refl
 
 of_declarations : (G : Table) (is : List PlainInst) (r : Rule) (n : ℕ) → declarations.Broken G is r n
     → stage_of r ≡ of_standard
@@ -41,6 +46,7 @@ of_limits is _ _ (limits.past n h) = refl
 pub kernel_stage : (G : Table) (minor : ℕ) (is : List PlainInst) (r : Rule) (n : ℕ) → KernelBroken G minor is r n
     → stage_of r ≡ of_standard
 kernel_stage G minor is _ _ (KernelBroken.of_order r n b) = of_order G is r n b
+kernel_stage G minor is _ _ (KernelBroken.of_interfaces r n b) = of_interfaces G minor is r n b
 kernel_stage G minor is _ _ (KernelBroken.of_declarations r n b) = of_declarations G is r n b
 kernel_stage G minor is _ _ (KernelBroken.of_operands r n b) = stage_by G is r n b
 kernel_stage G minor is _ _ (KernelBroken.of_versions r n b) = of_versions G minor is r n b

@@ -7,6 +7,7 @@ use Rattle.spv_module.specs.Operand.{PlainInst}
 use Rattle.spv_module.specs.declared.fault.Rule.{Rule}
 use Rattle.spv_flow.specs.branches.Target.{is_label, IsOp}
 use Rattle.spv_block_order.specs.Broken as order
+use Rattle.spv_interfaces.specs.Broken as interfaces
 use Rattle.spv_declarations.specs.Broken as declarations
 use Rattle.spv_declarations.specs.Decorated.{Has, HasOnMember, IsHalfBuiltIn, IsMisplaced, IsSecond}
 use Rattle.spv_declarations.specs.Given.{At}
@@ -26,6 +27,10 @@ op_within is n op = some_get is n (slice_get is n) _ refl op
 order_within : (G : Table) (is : List PlainInst) (r : Rule) (n : ℕ) → order.Broken G is r n → n < length is
 order_within G is _ _ (order.early_block n b) = op_within is n b.1.label
 order_within G is _ _ (order.early_use n u) = u.of.begun.within
+
+interfaces_within : (G : Table) (minor : ℕ) (is : List PlainInst) (r : Rule) (n : ℕ) → interfaces.Broken G minor is r n
+    → n < length is
+interfaces_within G minor is _ _ (interfaces.misfaced n h) = slice_get_within is n h.inst h.there
 
 at_within : (is : List PlainInst) (P : PlainInst → Type 0) (n : ℕ) → At is P n → n < length is
 at_within is P n a = slice_get_within is n a.0 a.1
@@ -76,6 +81,7 @@ limits_within is _ _ (limits.past n h) = slice_get_within is n h.0 h.1
 pub kernel_within : (G : Table) (minor : ℕ) (is : List PlainInst) (r : Rule) (n : ℕ) → KernelBroken G minor is r n
     → n < length is
 kernel_within G minor is _ _ (KernelBroken.of_order r n b) = order_within G is r n b
+kernel_within G minor is _ _ (KernelBroken.of_interfaces r n b) = interfaces_within G minor is r n b
 kernel_within G minor is _ _ (KernelBroken.of_declarations r n b) = declarations_within G is r n b
 kernel_within G minor is _ _ (KernelBroken.of_operands r n b) = broken_there G is r n b
 kernel_within G minor is _ _ (KernelBroken.of_versions r n b) = versions_within G minor is r n b

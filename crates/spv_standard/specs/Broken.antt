@@ -11,17 +11,20 @@ use Rattle.spv_layout.specs.First.{IsFirst}
 use Rattle.spv_layout.specs.Place.{first_word_of}
 use Rattle.spv_layout.specs.Stage.{of_standard}
 use Rattle.spv_block_order.specs.Broken as order
+use Rattle.spv_interfaces.specs.Broken as interfaces
 use Rattle.spv_declarations.specs.Broken as declarations
 use Rattle.spv_kernel_operands.specs.Broken as operands
 use Rattle.spv_versions.specs.Broken as versions
 use Rattle.spv_limits.specs.Broken as limits
 
 -- In a kernel of version 1.minor the rule is broken at the instruction of that number: a rule on the order of blocks, or
--- of instructions in them; on entry points, names, decorations and types; on the operands of single instructions; on
--- what the version has; or on the universal limits. [own]
+-- of instructions in them; on the interfaces of entry points; on entry points, names, decorations and types; on the
+-- operands of single instructions; on what the version has; or on the universal limits. [own]
 pub data KernelBroken (G : Table) (minor : ℕ) (is : List PlainInst) : Rule → ℕ → Type 0 where
   -- O1 and O2
   of_order : (r : Rule) (n : ℕ) → order.Broken G is r n → KernelBroken G minor is r n
+  -- O4
+  of_interfaces : (r : Rule) (n : ℕ) → interfaces.Broken G minor is r n → KernelBroken G minor is r n
   -- O3 and O5 to O13
   of_declarations : (r : Rule) (n : ℕ) → declarations.Broken G is r n → KernelBroken G minor is r n
   -- O14 to O20, and O23

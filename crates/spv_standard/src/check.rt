@@ -15,7 +15,7 @@ ghost use Rattle.spv_standard.specs.Broken.{Broken, KernelBroken, IsRefusal};
 ghost use Rattle.spv_standard.specs.inner.First.{IsFirstIn};
 
 use crate::found::{Found, earlier};
-use crate::passes::{in_declarations, in_limits, in_operands, in_order, in_version};
+use crate::passes::{in_declarations, in_interfaces, in_limits, in_operands, in_order, in_version};
 use spv_capabilities::Survey;
 use spv_extended::Reach;
 use spv_ids::Ids;
@@ -49,10 +49,12 @@ fn first_broken(
     let definitions = Definitions::new(insts, plan, ids);
     let order = in_order(alloc, module, plan, ids)?;
     let declarations = in_declarations(alloc, &survey, insts, plan, ids)?;
+    let interfaces = in_interfaces(alloc, &definitions, insts, plan, ids, minor)?;
     let operands = in_operands(alloc, &survey, &definitions, count)?;
     let version = in_version(table, &definitions, minor, count);
     let limits = in_limits(alloc, &definitions, count)?;
     let found = earlier(order, declarations);
+    let found = earlier(found, interfaces);
     let found = earlier(found, operands);
     let found = earlier(found, version);
     Ok(earlier(found, limits))
@@ -64,7 +66,8 @@ fn first_broken(
 ///
 /// A `Fault` tells the first rule of stage O that is broken, by instruction and at one instruction by number, with that
 /// instruction's first word (words and instructions from 0): O1 and O2 as `check_order` tells them, O3 and O5 to O13 as
-/// `first_misdeclared`, O14 to O20 and O23 as `check_operands`, O21 as `first_late`, and O22 as `first_past`.
+/// `first_misdeclared`, O4 as `first_misfaced`, O14 to O20 and O23 as `first_found`, O21 as `first_late`, and O22 as
+/// `first_past`.
 ///
 /// `Memory` comes only where a growth of memory was refused.
 pub fn standard_check(

@@ -11,6 +11,7 @@ ghost use Rattle.spv_ids.specs.Outcome.{AreIds, IsDefinitionOf, definition_in};
 ghost use Rattle.spv_flow.specs.branches.Broken as flow;
 ghost use Rattle.spv_flow.specs.declared.branches.fork.Fork.{Fork};
 ghost use Rattle.spv_block_order.specs.Broken as order;
+ghost use Rattle.spv_interfaces.specs.Broken as interfaces;
 ghost use Rattle.spv_declarations.specs.Broken as declarations;
 ghost use Rattle.spv_kernel_operands.specs.Broken as operands;
 ghost use Rattle.spv_versions.specs.Broken as versions;
@@ -23,6 +24,7 @@ use spv_block_order::check_order;
 use spv_capabilities::Survey;
 use spv_declarations::first_misdeclared;
 use spv_ids::Ids;
+use spv_interfaces::first_misfaced;
 use spv_kernel_operands::first_found;
 use spv_layout::Plan;
 use spv_limits::first_past;
@@ -79,6 +81,28 @@ pub fn in_declarations(
         })),
         None => Ok(None),
     }
+}
+
+/// Where O4 is first broken in a module of version 1.`minor`.
+pub fn in_interfaces(
+    alloc: Global,
+    definitions: &Definitions,
+    insts: &[Inst<'_>],
+    plan: &Plan,
+    ids: &Ids,
+    minor: u8,
+) -> Result<Option<Found>, Memory>
+    requires few { AreFew insts.now }
+    requires same { definitions.now ≡ map plain_inst insts.now }
+    requires plan { (G : Table) × IsPlan G (map plain_inst insts.now) plan.now }
+    requires ids { (x : ℕ) → IsDefinitionOf (map plain_inst insts.now) x (definition_in ids.now x) }
+    ensures { (G : Table) → IsPlan G (map plain_inst insts.now) plan.now
+        → IfOk result (IsFirstIn (interfaces.Broken G minor definitions.now)) }
+{
+    Ok(found_by(
+        Rule::O4,
+        first_misfaced(alloc, definitions, insts, plan, ids, minor)?,
+    ))
 }
 
 /// The first of O14 to O20 and O23 that is broken. `count` is how many instructions there are.
