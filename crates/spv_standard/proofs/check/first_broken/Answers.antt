@@ -55,6 +55,13 @@ in_interfaces-requires-clause-few c =
     let q : IsShort (map plain_inst xs) = rw c.as_slice-insts.ensures.value c.requires.words in
     omega arith
 
+pub in_interfaces-requires-clause-plan : goal.in_interfaces-requires-clause-plan
+in_interfaces-requires-clause-plan c = (
+  c.args.table.now,
+  subst (λ is. IsPlan c.args.table.now is c.args.plan.now)
+      (ap (λ items. map plain_inst items) (sym c.as_slice-insts.ensures.value)) c.requires.plan,
+)
+
 pub in_interfaces-requires-clause-ids : goal.in_interfaces-requires-clause-ids
 in_interfaces-requires-clause-ids c = λ x.
     subst (λ is. IsDefinitionOf is x (definition_in c.args.ids.now x))
