@@ -648,7 +648,7 @@ pub static STANDARD_ROWS: &[Row] = &[
         "3, 3.49.4; own",
         "any instruction: its opcode, or a value or a set bit among its operands, came with a later version than \
         that of the header, or with none, and no OpExtension of the module names an extension that has it; or it \
-        has a form that came with a later version"
+        has a form that came with a later version, or is an instruction that went with an earlier one"
     ),
     rule!(
         O22,

@@ -10,7 +10,8 @@ use Rattle.spv_table.specs.Table.{Table}
 use Rattle.spv_table.specs.Lookups.{number_named}
 use Rattle.spv_module.specs.Operand.{Plain, OfType, Result, Id, Text, Value, Mask, PlainInst}
 use Rattle.spv_versions.specs.declared.table.Kind.{Kind}
-use Rattle.spv_versions.specs.Missing.{IsLate, IsLateAt, IsMissing, SelectsWhole, number, two_masks, whole, no_meaning}
+use Rattle.spv_versions.specs.Missing.{IsLate, IsLateAt, IsMissing, SelectsWhole, number, two_masks, whole}
+use Rattle.spv_versions.specs.Missing.{no_either, no_weak, no_meaning}
 use Rattle.spv_versions.specs.Named.{HasNumber, of_opcode, of_value, of_bit}
 use Rattle.spv_versions.specs.Table.{lines, name_of}
 use Rattle.spv_versions.specs.inner.Lines.{IsListed}
@@ -113,6 +114,8 @@ form_late G minor is flags b i told (form.two_masks l o m) = two_masks l o m
 form_late G minor is flags b i told (form.whole l o h) =
     let p = whole_parts is i.operands h in
     whole p.0 p.1 p.2 p.3 l o p.4 p.5
+form_late G minor is flags b i told (form.no_either l o) = no_either l o
+form_late G minor is flags b i told (form.no_weak l o) = no_weak l o
 form_late G minor is flags b i told (form.no_meaning t o h) =
     let p = name_parts i.operands h in
     let m = told.meaning.0 t in
@@ -153,6 +156,8 @@ late_hit G minor is flags b ns i told numbers (number k n has m) =
 late_hit G minor is flags b ns i told numbers (two_masks l o m) = inr (form.two_masks l o m)
 late_hit G minor is flags b ns i told numbers (whole t x c os l o e h) =
     inr (form.whole l o (subst (AreWhole is) (sym e) h))
+late_hit G minor is flags b ns i told numbers (no_either l o) = inr (form.no_either l o)
+late_hit G minor is flags b ns i told numbers (no_weak l o) = inr (form.no_weak l o)
 late_hit G minor is flags b ns i told numbers (no_meaning x name os l o e h d) =
     inr (form.no_meaning (told.meaning.1 (l, d)) o (subst AreOfNoMeaning (sym e) h))
 

@@ -34,14 +34,16 @@ SelectsWhole is t x =
     ⊎ (form_of is t ≡ Some form.Struct)
     ⊎ (((c n : ℕ) × IsVector is t c n) × ((b : ℕ) × (type_of is x ≡ Some b) × IsBool is b))
 
--- The instruction i of a module of version 1.minor is what that version does not have. [3; OpCopyMemory, OpSelect;
--- SPV_KHR_non_semantic_info]
+-- The instruction i of a module of version 1.minor is what that version does not have, or has no more. [3; OpCopyMemory,
+-- OpSelect; OpLessOrGreater, OpAtomicCompareExchangeWeak: 'missing after'; SPV_KHR_non_semantic_info]
 pub data IsLate (G : Table) (minor : ℕ) (is : List PlainInst) (i : PlainInst) : Type 0 where
   number : (k : Kind) (n : ℕ) → HasNumber G i k n → IsMissing minor is k n → IsLate G minor is i
   two_masks : minor < 4 → (i.opcode ≡ opcode.COPY_MEMORY) ⊎ (i.opcode ≡ opcode.COPY_MEMORY_SIZED)
       → 2 ≤ count_by is_mask i.operands → IsLate G minor is i
   whole : (t x c : ℕ) (os : List Plain) → minor < 4 → i.opcode ≡ opcode.SELECT
       → i.operands ≡ OfType t ∷ Result x ∷ Id c ∷ os → SelectsWhole is t c → IsLate G minor is i
+  no_either : 5 < minor → i.opcode ≡ opcode.LESS_OR_GREATER → IsLate G minor is i
+  no_weak : 3 < minor → i.opcode ≡ opcode.ATOMIC_COMPARE_EXCHANGE_WEAK → IsLate G minor is i
   no_meaning : (x : ℕ) (name : List ℕ) (os : List Plain) → minor < 6 → i.opcode ≡ opcode.EXT_INST_IMPORT
       → i.operands ≡ Result x ∷ Text name ∷ os → IsTrue (starts_with nat_eq name (codes "NonSemantic."))
       → ¬ (IsDeclared is (codes "SPV_KHR_non_semantic_info")) → IsLate G minor is i

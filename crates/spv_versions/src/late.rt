@@ -14,7 +14,7 @@ use spv_module::Inst;
 use spv_table::Table;
 use spv_type_forms::Definitions;
 
-/// Whether an instruction has what is missing, or a form that came with a later version.
+/// Whether an instruction has what is missing, or a form that the version does not have.
 #[inline(always)]
 fn is_late(
     definitions: &Definitions,

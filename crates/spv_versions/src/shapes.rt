@@ -1,4 +1,4 @@
-//! Forms of instructions that came with later versions.
+//! Forms of instructions that came with later versions, and instructions that went.
 
 ghost use Rattle.std.specs.Prelude.{◌≡◌, ◌≤◌, ◌↔◌, IsTrue, codes, count_by, nat_eq};
 ghost use Rattle.std.specs.List.{starts_with};
@@ -12,6 +12,11 @@ use spv_type_forms::{Definitions, Form, is_bool};
 
 /// From this minor version on copies have two masks, and arrays, structs and whole vectors are selected.
 const WIDER_FORMS: u8 = 4;
+
+/// The last minor versions that have OpLessOrGreater and OpAtomicCompareExchangeWeak.
+const LAST_OF_EITHER: u8 = 5;
+
+const LAST_OF_WEAK: u8 = 3;
 
 /// Whether an operand is a mask.
 fn is_mask(operand: Operand<'_>) -> bool
@@ -90,7 +95,7 @@ fn are_of_no_meaning(operands: &[Operand<'_>]) -> bool
     }
 }
 
-/// Whether an instruction has a form that came with a later version.
+/// Whether an instruction has a form that came with a later version, or is one that went with an earlier one.
 #[inline(always)]
 pub fn has_late_form(
     definitions: &Definitions,
@@ -107,6 +112,8 @@ pub fn has_late_form(
             minor < WIDER_FORMS && 2 <= count_masks(operands)
         }
         opcode::SELECT => minor < WIDER_FORMS && are_whole(definitions, operands),
+        opcode::LESS_OR_GREATER => minor > LAST_OF_EITHER,
+        opcode::ATOMIC_COMPARE_EXCHANGE_WEAK => minor > LAST_OF_WEAK,
         opcode::EXT_INST_IMPORT => missing.is_without_meaning && are_of_no_meaning(operands),
         _ => false,
     }
