@@ -95,8 +95,8 @@ pub joined : (G : Table) (minor : ℕ) (is : List PlainInst) (result : Option Fo
 joined G minor is result a =
     let two = earlier_first (by_order.Broken G is) (by_declarations.Broken G is) a.order a.declarations a.two
     a.in_order a.in_declarations a.of_two in
-    let three = earlier_first (Two G is) (by_interfaces.Broken G minor is) a.two a.interfaces a.three two a.in_interfaces
-    a.of_three in
+    let three = earlier_first (Two G is) (by_interfaces.Broken G minor is) a.two a.interfaces a.three two
+    a.in_interfaces a.of_three in
     let four = earlier_first (Three G minor is) (by_operands.Broken G is) a.three a.operands a.four three a.in_operands
     a.of_four in
     let five = earlier_first (Four G minor is) (by_versions.Broken G minor is) a.four a.version a.five four a.in_version
@@ -135,8 +135,8 @@ version_first G minor is o h =
     first_same (OneBroken O21 (IsLateAt G minor is)) (by_versions.Broken G minor is) (found_by O21 o)
     (to_late G minor is) (of_late G minor is) (one_first O21 (IsLateAt G minor is) o refl h)
 
-to_misfaced : (G : Table) (minor : ℕ) (is : List PlainInst) (q : Rule) (n : ℕ) → OneBroken O4 (IsMisfaced G minor is) q n
-    → by_interfaces.Broken G minor is q n
+to_misfaced : (G : Table) (minor : ℕ) (is : List PlainInst) (q : Rule) (n : ℕ)
+    → OneBroken O4 (IsMisfaced G minor is) q n → by_interfaces.Broken G minor is q n
 to_misfaced G minor is q n b =
     subst (λ (r : Rule). by_interfaces.Broken G minor is r n) (sym b.0) (by_interfaces.misfaced n b.1)
 

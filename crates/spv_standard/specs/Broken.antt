@@ -17,8 +17,8 @@ use Rattle.spv_kernel_operands.specs.Broken as operands
 use Rattle.spv_versions.specs.Broken as versions
 use Rattle.spv_limits.specs.Broken as limits
 
--- In a kernel of version 1.minor the rule is broken at the instruction of that number: a rule on the order of blocks, or
--- of instructions in them; on the interfaces of entry points; on entry points, names, decorations and types; on the
+-- In a kernel of version 1.minor the rule is broken at the instruction of that number: a rule on the order of blocks,
+-- or of instructions in them; on the interfaces of entry points; on entry points, names, decorations and types; on the
 -- operands of single instructions; on what the version has; or on the universal limits. [own]
 pub data KernelBroken (G : Table) (minor : ℕ) (is : List PlainInst) : Rule → ℕ → Type 0 where
   -- O1 and O2

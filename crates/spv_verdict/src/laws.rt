@@ -32,8 +32,8 @@ pub fn refused_too()
 {}
 
 /// A module that is valid where its extended instructions are looked at is valid as a kernel of OpenCL, of whatever
-/// version, unless it breaks Y10 or what the standard asks of that version's kernels besides: the rows and the places of
-/// the profile are among those of OpenCL.
+/// version, unless it breaks Y10 or what the standard asks of that version's kernels besides: the rows and the places
+/// of the profile are among those of OpenCL.
 pub fn wider_too()
     ensures { (G : Table) (minor : ℕ) (bytes : List ℕ) (v : IsValid G Extended bytes)
         → ((n : ℕ) → ¬ (IsMistyped v.insts n)) → ((r : Rule) (n : ℕ) → ¬ (KernelBroken G minor v.insts r n))

@@ -34,8 +34,8 @@ SelectsWhole is t x =
     ⊎ (form_of is t ≡ Some form.Struct)
     ⊎ (((c n : ℕ) × IsVector is t c n) × ((b : ℕ) × (type_of is x ≡ Some b) × IsBool is b))
 
--- The instruction i of a module of version 1.minor is what that version does not have, or has no more. [3; OpCopyMemory,
--- OpSelect; OpLessOrGreater, OpAtomicCompareExchangeWeak: 'missing after'; SPV_KHR_non_semantic_info]
+-- The instruction i of a module of version 1.minor is what that version does not have, or has no more. [3;
+-- OpCopyMemory, OpSelect; OpLessOrGreater, OpAtomicCompareExchangeWeak: 'missing after'; SPV_KHR_non_semantic_info]
 pub data IsLate (G : Table) (minor : ℕ) (is : List PlainInst) (i : PlainInst) : Type 0 where
   number : (k : Kind) (n : ℕ) → HasNumber G i k n → IsMissing minor is k n → IsLate G minor is i
   two_masks : minor < 4 → (i.opcode ≡ opcode.COPY_MEMORY) ⊎ (i.opcode ≡ opcode.COPY_MEMORY_SIZED)

@@ -1,4 +1,5 @@
--- Forms of instructions that came with later versions, by their parts, and instructions that went. (For the code alone.)
+-- Forms of instructions that came with later versions, by their parts, and instructions that went. (For the code
+-- alone.)
 use Rattle.std.specs.Prelude.{◌≡◌, ◌<◌, ◌≤◌, ◌⊎◌, ℕ, List, ◌∷◌, Some, Bool, IsTrue, codes, count_by, nat_eq}
 use Rattle.std.specs.List.{starts_with}
 use Rattle.spv_module.specs.declared.opcode.TheConstants as opcode
