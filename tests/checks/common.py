@@ -96,14 +96,14 @@ def joined(words, folder, seconds=SECONDS, **how):
     return ended.stdout, ended.returncode
 
 
-def run(program, words, folder, **how):
+def run(program, words, folder, seconds=SECONDS, **how):
     """Runs the program with these words in this folder; catches both outputs if not told else."""
     how = {"stdin": subprocess.DEVNULL, "stdout": subprocess.PIPE, **how}
     ended = subprocess.run(
         [str(program), *map(str, words)],
         cwd=folder,
         stderr=subprocess.PIPE,
-        timeout=SECONDS,
+        timeout=seconds,
         check=False,
         **how,
     )

@@ -7,7 +7,7 @@ import subprocess
 import threading
 
 from .common import SECONDS, TESTS, Answer, Check, difference, run, shown
-from .refused import MOST_GROWTHS, NO_MEMORY, library, refused_run
+from .refused import NO_MEMORY, each_run, preloaded
 from .usage import BAD_USE, BROKEN, GRAMMAR, KERNEL, NO_FILE, TEXT, under
 
 LAYERS = frozenset({"trace", "many files"})
@@ -282,23 +282,20 @@ def each_growth_refused(all_later):
     """The check that one growth that is refused, or all from one on, costs at most the file that it was for."""
 
     def check(program, folder):
-        preload = library(folder)
         content = KERNEL.read_bytes()
         names = placed(folder, a=content, b=content[:119], c=content, d=content[:40])
         words = ["check", "--grammar", THIN, *names]
         verdicts = [(name, verdict_of(name, program, folder, THIN)) for name in names]
+        found = each_run(program, words, folder, preloaded(folder, all_later))
+        if not found or found[-1].is_refused or told_apart(found[-1].got, verdicts) != []:
+            return f"  none refused at last: {found and found[-1]}"
         lacked = set()
-        for number in range(1, MOST_GROWTHS):
-            got, (began, _, refused) = refused_run(program, words, folder, preload, number, all_later)
-            lacking = told_apart(got, verdicts)
+        for it in found:
+            lacking = told_apart(it.got, verdicts)
             is_told = lacking is not None and (all_later or len(lacking) <= 1)
-            if not began or not is_told and got != NO_MEMORY:
-                return f"  growth {number} refused: {got}"
-            if not refused:
-                break
+            if not is_told and it.got != NO_MEMORY:
+                return f"  growth {it.first} refused: {it.got}"
             lacked.update(lacking or ())
-        if lacking != []:
-            return f"  none refused: {got}"
         return None if lacked == set(names) else f"  no out of memory was told of {sorted(set(names) - lacked)}"
 
     return check

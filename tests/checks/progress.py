@@ -26,7 +26,7 @@ class Progress:
         self.is_terminal = out.isatty()
 
     def begins(self, name):
-        """A check begins: in its own thread."""
+        """A check begins."""
         self.under_way[name] = time.monotonic()
 
     def ends(self, name, wrong):

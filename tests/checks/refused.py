@@ -10,13 +10,16 @@ import os
 import shutil
 import struct
 import subprocess
+from dataclasses import dataclass
+from functools import lru_cache
+from typing import Optional
 
 from shapes.faults import FAULTS, OPTIONS
 from shapes.module import Module
 
 from .cases import all_cases, laid_out, wanted_answer
 from .common import LAYERS as ALL_LAYERS
-from .common import TESTS, Answer, Check, Unusable, layers_of, run
+from .common import SECONDS, TESTS, Answer, Check, Unusable, layers_of, run
 
 NO_MEMORY = Answer(b"", b"error memory\n", 2)
 MOST_GROWTHS = 100_000
@@ -24,6 +27,8 @@ LAYERS = frozenset(ALL_LAYERS)
 FAULT_WORDS = 1_024
 LAST_OF_GRAMMAR = 10
 TALLY = struct.Struct("=3Q")
+RECORD = struct.Struct("=7Q")
+MOST_SECONDS = 20 * SECONDS
 
 
 def compiler():
@@ -32,47 +37,82 @@ def compiler():
 
 
 def library(folder):
-    """The library that refuses, compiled into the folder."""
-    path = folder / "refuse.so"
+    """The library that refuses: compiled once for the folders of all checks."""
+    return compiled(folder.parent, os.getpid())
+
+
+@lru_cache(maxsize=None)
+def compiled(folder, process):
+    """The library that refuses, compiled into a folder for one process."""
+    path = folder / f"refuse-{process}.so"
     source = TESTS / "refuse/refuse.c"
     flags = ["-O2", "-Wall", "-fno-builtin", "-shared", "-fPIC"]
     subprocess.run([compiler(), *flags, "-o", path, source, "-ldl"], check=True)
     return path
 
 
-def refused_run(program, words, folder, preload, number, all_later):
-    """Runs the program with this growth refused: its answer, and the three numbers of the tally."""
+def preloaded(folder, all_later=False):
+    """An environment in which the library that refuses looks at growths."""
+    return {**os.environ, "LD_PRELOAD": str(library(folder)), **({"REFUSE_ALL": "1"} if all_later else {})}
+
+
+def counted_run(program, words, folder, environment, **how):
+    """Runs the program with no call refused: its answer, and how many it made of the calls that the library looks at;
+    none where the library did not take hold."""
     tally = folder / "tally"
     tally.write_bytes(bytes(TALLY.size))
-    environment = {
-        **os.environ,
-        "LD_PRELOAD": str(preload),
-        "REFUSE_TELL": str(tally),
-        "REFUSE_AT": str(number),
-        **({"REFUSE_ALL": "1"} if all_later else {}),
-    }
-    got = run(program, words, folder, env=environment)
-    return got, TALLY.unpack(tally.read_bytes())
+    got = run(program, words, folder, env={**environment, "REFUSE_TELL": str(tally)}, **how)
+    began, count, _ = TALLY.unpack(tally.read_bytes())
+    return got, count if began else 0
+
+
+@dataclass(frozen=True)
+class Stretch:
+    """Runs that ended alike, each with the call of another number refused: the first and the last number, whether the
+    calls were there to be refused, and what a run answered and made."""
+
+    first: int
+    last: int
+    is_refused: bool
+    got: Answer
+    made: Optional[bytes]
+
+
+def stretches(records):
+    """The stretches that the library that refuses has written."""
+    while records:
+        first, last, refused, status, out, err, made = RECORD.unpack(records[: RECORD.size])
+        ends = RECORD.size + out, RECORD.size + out + err, RECORD.size + out + err + max(made, 1) - 1
+        got = Answer(records[RECORD.size : ends[0]], records[ends[0] : ends[1]], os.waitstatus_to_exitcode(status))
+        yield Stretch(first, last, bool(refused), got, records[ends[1] : ends[2]] if made else None)
+        records = records[ends[2] :]
+
+
+def each_run(program, words, folder, environment, first=1, **how):
+    """Runs the program with the call of each number from the first on refused in turn, until it is refused none or the
+    runs are too many: their stretches, of which the last tells whether there was an end. None where the library did not
+    take hold."""
+    runs = folder / "runs"
+    runs.unlink(missing_ok=True)
+    refusing = {"REFUSE_EACH": str(runs), "REFUSE_AT": str(first), "REFUSE_MOST": str(MOST_GROWTHS)}
+    run(program, words, folder, MOST_SECONDS, env={**environment, **refusing}, **how)
+    found = list(stretches(runs.read_bytes())) if runs.exists() else []
+    return found or None
 
 
 def each_refused(words, wanted, does_without, all_later, program, folder, first=1):
     """Refuses the growths of a run one by one from the first of these on, until it is refused none."""
-    preload = library(folder)
-    without = []
-    for number in range(first, MOST_GROWTHS):
-        got, (began, _, refused) = refused_run(program, words, folder, preload, number, all_later)
-        if not began:
-            return "  the library did not take hold: is the program linked with the C library?"
-        if not refused:
-            break
-        if got == wanted:
-            without.append(number)
-        elif got != NO_MEMORY:
-            return f"  growth {number} refused\n  wanted: {NO_MEMORY}\n  got:    {got}"
-    else:
+    found = each_run(program, words, folder, preloaded(folder, all_later), first)
+    if not found:
+        return "  the library did not take hold: is the program linked with the C library?"
+    if found[-1].is_refused:
         return f"  over {MOST_GROWTHS} growths"
-    if got != wanted:
-        return f"  none refused\n  wanted: {wanted}\n  got:    {got}"
+    without = [it.first for it in found[:-1] if it.got == wanted]
+    for it in found[:-1]:
+        if it.got not in (wanted, NO_MEMORY):
+            return f"  growth {it.first} refused\n  wanted: {NO_MEMORY}\n  got:    {it.got}"
+    if found[-1].got != wanted:
+        return f"  none refused\n  wanted: {wanted}\n  got:    {found[-1].got}"
     if without and not does_without:
         return f"  does without the growths {without[:9]}: the list in tests/refuse is to say so"
     if does_without and not without and not all_later:
@@ -105,7 +145,7 @@ def explained(name, folder):
 def growths_of_grammar(program, folder):
     """How many growths the reading of profile.json and of no bytes makes."""
     words = ["check", "--grammar", TESTS / "profile.json", "/dev/null"]
-    return refused_run(program, words, folder, library(folder), 0, False)[1][1]
+    return counted_run(program, words, folder, preloaded(folder))[1]
 
 
 def refused_explanation(name, does_without, all_later):

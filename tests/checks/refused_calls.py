@@ -12,8 +12,8 @@ from dataclasses import dataclass, field
 from typing import List, Optional, Tuple
 
 from .common import LAYERS as ALL_LAYERS
-from .common import TESTS, Answer, Check, run, shown
-from .refused import MOST_GROWTHS, TALLY, library
+from .common import TESTS, Answer, Check, shown
+from .refused import counted_run, each_run, library
 from .usage import BROKEN, GRAMMAR, KERNEL, TEXT, under
 
 LAYERS = frozenset(ALL_LAYERS)
@@ -125,17 +125,26 @@ def made(folder):
     return path.read_bytes() if path.exists() else None
 
 
-def refused(it, call, number, program, folder, preload, all_later):
-    """A run of a line with this call refused: its answer, what it made, and the numbers of the tally."""
+def refusing(call, preload, all_later):
+    """An environment in which the library that refuses looks at these calls."""
+    chosen = {"REFUSE_CALL": call} if call != GROWTH else {}
+    return {**under(), "LD_PRELOAD": str(preload), **chosen, **({"REFUSE_ALL": "1"} if all_later else {})}
+
+
+def counted(it, call, program, folder, preload):
+    """A run of a line with no call refused: its answer, what it made, and how many of these calls it makes."""
     (folder / MADE).unlink(missing_ok=True)
-    tally = folder / "tally"
-    tally.write_bytes(bytes(TALLY.size))
-    refusing = {"LD_PRELOAD": str(preload), "REFUSE_TELL": str(tally), "REFUSE_AT": str(number)}
-    refusing.update({"REFUSE_CALL": call} if call != GROWTH else {})
-    refusing.update({"REFUSE_ALL": "1"} if all_later else {})
     with open(folder / it.given if it.given else os.devnull, "rb") as given:
-        got = run(program, it.words, folder, env={**under(), **refusing}, stdin=given)
-    return got, made(folder), TALLY.unpack(tally.read_bytes())
+        got, count = counted_run(program, it.words, folder, refusing(call, preload, False), stdin=given)
+    return got, made(folder), count
+
+
+def all_refused(it, call, first, program, folder, preload, all_later=False):
+    """The runs of a line with each call from the first on refused in turn, as stretches that ended alike; or None."""
+    (folder / MADE).unlink(missing_ok=True)
+    environment = {**refusing(call, preload, all_later), "REFUSE_MADE": MADE}
+    with open(folder / it.given if it.given else os.devnull, "rb") as given:
+        return each_run(program, it.words, folder, environment, first, stdin=given)
 
 
 def is_beginning(wanted, got):
@@ -186,7 +195,7 @@ def first_of(it, call, count, program, folder, preload):
     """The first call that is refused: the growths of making the built-in table are left out but for the last ones."""
     if call != GROWTH or it is WHOLE:
         return 1
-    _, _, (_, of_table, _) = refused(line("check", "/dev/null"), call, 0, program, folder, preload, False)
+    _, _, of_table = counted(line("check", "/dev/null"), call, program, folder, preload)
     return max(of_table - LAST_OF_TABLE, 1) if count > of_table else 1
 
 
@@ -195,19 +204,20 @@ def each_refused(it, call, all_later=False):
 
     def check(program, folder):
         laid_out(folder)
-        preload = library(folder)
-        wanted, whole, (began, count, _) = refused(it, call, 0, program, folder, preload, False)
-        if not began or count == 0:
-            return f"  {call}: {count} calls, {wanted}"
-        text = (folder / "text").read_bytes()
-        for number in range(first_of(it, call, count, program, folder, preload), MOST_GROWTHS):
-            got, part, (_, _, times) = refused(it, call, number, program, folder, preload, all_later)
-            if times == 0:
-                break
-            fine = is_told(it, call, wanted, got) or call == GROWTH and is_shorter(it, wanted, got)
-            if not fine or not is_beginning(whole, part) or (folder / "text").read_bytes() != text:
-                return f"  {call} {number} refused\n  wanted: {wanted}\n  got:    {got}, made {shown(part or b'')}"
-        return None if got == wanted else f"  none refused: {got}"
+        preload, text = library(folder), (folder / "text").read_bytes()
+        wanted, whole, count = counted(it, call, program, folder, preload)
+        if count == 0:
+            return f"  {call}: no calls, {wanted}"
+        first = first_of(it, call, count, program, folder, preload)
+        found = all_refused(it, call, first, program, folder, preload, all_later)
+        if not found or found[-1].is_refused or found[-1].got != wanted:
+            return f"  {call}: none refused at last: {found and found[-1]}"
+        for run_of in found[:-1]:
+            fine = is_told(it, call, wanted, run_of.got) or call == GROWTH and is_shorter(it, wanted, run_of.got)
+            if not fine or not is_beginning(whole, run_of.made):
+                made_of = shown(run_of.made or b"")
+                return f"  {call} {run_of.first} refused\n  wanted: {wanted}\n  got:    {run_of.got}, made {made_of}"
+        return None if (folder / "text").read_bytes() == text else "  the text was written over"
 
     return check
 

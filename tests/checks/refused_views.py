@@ -8,8 +8,8 @@ refused_calls.py does so with other command lines, and with their reads and writ
 
 from .common import LAYERS as ALL_LAYERS
 from .common import TESTS, Check
-from .refused import MOST_GROWTHS, chosen, library
-from .refused_calls import GROWTH, first_of, is_told, laid_out, line, made, refused
+from .refused import chosen, library
+from .refused_calls import GROWTH, all_refused, counted, first_of, is_told, laid_out, line, made
 
 LAYERS = frozenset(ALL_LAYERS)
 MODULE = "module.spv"
@@ -20,16 +20,15 @@ MOST_OCTETS = 4_096
 
 def growths_told(it, program, folder, preload):
     """None if a command line answers rightly with each growth refused, else what is wrong."""
-    wanted, whole, (_, count, _) = refused(it, GROWTH, 0, program, folder, preload, False)
-    times = 0
-    for number in range(first_of(it, GROWTH, count, program, folder, preload), MOST_GROWTHS):
-        got, part, (_, _, is_refused) = refused(it, GROWTH, number, program, folder, preload, False)
-        if not is_refused:
-            return None if got == wanted and times else f"  {it}: {times} refused, then {got}"
-        times += 1
-        if not is_told(it, GROWTH, wanted, got) and got != wanted or part not in (whole, None, b""):
-            return f"  {it}: growth {number} refused\n  wanted: {wanted}\n  got:    {got}"
-    return f"  {it}: over {MOST_GROWTHS} growths"
+    wanted, whole, count = counted(it, GROWTH, program, folder, preload)
+    first = first_of(it, GROWTH, count, program, folder, preload)
+    found = all_refused(it, GROWTH, first, program, folder, preload)
+    if not found or len(found) == 1 or found[-1].is_refused or found[-1].got != wanted:
+        return f"  {it}: none refused at last: {found and found[-1]}"
+    for run in found[:-1]:
+        if not is_told(it, GROWTH, wanted, run.got) and run.got != wanted or run.made not in (whole, None, b""):
+            return f"  {it}: growth {run.first} refused\n  wanted: {wanted}\n  got:    {run.got}"
+    return None
 
 
 def module_viewed(name):
@@ -53,7 +52,7 @@ def texts_explained(program, folder):
         if path.stat().st_size > MOST_OCTETS:
             continue
         it = line("asm", "--explain", "--out", "made.spv", path)
-        answer, _, _ = refused(it, GROWTH, 0, program, folder, preload, False)
+        answer, _, _ = counted(it, GROWTH, program, folder, preload)
         if answer.status != 1:
             continue
         codes.add(answer.out[:8])

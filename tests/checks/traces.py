@@ -6,7 +6,7 @@ import subprocess
 import sys
 
 from .common import TESTS, Answer, Check, difference, run
-from .refused import NO_MEMORY, library, refused_run
+from .refused import NO_MEMORY, counted_run, preloaded
 
 STEPS = 122
 KERNEL = "3"
@@ -26,20 +26,18 @@ def traced(folder, shape, limit):
     return [*words, "--limit", str(limit), folder / f"{shape}.spv"]
 
 
-def growths(program, folder, preload, shape, limit):
+def growths(program, folder, shape, limit):
     """The answer of a run of this shape's kernel, and how many growths of memory it made."""
-    words = traced(folder, shape, limit)
-    got, (_, asked, _) = refused_run(program, words, folder, preload, 0, False)
-    return got, asked
+    return counted_run(program, traced(folder, shape, limit), folder, preloaded(folder))
 
 
-def growths_of_steps(program, folder, preload, shape):
+def growths_of_steps(program, folder, shape):
     """How many growths all steps of this shape's kernel make more than none, or what went wrong."""
-    none, before = growths(program, folder, preload, shape, 0)
+    none, before = growths(program, folder, shape, 0)
     wrong = difference(Answer(b"end limit\n", b"", 0), none)
     if wrong is not None:
         return wrong
-    whole, after = growths(program, folder, preload, shape, 10 * STEPS)
+    whole, after = growths(program, folder, shape, 10 * STEPS)
     lines = whole.out.decode().splitlines()
     if whole.status != 0 or len(lines) != STEPS + 1 or lines[-1] != "end finished":
         return f"  wanted: {STEPS} steps and 'end finished'\n  got:    {whole}"
@@ -50,8 +48,7 @@ def calls_take_no_memory(program, folder):
     """A run through a chain of 40 calls makes as many growths as one of as many steps without a call,
     in modules of as many definitions."""
     generated(folder, "chained", "unchained")
-    preload = library(folder)
-    found = [growths_of_steps(program, folder, preload, shape) for shape in ("chained", "unchained")]
+    found = [growths_of_steps(program, folder, shape) for shape in ("chained", "unchained")]
     if isinstance(found[0], int) and found[0] == found[1]:
         return None
     return f"  wanted: as many growths for calls as without\n  got:    {found[0]}\n          {found[1]}"

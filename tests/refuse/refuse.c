@@ -11,6 +11,11 @@
 // open with EACCES, a read with EIO, a write with ENOSPC. A read is read, readv or pread, a write
 // write or writev.
 //
+// REFUSE_EACH names a file and has the program run once for each number from REFUSE_AT on, each time in a process that is
+// forked where main begins, until a run is refused none or REFUSE_MOST runs were made. The file gets a record for each
+// stretch of runs that ended alike: the numbers of a struct record, then what a run wrote to its standard output and to
+// its standard error, and the bytes of the file that REFUSE_MADE names, which is removed behind each run.
+//
 // A program may have growths refused itself, by marks: growths of sizes that nothing else asks for
 // (crates/spv_samples/src/growths.rt). REFUSE and N bytes begin a stretch in which the Nth growth is
 // refused, END bytes end it, and are refused if one was. DONE_WITHOUT bytes tell of a call that
@@ -27,6 +32,7 @@
 #include <sys/mman.h>
 #include <sys/syscall.h>
 #include <sys/uio.h>
+#include <sys/wait.h>
 #include <unistd.h>
 
 // The C library's own, under its names for itself.
@@ -206,7 +212,156 @@ static void open_tally(void) {
     close(file);
 }
 
+// How a run ended. `refused` is 1 if a call was refused it; `status` is what waitpid tells; `made` is 0 if it made no file,
+// else one more than the bytes of that file.
+struct ended {
+    uint64_t refused;
+    uint64_t status;
+    uint64_t out;
+    uint64_t err;
+    uint64_t made;
+};
+
+// The numbers of a stretch of runs that ended alike, the first and the last, and how they ended.
+struct record {
+    uint64_t first;
+    uint64_t last;
+    struct ended ended;
+};
+
+enum { RUN_SECONDS = 60, MOST_BYTES = 1 << 26 };
+
+// A number that the environment has, or another one.
+static uint64_t number_named(const char *name, uint64_t other) {
+    const char *text = getenv(name);
+    return text == NULL ? other : strtoull(text, NULL, 10);
+}
+
+// Ends the program where what it needs itself cannot be had.
+static void insist(int is_there) {
+    if (!is_there) _exit(99);
+}
+
+static void *mapped(size_t size, int flags) {
+    void *memory = mmap(NULL, size, PROT_READ | PROT_WRITE, flags | MAP_ANONYMOUS, -1, 0);
+    insist(memory != MAP_FAILED);
+    return memory;
+}
+
+// Reads a file from its beginning on to the end of what was read so far, and answers how many bytes it has.
+static uint64_t taken(int file, char *bytes, uint64_t *count) {
+    uint64_t before = *count;
+    ssize_t more;
+    while ((more = pread(file, bytes + *count, MOST_BYTES - *count, (off_t)(*count - before))) > 0) *count += (uint64_t)more;
+    insist(more == 0 && *count < MOST_BYTES);
+    return *count - before;
+}
+
+// Reads the file that REFUSE_MADE names, if it is there, and removes it.
+static uint64_t made(char *bytes, uint64_t *count) {
+    const char *path = getenv("REFUSE_MADE");
+    int file = path == NULL ? -1 : open(path, O_RDONLY | O_CLOEXEC);
+    if (file < 0) return 0;
+    uint64_t size = taken(file, bytes, count);
+    close(file);
+    unlink(path);
+    return size + 1;
+}
+
+static void put(int file, const void *bytes, uint64_t count) {
+    const char *from = bytes;
+    while (count > 0) {
+        ssize_t part = write(file, from, count);
+        insist(part > 0);
+        from += part;
+        count -= (uint64_t)part;
+    }
+}
+
+// Runs main in a forked process, with this call refused: answers 1 there, and here 0 once that has ended.
+static int is_forked(uint64_t number, int out, int err, int *status) {
+    memset(tally, 0, sizeof *tally);
+    insist(ftruncate(out, 0) == 0 && ftruncate(err, 0) == 0);
+    lseek(out, 0, SEEK_SET);
+    lseek(err, 0, SEEK_SET);
+    lseek(0, 0, SEEK_SET);
+    pid_t child = fork();
+    insist(child >= 0);
+    if (child > 0) {
+        insist(waitpid(child, status, 0) == child);
+        return 0;
+    }
+    insist(dup2(out, 1) == 1 && dup2(err, 2) == 2);
+    alarm(RUN_SECONDS);
+    refuse_at = number;
+    return 1;
+}
+
+// What is kept of the runs: the stretch that is under way, with the bytes of its runs, and room for the next run's.
+static struct {
+    struct record last;
+    char *bytes;
+    uint64_t size;
+    char *next;
+    int out;
+    int err;
+    int file;
+} runs;
+
+static void open_runs(const char *path) {
+    tally = mapped(sizeof *tally, MAP_SHARED);
+    runs.bytes = mapped(MOST_BYTES, MAP_PRIVATE | MAP_NORESERVE);
+    runs.next = mapped(MOST_BYTES, MAP_PRIVATE | MAP_NORESERVE);
+    runs.out = memfd_create("out", MFD_CLOEXEC);
+    runs.err = memfd_create("err", MFD_CLOEXEC);
+    runs.file = open(path, O_WRONLY | O_CREAT | O_TRUNC | O_CLOEXEC, 0600);
+    insist(runs.out >= 0 && runs.err >= 0 && runs.file >= 0);
+}
+
+// Writes the stretch that is under way, if one is.
+static void end_stretch(int is_under_way) {
+    if (!is_under_way) return;
+    put(runs.file, &runs.last, sizeof runs.last);
+    put(runs.file, runs.bytes, runs.size);
+}
+
+// Adds a run that has ended to the stretch that is under way, or begins another with it.
+static void note_run(uint64_t number, int status, int is_under_way) {
+    uint64_t size = 0;
+    struct ended ended = {.refused = tally->refused > 0, .status = (uint64_t)status};
+    ended.out = taken(runs.out, runs.next, &size);
+    ended.err = taken(runs.err, runs.next, &size);
+    ended.made = made(runs.next, &size);
+    if (is_under_way && memcmp(&ended, &runs.last.ended, sizeof ended) == 0
+        && memcmp(runs.next, runs.bytes, size) == 0) {
+        runs.last.last = number;
+        return;
+    }
+    end_stretch(is_under_way);
+    char *before = runs.bytes;
+    runs.last = (struct record){number, number, ended};
+    runs.bytes = runs.next;
+    runs.size = size;
+    runs.next = before;
+}
+
+// Runs main for one number after the other: answers 1 in each process that is to run it, and at last 0.
+static int runs_each(const char *path) {
+    uint64_t first = refuse_at, most = number_named("REFUSE_MOST", UINT64_MAX);
+    int status;
+    open_runs(path);
+    for (uint64_t number = first; number - first < most; number++) {
+        if (is_forked(number, runs.out, runs.err, &status)) return 1;
+        note_run(number, status, number > first);
+        if (!runs.last.ended.refused) break;
+    }
+    end_stretch(most > 0);
+    return 0;
+}
+
 static int counted_main(int count, char **words, char **environment) {
+    const char *each = getenv("REFUSE_EACH");
+    if (each != NULL && !runs_each(each)) return 0;
     tally->began = 1;
     in_main = 1;
     int status = real_main(count, words, environment);
@@ -219,8 +374,7 @@ int __libc_start_main(int (*main)(int, char **, char **), int count, char **word
                       void (*finish)(void), void (*loader_finish)(void), void *stack_end) {
     int (*start)(int (*)(int, char **, char **), int, char **, void (*)(void), void (*)(void),
                  void (*)(void), void *) = dlsym(RTLD_NEXT, "__libc_start_main");
-    const char *at = getenv("REFUSE_AT");
-    refuse_at = at == NULL ? 0 : strtoull(at, NULL, 10);
+    refuse_at = number_named("REFUSE_AT", 0);
     refuse_call = call_named(getenv("REFUSE_CALL"));
     refuse_all = getenv("REFUSE_ALL") != NULL;
     open_tally();

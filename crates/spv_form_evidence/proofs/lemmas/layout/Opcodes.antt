@@ -17,7 +17,8 @@ use Rattle.spv_layout.specs.Rows.{rows}
 use Rattle.spv_layout.specs.Profile.{includes, has_row}
 use Rattle.spv_layout.specs.Layout.{seen_classes}
 use Rattle.spv_layout.specs.inner.State.{may_stop}
-use Rattle.spv_layout.proofs.Layouts.{Leads, leads_begin}
+use Rattle.spv_layout.specs.inner.Pass.{Leads}
+use Rattle.spv_layout.proofs.Layouts.{leads_begin}
 use Rattle.spv_form_evidence.specs.layout.Evidence.{HasRow, AreToCome}
 use Rattle.spv_form_evidence.specs.layout.inner.Automaton.{opcodes_of, may_follow, followers}
 use Rattle.spv_form_evidence.proofs.lemmas.layout.States.{ends_there, follows, followed}

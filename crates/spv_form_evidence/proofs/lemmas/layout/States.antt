@@ -13,7 +13,8 @@ use Rattle.spv_layout.specs.Rows.{row_of, class_of}
 use Rattle.spv_layout.specs.Profile as profiles
 use Rattle.spv_layout.specs.Layout.{IsLayout, BeginsLayout, class_under, seen, seen_classes}
 use Rattle.spv_layout.specs.inner.State.{next_of, may_stop}
-use Rattle.spv_layout.proofs.Layouts.{Leads, leads_first, leads_on, leads_begin, leads_nowhere, leads_end}
+use Rattle.spv_layout.specs.inner.Pass.{Leads}
+use Rattle.spv_layout.proofs.Layouts.{leads_first, leads_on, leads_begin, leads_nowhere, leads_end}
 use Rattle.spv_layout.proofs.Layouts.{leads_no_end, begins_before}
 use Rattle.spv_form_evidence.specs.layout.Evidence.{HasRow, MayFollow}
 use Rattle.spv_form_evidence.specs.layout.inner.Automaton.{LeadsTo, may_follow}

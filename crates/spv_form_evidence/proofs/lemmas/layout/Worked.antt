@@ -18,7 +18,7 @@ use Rattle.spv_layout.specs.Rows.{rows}
 use Rattle.spv_layout.specs.Profile.{FitsProfile}
 use Rattle.spv_layout.specs.Layout.{seen_classes}
 use Rattle.spv_layout.specs.Example.{load_of_word, matrix}
-use Rattle.spv_layout.proofs.Layouts.{Leads}
+use Rattle.spv_layout.specs.inner.Pass.{Leads}
 use Rattle.spv_layout.proofs.Tested.{tested_fits, fits_tested}
 use Rattle.spv_layout.proofs.Worked.{leads_by}
 use Rattle.spv_evidence.specs.declared.evidence.Evidence.{Evidence}

@@ -15,7 +15,8 @@ use Rattle.spv_layout.specs.Layout.{IsLayout, classes}
 use Rattle.spv_layout.specs.Place.{IsAt, IsOfFunction}
 use Rattle.spv_layout.specs.inner.State.{next_of, Remains}
 use Rattle.spv_layout.proofs.Derivatives.{both_hold}
-use Rattle.spv_layout.proofs.Following.{is_open, implies, fine_move}
+use Rattle.spv_layout.specs.inner.Pass.{is_open}
+use Rattle.spv_layout.proofs.Following.{implies, fine_move}
 use Rattle.spv_layout.proofs.Layouts.{layout_remains}
 use Rattle.spv_layout.proofs.Remains.{goes_on, goes_no_further}
 use Rattle.spv_layout.proofs.Spans.{is_at, is_not_at, at_moved, below_or}

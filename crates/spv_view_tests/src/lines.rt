@@ -1,8 +1,8 @@
 //! What explains a fault: its evidence by itself, and its lines in both ways.
 
 use spv_builtin::{FromGrammar, Table};
-use spv_commands::Reach;
 use spv_explain::{Detail, Evidence, Explained, explain, explain_bytes, explain_stream};
+use spv_extended::Reach;
 use spv_samples::{PROFILE, image_of};
 use spv_words::{FromRead, FromWrite, Image};
 use std::alloc::Global;
