@@ -75,7 +75,7 @@ def cases_read(_program, _folder):
     for case in found:
         name, wanted = case.one("case"), case.one("out")
         read = Grammar(json.loads(grammar(case))) if case.all("old") else grammar_read(case.one("G"))
-        got = verdict(read, content_of(case), profile=Profile.OPENCL, has_standard=True)
+        got = verdict(read, content_of(case), profile=Profile.OPENCL)
         wrong += [] if got == wanted else [f"  {name}: {got}, and not {wanted}"]
     return "\n".join(wrong) or (None if len(found) > FEWEST else f"  {len(found)} cases")
 
@@ -284,7 +284,7 @@ def limits_read(_program, _folder):
     more that it is not."""
     wrong, read = [], grammar_read(OPENCL)
     for name, content, wanted in at_limits():
-        got = verdict(read, content, profile=Profile.OPENCL, has_standard=True)
+        got = verdict(read, content, profile=Profile.OPENCL)
         wrong += [] if got == wanted else [f"  {name}: {got}, and not {wanted}"]
     return "\n".join(wrong) or None
 

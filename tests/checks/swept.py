@@ -209,7 +209,7 @@ def modules():
 
 def read(content):
     """The verdict of the second reading."""
-    return verdict(known(), content, profile=Profile.OPENCL, has_standard=True)
+    return verdict(known(), content, profile=Profile.OPENCL)
 
 
 def told(program, folder, contents):

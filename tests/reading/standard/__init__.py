@@ -13,8 +13,6 @@ from .module import Module
 from .values import O12, O13, O14, O15, O16, O17
 from .versions import O21
 
-# Whether the program asks them by `--opencl` yet.
-IS_ASKED = False
 RULES = (
     *(O1, O2, O3, O4, O5, O6, O7, O8, O9, O10, O11, O12),
     *(O13, O14, O15, O16, O17, O18, O19, O20, O21, O22, O23),
