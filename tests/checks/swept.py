@@ -8,7 +8,7 @@ They go by Khronos' grammar file, which has what is of extensions, too.
 import re
 import subprocess
 from functools import lru_cache
-from itertools import product
+from itertools import islice, product
 
 from reading.assemble import assembled
 from reading.profiles import Profile
@@ -22,8 +22,28 @@ from .khronos import GRAMMAR
 BATCH = 500
 FEWEST = 4_000
 SHADER = "Shader"
+# Beside spirv-val one module of so many is looked at. What it says of modules that hold, and by which rule of which
+# sweep it accepts modules that break one (docs/COMPARED.md).
+OF = 4
+REFUSED = (
+    "can only be applied to structure members",
+    "cannot be applied to structure members",
+    "decoration applied to",
+    "Decorations that don't take ID parameters",
+    "Invalid use of function result id",
+    "Missing required OpSamplerImageAddressingModeNV",
+    "Target of NonWritable decoration is invalid",
+)
+ACCEPTED = {("decorated", "O7"), ("looped", "O18"), ("scoped", "O14"), ("with_modes", "Y5")}
 # What stands for a parameter of a kind; for one of values the second value of the kind, or its only one.
-GIVEN = {"LiteralInteger": "4", "LiteralString": '"s"', "IdRef": "%c.i32.4", "IdScope": "%c.i32.2", "LiteralFloat": "1"}
+GIVEN = {
+    "LiteralInteger": "4",
+    "LiteralFloat": "1",
+    "LiteralString": '"s"',
+    "IdRef": "%c.i32.4",
+    "IdScope": "%c.i32.2",
+    "BuiltIn": "WorkDim",
+}
 INT_FUNCTION = ("%g = OpFunction %i32 None %fn.i32", "%gl = OpLabel", "OpReturnValue %c.i32.1", "OpFunctionEnd")
 # What is decorated: an id, and where a line that defines it stands, if it does not tell by its name what it is.
 TARGETS = {
@@ -244,7 +264,26 @@ def said_by_peer(path, content):
     return re.sub(r"error: line \d+: |'[^']*'|\d+(\[%[^\]]*\])?", lambda it: "" if it[0][0] == "e" else "N", line)
 
 
+def differs(sweep, mine, theirs):
+    """Whether spirv-val says something else of a module than the second reading, where it may not."""
+    if mine == "valid":
+        return theirs != "" and not any(it in theirs for it in REFUSED)
+    return theirs == "" and (sweep, mine.split()[1]) not in ACCEPTED
+
+
+def peer_reads(_program, folder):
+    """None where the second reading and spirv-val say the same of some of the modules, but for what is listed."""
+    wrong, found = [], islice(modules(), 0, None, OF)
+    for sweep, name, content in found:
+        mine, theirs = read(content), said_by_peer(folder / "module.spv", content)
+        wrong += [f"  {sweep}: {name}: {mine}, and {theirs or 'accepted'}"] if differs(sweep, mine, theirs) else []
+    return "\n".join(wrong) or None
+
+
 def checks():
-    """The program beside the second reading."""
-    khronos = frozenset({"khronos"})
-    return [Check("standard: sweeps beside the second reading", frozenset({"standard"}), program_reads, khronos)]
+    """The program beside the second reading, and this beside spirv-val."""
+    khronos, peer = frozenset({"khronos"}), frozenset({"khronos", "spirv-val"})
+    return [
+        Check("standard: sweeps beside the second reading", frozenset({"standard"}), program_reads, khronos),
+        Check("standard: sweeps beside spirv-val", frozenset(), peer_reads, peer),
+    ]
