@@ -24,6 +24,7 @@ LAYERS = (
     "library",
     "library texts",
     "opencl",
+    "standard",
 )
 SECONDS = 60
 

@@ -1,9 +1,10 @@
 """What docs/COMPARED.md says of spirv-val and of the program: both are run on each module that it names.
 
 The page's tables of modules have the module's name first, and then what one program says, or both do. In one of them
-that is what the program says with `--extended`, and without it the module is valid; in those of modules of `--opencl`
-it is what the program says with that option alone. A module is of version 1.6, or of the one that the first line of
-its text names. What `spv --opencl` is to say the second reading has to say too.
+that is what the program says with `--extended`, and without it the module is valid; in one what it says with
+`--opencl`, and without it, with `--extended` too, the module is valid; in those of modules of `--opencl` it is what the
+program says with that option alone. A module is of version 1.6, or of the one that the first line of its text names.
+What `spv --opencl` is to say the second reading has to say too.
 """
 
 import re
@@ -41,17 +42,24 @@ def told(ours, extended, theirs):
     return Head(((tuple(OWN), ours), (tuple(EXTENDED), extended or ours)), theirs)
 
 
+def told_of_all(opencl, theirs):
+    """A table of modules that are valid without --opencl, and of what the program says with it."""
+    return Head((*told(None, None, theirs).ours, (tuple(OPENCL), opencl)), theirs)
+
+
 def told_with_opencl(ours, theirs):
     """A table of what the program says with --opencl."""
     return Head(((tuple(OPENCL), ours),), theirs)
 
 
 HEADS = {
-    "| Module | What is wrong | spirv-val |": told(None, None, 2),
+    "| Module | What is wrong | spv --opencl | spirv-val |": told_of_all(2, 3),
+    "| Module | What is wrong | spirv-val |": told_of_all(None, 2),
     "| Module | What is wrong | spv --extended | spirv-val |": told(None, 2, 3),
     "| Module | Rule | spv |": told(2, None, None),
     "| Module | spv | spirv-val |": told(1, None, 2),
-    "| Module of `--opencl` | What is wrong | spirv-val |": told_with_opencl(None, 2),
+    "| Module of `--opencl` | What spirv-val asks | Why spv does not | spirv-val |": told_with_opencl(None, 3),
+    "| Module of `--opencl` | What is not asked | Why |": told_with_opencl(None, None),
     "| Module of `--opencl` | Rule | spv --opencl |": told_with_opencl(2, None),
     "| Module of `--opencl` | spv --opencl | spirv-val |": told_with_opencl(1, 2),
 }
@@ -135,9 +143,9 @@ def all_named(named):
     return None if sorted(named) == there else f"  named: {sorted(named)}\n  there: {there}"
 
 
-def is_of_opencl(ours):
-    """Whether a row is of a module of --opencl."""
-    return [flags for flags, _ in ours] == [tuple(OPENCL)]
+def said_with_opencl(ours):
+    """What a row wants the program to say with --opencl, None where it wants nothing of that."""
+    return dict(ours).get(tuple(OPENCL))
 
 
 def as_read(found):
@@ -146,10 +154,11 @@ def as_read(found):
     def check(_program, folder):
         grammar, wrong = grammar_in(GRAMMAR), []
         for name, ours, _ in found:
-            if is_of_opencl(ours):
+            wanted = said_with_opencl(ours)
+            if wanted:
                 module, _ = assembled(name, folder)
                 got = verdict(grammar, module.read_bytes(), profile=Profile.OPENCL)
-                wrong += [] if got == ours[0][1] else [f"  {name}: {got}"]
+                wrong += [] if got == wanted else [f"  {name}: {got}"]
         return "\n".join(wrong) or None
 
     return check
@@ -165,7 +174,7 @@ def checks():
     def check(name, ours, theirs):
         return Check(
             f"beside spirv-val: {name}",
-            frozenset({"opencl"}) if is_of_opencl(ours) else layers,
+            frozenset({"standard"}) if said_with_opencl(ours) else layers,
             lambda program, folder: as_said(name, ours, theirs, program, folder),
             tools,
         )

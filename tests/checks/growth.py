@@ -20,4 +20,5 @@ def grown(part):
 def checks():
     """One check for each part."""
     tools = frozenset({"valgrind"})
-    return [Check(f"growth: {part}", LAYERS, grown(part), tools) for part in ("modules", "grammars", "memory", "views")]
+    parts = {part: LAYERS for part in ("modules", "grammars", "memory", "views")} | {"standard": LAYERS | {"standard"}}
+    return [Check(f"growth: {part}", layers, grown(part), tools) for part, layers in parts.items()]

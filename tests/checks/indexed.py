@@ -5,7 +5,7 @@ import re
 from . import believed
 from .believed import CRATES, NotFound
 from .cases import read_cases
-from .common import LAYERS, TESTS, Check
+from .common import LAYERS, TESTS, Check, layers_of, layers_that_stand
 
 PAGE = believed.TOP / "docs/RULES.md"
 HEADING = """# An index of the rules
@@ -122,11 +122,11 @@ def evidence(code):
 def cases(code):
     """A case in which a check answers a code, and how many there are: the first, of modules that are cut and of checks
     with --extended only where there is no other."""
-    found = []
+    found, stands = [], layers_that_stand()
     for path in sorted((TESTS / "cases").glob("*.cases"), key=lambda it: (it.stem in LATER, it.stem)):
         for case in read_cases(path):
-            out = case.all("out")
-            if case.one("run").startswith("check ") and out and re.match(rf"fault {code}\b", out[0]):
+            out, is_there = case.all("out"), layers_of(case.one("layer")) <= stands
+            if is_there and case.one("run").startswith("check ") and out and re.match(rf"fault {code}\b", out[0]):
                 found.append(f"`{case.one('case')}` ({path.stem})")
     return f"{found[0]}, {len(found)} in all" if found else ""
 

@@ -372,11 +372,13 @@ def seldom(folder):
 
 
 def each_code(program, folder):
-    """There is an object of every code that `explain` can answer: W2 to W8, I1 to G1, Y9 and Y10."""
+    """There is an object of every code that `explain` can answer: W2 to W8, I1 to G1, Y9, Y10 and O1 to O23; these under the
+    built-in grammar, which has more than that of the profile."""
     paths, found = paths_of(folder), set()
     for at in range(0, len(paths), BATCH):
         for flags in PROFILES.values():
-            told = judged(program, folder, "check", JSON, *flags, *paths[at : at + BATCH]).out
+            grammar = under(None if OPENCL in flags else GRAMMAR)
+            told = judged(program, folder, "check", JSON, *flags, *paths[at : at + BATCH], env=grammar).out
             found |= {it.get("code") for it in objects(told)}
     others = list(seldom(folder))
     told = objects(judged(program, folder, "explain", JSON, *others, env=under()).out)

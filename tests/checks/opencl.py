@@ -10,7 +10,7 @@ import sys
 from reading.profiles import Profile
 from reading.verdict import verdict
 
-from .cases import OPENCL, every_case, grammar_read, pieces
+from .cases import OPENCL, all_cases, grammar_read, pieces
 from .common import TESTS, Check, joined
 
 SECONDS = 600
@@ -28,7 +28,7 @@ def told(case):
 def cases_read(_program, _folder):
     """None where the second reading says of each such case what it wants."""
     wrong, count = [], 0
-    for case in every_case():
+    for case in all_cases():
         wanted = told(case)
         if wanted is None:
             continue
@@ -41,7 +41,7 @@ def cases_read(_program, _folder):
 
 def written():
     """The modules that cases of the option have as texts, each by the name of its case."""
-    found = [case for case in every_case() if case.one("G") == OPENCL and case.all("text")]
+    found = [case for case in all_cases() if case.one("G") == OPENCL and case.all("text")]
     return {case.one("case"): pieces(case)[0][0] for case in found}
 
 

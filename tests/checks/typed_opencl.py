@@ -209,9 +209,9 @@ VARIABLES = (
 DECORATED = (
     ("74", (": group", ": group var/ptr5(i32) t/i32"), (": var/ptr5(i32)", ": group group", ": var/ptr5(i32) group")),
     ("75", (": group", ": group t/st(i32,f32) #1 t/st(i32) #0"), (": group t/st(i32) #1", ": group t/i32 #0", ": var/ptr5(i32) t/st(i32) #0", ": group t/st(i32) #0 t/v4(i32) #0")),
-    ("332", (": var/ptr5(i32) #46 =4/i32", ": group #46 spec=4/i32", ": var/ptr5(i32) #46 var/ptr5(f32)", ": t/i32 #47 null/i64"), (": var/ptr5(i32) #46 t/i32", ": var/ptr5(i32) #44 #4", ": var/ptr5(i32) #19", ": var/ptr5(i32) #46 undef/i32", ": var/ptr5(i32) #46 kernel")),
+    ("332", (": var/ptr5(i32) #46 =4/i32", ": group #46 spec=4/i32", ": var/ptr5(i32) #46 var/ptr5(f32)", ": var/ptr5(i32) #47 null/i64"), (": var/ptr5(i32) #46 t/i32", ": var/ptr5(i32) #44 #4", ": var/ptr5(i32) #19", ": var/ptr5(i32) #46 undef/i32", ": var/ptr5(i32) #46 kernel")),
     ("5632", (": var/ptr5(i32) #5635 s/abc", ": group #5635 s/"), (": var/ptr5(i32) #44 #4", ": var/ptr5(i32) #19", ": kernel #41 s/abc #0")),
-    ("5633", (": t/st(i32) #0 #5635 s/abc", ": t/i32 #9 #5635 s/a"), (": t/st(i32) #0 #44 #4", ": t/st(i32) #0 #19")),
+    ("5633", (": t/st(i32) #0 #5635 s/abc", ": t/st(i32,i32) #1 #5635 s/a"), (": t/st(i32) #0 #44 #4", ": t/st(i32) #0 #19")),
 )
 MODED = (
     ("331", (": kernel #38 =1/i32 spec=2/i64 null/i8", ": kernel #37 =1/i32"), (": kernel #17 #1 #1 #1", ": kernel #31", ": kernel #37 =1/f32", ": kernel #37 t/i32", ": kernel #37 undef/i32", ": kernel #38 =1/i32 =2/i32 null/v2(i32)")),

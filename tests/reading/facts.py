@@ -9,6 +9,7 @@ from .flow import bodies, check_flow
 from .opencl_std import check_types_of_calls
 from .order import SHAPE_OF, Places, check_ids, check_layout, check_shapes, uses_by
 from .profiles import Profile
+from .standard import check_standard
 from .text import Text, visible
 from .types import Types, check_types
 
@@ -67,6 +68,7 @@ class Facts:
             check_miscalls(self.insts)
         if self.profile >= Profile.OPENCL:
             check_types_of_calls(self.types)
+            check_standard(self.types, local, self.words[1])
 
     def decoded(self):
         """The instructions. Where one is refused those before it are kept."""

@@ -44,6 +44,7 @@ FORMS = {
     **{codes: f"{PLACE}{form}" for codes, form in {**TOLD, **extended.TOLD, **opencl_std.TOLD}.items()},
     "A1 A2": f"{PLACE}operand;defined;walk;",
     "G1": f"{PLACE}calls;cycle;",
+    " ".join(f"O{number}" for number in range(1, 24)): PLACE,
 }
 FORM_OF = {code: form for codes, form in FORMS.items() for code in codes.split()}
 MOST_WORDS = 16

@@ -8,6 +8,7 @@ from .flow import check_flow
 from .opencl_std import check_types_of_calls
 from .order import check_ids, check_layout, check_shapes
 from .profiles import Profile
+from .standard import check_standard
 from .types import check_types
 
 
@@ -16,7 +17,7 @@ def grammar_in(path):
     return Grammar(json.loads(path.read_text(encoding="utf-8")))
 
 
-def verdict(grammar, content, has_types=True, has_flow=True, profile=Profile.OWN):
+def verdict(grammar, content, has_types=True, has_flow=True, profile=Profile.OWN, has_standard=True):
     """The verdict line on a module, without its line feed, with or without the last stages, by how far it is looked
     at."""
     try:
@@ -33,6 +34,8 @@ def verdict(grammar, content, has_types=True, has_flow=True, profile=Profile.OWN
             check_miscalls(insts)
         if profile >= Profile.OPENCL and types:
             check_types_of_calls(types)
+            if has_flow and has_standard:
+                check_standard(types, local, words[1])
     except Broken as broken:
         return broken.line
     return "valid"
