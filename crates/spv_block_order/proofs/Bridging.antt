@@ -7,20 +7,23 @@ use Rattle.std.proofs.lemmas.Bool.{cases_lt, cases_order}
 use Rattle.std.proofs.lemmas.List.Elements.{All-take, All-drop, All-contains}
 use Rattle.spv_table.specs.Table.{Table}
 use Rattle.spv_module.specs.Operand.{PlainInst}
+use Rattle.spv_layout.specs.Place.{IsOfFunction}
+use Rattle.spv_layout.proofs.Places.{function_same}
 use Rattle.spv_graphs.specs.declared.graph.Block.{Block}
 use Rattle.spv_graphs.specs.declared.graph.Graph.{Graph}
 use Rattle.spv_graphs.specs.Graph.{IsGraph, block_count, targets_of}
 use Rattle.spv_graphs.specs.Path.{IsPath}
-use Rattle.spv_graph_order.specs.Order.{IsOnTheWay, IsEarly, IsFirstEarly}
+use Rattle.spv_graph_order.specs.Order.{IsOnTheWay, IsEarly, IsFirstEarly, IsHigher}
 use Rattle.spv_flow.specs.branches.Target.{is_label, IsOp}
-use Rattle.spv_flow.specs.branches.inner.Target.{is_terminator}
+use Rattle.spv_flow.specs.branches.inner.Target.{is_function, is_terminator}
 use Rattle.spv_flow.specs.branches.Walk.{Next, IsWalk}
 use Rattle.spv_flow.specs.walks.inner.Divided.{IsIn, IsBegin, IsDivided, IsGraphOf}
+use Rattle.spv_flow.proofs.lemmas.walks.Deciding.{walk_within}
 use Rattle.spv_flow.proofs.lemmas.walks.Lists.{any_cases, any_left, any_right}
 use Rattle.spv_flow.proofs.lemmas.walks.Trails.{run, size, trail, any_run, run_any}
 use Rattle.spv_flow.proofs.lemmas.walks.Walking.{first_in, begin_first, comes, walk_to, one_block}
 use Rattle.spv_block_order.specs.Early.{IsEarlyIn}
-use Rattle.spv_block_order.specs.inner.First.{IsFirstIn}
+use Rattle.spv_block_order.specs.inner.First.{IsEarlyBy, IsFirstIn}
 
 pub in_none : (x : ℕ) → ¬ (Contains [] x)
 in_none x (k, lt, e) = absurd (omega (arith, lt))
@@ -192,10 +195,10 @@ on_each G is f starts graph g b c c_in b_in way past walk =
     subst (λ (xs : List ℕ). Contains xs (slice_index starts b)) (sym k.divided)
     (contains_right (run (slice_index starts k.block) k.steps) (trail starts k.blocks) (slice_index starts b) there)
 
-early_walk : (G : Table) (is : List PlainInst) (f : ℕ) (starts : List ℕ) (graph : Graph)
-    → IsGraphOf G is f starts graph → IsGraph graph → (c : ℕ) → IsEarly graph c
-    → IsEarlyIn G is f (slice_index starts c)
-early_walk G is f starts graph g ok c early =
+early_by : (G : Table) (is : List PlainInst) (f : ℕ) (starts : List ℕ) (graph : Graph)
+    → IsGraphOf G is f starts graph → IsGraph graph → (c : ℕ) (early : IsEarly graph c)
+    → IsEarlyBy G is f (slice_index starts c) (slice_index starts early.block)
+early_by G is f starts graph g ok c early =
     let b = early.block in
     let count = g.count in
     let pos = not_first graph c early in
@@ -205,18 +208,25 @@ early_walk G is f starts graph g ok c early =
     let c_within = block_within graph ok early.past c early.path in
     let b_within = block_within graph ok to.0 b to.1 in
     let c_in : c + 1 < length starts = omega (arith, c_within, count) in
-    let b_in : b + 1 < length starts = omega (arith, b_within, count) in
-    record {
-      label = label_at G is f starts graph g early.past c early.path pos;
-      block = slice_index starts b;
-      named = label_at G is f starts graph g to.0 b to.1 (omega (arith, higher));
-      higher = g.divided.order c b higher (omega (arith, b_in));
-      way = record {
-        past = trail starts early.past;
-        walk = walk_to G is f starts graph g early.past c c_in early.path;
-        each = on_each G is f starts graph g b c c_in b_in early.way;
-      };
-    }
+    let b_in : b + 1 < length starts = omega (arith, b_within, count) in (
+      record {
+        label = label_at G is f starts graph g early.past c early.path pos;
+        block = slice_index starts b;
+        named = label_at G is f starts graph g to.0 b to.1 (omega (arith, higher));
+        higher = g.divided.order c b higher (omega (arith, b_in));
+        way = record {
+          past = trail starts early.past;
+          walk = walk_to G is f starts graph g early.past c c_in early.path;
+          each = on_each G is f starts graph g b c c_in b_in early.way;
+        };
+      },
+      refl,
+    )
+
+early_walk : (G : Table) (is : List PlainInst) (f : ℕ) (starts : List ℕ) (graph : Graph)
+    → IsGraphOf G is f starts graph → IsGraph graph → (c : ℕ) → IsEarly graph c
+    → IsEarlyIn G is f (slice_index starts c)
+early_walk G is f starts graph g ok c early = (early_by G is f starts graph g ok c early).0
 
 -- And a block of the function that stands early is one of the graph.
 
@@ -226,7 +236,7 @@ pub record IsEarlyAt (starts : List ℕ) (graph : Graph) (n : ℕ) : Type 0 wher
   pub first : slice_index starts block ≡ n
   pub early : IsEarly graph block
 
-walk_early : (G : Table) (is : List PlainInst) (f : ℕ) (starts : List ℕ) (graph : Graph)
+pub walk_early : (G : Table) (is : List PlainInst) (f : ℕ) (starts : List ℕ) (graph : Graph)
     → IsGraphOf G is f starts graph → (n : ℕ) → IsEarlyIn G is f n → IsEarlyAt starts graph n
 walk_early G is f starts graph g n early =
     let w = early.way in
@@ -300,3 +310,33 @@ first_by G is f starts graph g ok (Some c) first = (
       first.1 r.block (lower_start is f starts g.divided r.block c (omega (arith, within)) (omega (arith, at, lt)))
       r.early),
 )
+
+-- the first instruction of a higher block that is on the way
+pub higher_by : (G : Table) (is : List PlainInst) (f : ℕ) (starts : List ℕ) (graph : Graph)
+    → IsGraphOf G is f starts graph → IsGraph graph → (c n h : ℕ) → slice_index starts c ≡ n → IsEarly graph c
+    → IsHigher graph c h → IsEarlyBy G is f n (slice_index starts h)
+higher_by G is f starts graph g ok c n h at early high =
+    subst (λ (m : ℕ). IsEarlyBy G is f m (slice_index starts h)) at
+    (early_by G is f starts graph g ok c record {
+      past = early.past;
+      path = early.path;
+      block = h;
+      higher = high.higher;
+      way = high.way;
+    })
+
+pub early_at_within : (G : Table) (is : List PlainInst) (f n : ℕ) → IsEarlyIn G is f n → n < length is
+early_at_within G is f n e = (walk_within G is f e.way.past n e.way.walk).begun.within
+
+-- the function of a walk, by its OpFunction and by its last instruction
+pub walk_function : (G : Table) (is : List PlainInst) (f : ℕ) (past : List ℕ) (n : ℕ) → IsWalk G is f past n
+    → IsOp is f is_function
+walk_function G is f _ _ (IsWalk.begins op) = op
+walk_function G is f _ _ (IsWalk.goes past n m walk next of) = walk_function G is f past n walk
+
+pub early_function : (G : Table) (is : List PlainInst) (f g n : ℕ) → IsEarlyIn G is f n → IsOfFunction is n g → f ≡ g
+early_function G is f g n e of =
+    function_same is n f g (walk_within G is f e.way.past n e.way.walk) of
+
+pub of_function : (G : Table) (is : List PlainInst) (f n : ℕ) → IsEarlyIn G is f n → IsOfFunction is n f
+of_function G is f n e = walk_within G is f e.way.past n e.way.walk

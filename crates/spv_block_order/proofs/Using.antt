@@ -1,6 +1,6 @@
 -- Whether a use stands before the definition.
 use Rattle.std.proofs.Common.{◌≡◌, ◌<◌, ◌≤◌, ℕ, zero, suc, List, [], ◌∷◌, Bool, true, false, Option, Some, None, length}
-use Rattle.std.proofs.Common.{subst, arith}
+use Rattle.std.proofs.Common.{refl, subst, arith}
 use Rattle.std.specs.Prelude.{MatchBool, MatchOption, is_some, slice_get}
 use Rattle.std.proofs.lemmas.Bool.{eqb-true}
 use Rattle.spv_module.specs.declared.opcode.TheConstants as opcode
@@ -18,7 +18,7 @@ use Rattle.spv_flow.specs.walks.inner.Code.{insts_of, IsCode}
 use Rattle.spv_flow.proofs.lemmas.branches.Labelled.{op_tells, use_in, use_at, use_within, one_id}
 use Rattle.spv_flow.proofs.lemmas.walks.Coded.{one_place}
 use Rattle.spv_block_order.specs.Early.{IsEarlyUse}
-use Rattle.spv_block_order.specs.inner.Uses.{IsLater, IsEarlyAt}
+use Rattle.spv_block_order.specs.inner.Uses.{IsEarlyAt, IsEarlyAtBy, IsEarlyUseBy, IsLater, IsLaterBy}
 
 later : (G : Table) (c : Code) (x n d : ℕ) → IsCode G c → IsDefinedAt (insts_of c) x d → n ≤ d
     → IsLocalValue (insts_of c) x → IsLater (insts_of c) n x
@@ -100,3 +100,36 @@ pub not_past : (places : List Place) (n : ℕ) → n < length places → ¬ (sli
 not_past [] n lt e = omega (arith, lt)
 not_past (p ∷ places) zero lt e = cc
 not_past (p ∷ places) (suc n) lt e = not_past places n (omega (arith, lt)) e
+
+-- An operand that uses an id early, by what defines that.
+pub later_by : (G : Table) (c : Code) (n x : ℕ) (o : Option ℕ) → IsLater (insts_of c) n x
+    → MatchOption o ((d : ℕ) → ¬ (IsDefinedAt (insts_of c) x d)) (λ d. IsDefinedAt (insts_of c) x d)
+    → MatchOption o (¬ (IsLater (insts_of c) n x)) (IsLaterBy (insts_of c) n x)
+later_by G c n x None later none = absurd (none later.0.place later.0.defined)
+later_by G c n x (Some d) later defined = (later, defined)
+
+pub operand_by : (G : Table) (is : List PlainInst) (n k x : ℕ) (i : PlainInst) (o : Option ℕ) → slice_get is n ≡ Some i
+    → (r : Role) × IsUse G i k x r → MatchOption o (¬ (IsLater is n x)) (IsLaterBy is n x)
+    → MatchOption o (¬ (IsEarlyAt G is n k)) (IsEarlyAtBy G is n k)
+operand_by G is n k x i (Some m) there (r, u) h =
+    (record { id = x; role = r; used = use_at G is n k x r i there u; later = h.0 }, h.1)
+operand_by G is n k x i None there (r, u) h = λ e.
+    let same = one_id G is n k e.id x e.role r e.used (use_at G is n k x r i there u) in
+    h (subst (λ (y : ℕ). IsLater is n y) same e.later)
+
+-- the instruction that uses it, of which another operand does
+pub use_by : (G H : Table) (c : Code) (n k m : ℕ) → IsCode G c → IsEarlyUse H (insts_of c) n
+    → IsEarlyAtBy G (insts_of c) n k m → IsEarlyUseBy G (insts_of c) n k m
+use_by G H c n k m is u (e, defined) =
+    let early : IsEarlyUse G (insts_of c) n = record {
+      block = u.block;
+      of = u.of;
+      other = u.other;
+      operand = k;
+      id = e.id;
+      role = e.role;
+      used = e.used;
+      local = e.later.0;
+      undefined = e.later.1;
+    } in
+    (early, refl, one_place G c e.id e.later.0.place m is e.later.0.defined defined)

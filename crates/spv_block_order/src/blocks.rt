@@ -18,16 +18,16 @@ use std::alloc::{AllocError, Global};
 
 /// Lists that are used for one function after the other.
 #[derive(Drop)]
-struct Buffers {
+pub struct Buffers {
     /// The first instructions of a function's blocks, and the number of the block that begins at an instruction.
-    starts: Vec<u32>,
-    numbers: Vec<u32>,
-    graph: Graph,
+    pub starts: Vec<u32>,
+    pub numbers: Vec<u32>,
+    pub graph: Graph,
 }
 
 impl Buffers {
     /// Empty lists, for a module of so many instructions.
-    fn new(alloc: Global, count: usize) -> Result<Buffers, AllocError>
+    pub fn new(alloc: Global, count: usize) -> Result<Buffers, AllocError>
         ensures { IfOk result (λ b. length b.numbers.items ≡ count) }
     {
         Ok(Buffers {

@@ -4,7 +4,11 @@
 
 mod blocks;
 mod check;
+mod higher;
 pub mod laws;
+mod operand;
 mod uses;
 
 pub use check::check_order;
+pub use higher::higher_early_block;
+pub use operand::early_operand;

@@ -18,7 +18,7 @@ use spv_module::Inst;
 use spv_module::opcode::{EXT_INST, PHI};
 
 /// The id that operand `n` of an instruction uses, in whatever role, if it does.
-fn used(inst: &Inst<'_>, n: usize) -> Option<u32>
+pub fn used(inst: &Inst<'_>, n: usize) -> Option<u32>
     ensures { (G : Table) → FitsShape G (plain_inst inst.now)
         → MatchOption result ((x : ℕ) (r : declared.Role) → ¬ (IsUse G (plain_inst inst.now) n x r))
         (λ x. (r : declared.Role) × IsUse G (plain_inst inst.now) n x r) }
@@ -34,7 +34,7 @@ fn used(inst: &Inst<'_>, n: usize) -> Option<u32>
 }
 
 /// Whether an id is a local value that no instruction below one has as its result.
-fn is_later(code: &Code<'_, '_>, at: u32, id: u32) -> bool
+pub fn is_later(code: &Code<'_, '_>, at: u32, id: u32) -> bool
     ensures { (G : Table) → IsCode G code.now
         → MatchBool result (IsLater (insts_of code.now) at id) (¬ (IsLater (insts_of code.now) at id)) }
 {

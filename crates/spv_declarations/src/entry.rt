@@ -30,7 +30,7 @@ fn name_in<'a>(operands: &[Operand<'a>]) -> Option<(u32, &'a str)>
 }
 
 /// The execution model and the name of an OpEntryPoint.
-fn named<'a>(inst: &Inst<'a>) -> Option<(u32, &'a str)>
+pub fn named<'a>(inst: &Inst<'a>) -> Option<(u32, &'a str)>
     ensures { option_map (λ p. (p.0, p.1.now)) result ≡ spec.named_by (plain_inst inst.now) }
 {
     if inst.opcode == opcode::ENTRY_POINT {

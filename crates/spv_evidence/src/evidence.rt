@@ -78,11 +78,12 @@ pub enum Evidence {
         opcodes: Listed<u32>,
         end: bool,
     },
-    /// The rules D, F and M that one operand breaks: that operand.
+    /// The rules D, F, M, Y10 and O that one operand breaks: that operand.
     Operand {
         operand: u32,
     },
-    /// D2 and Y3: the earlier instruction that has the same result, or declares the same type.
+    /// D2, Y3, O3 and O7 to O10: the earlier instruction that has the same result, or declares the same type, or speaks
+    /// against this one.
     Earlier {
         inst: u32,
     },
@@ -103,7 +104,7 @@ pub enum Evidence {
         role: Role,
         inst: u32,
     },
-    /// C1: a capability that a kernel has and that is not implied, or one that it has not and that is implied.
+    /// C1 and O13: a capability that a kernel has and that is not implied, or one that it has not and that is implied.
     Capability {
         capability: u32,
         implied: bool,
@@ -176,5 +177,29 @@ pub enum Evidence {
         operands: u32,
         least: Option<u32>,
         most: Option<u32>,
+    },
+    /// O1: a block of the same function that stands higher, by which each walk to this one comes.
+    OnTheWay {
+        block: u32,
+    },
+    /// O11, O18 and O19: two operands that may not stand beside each other.
+    Pair {
+        first: u32,
+        second: u32,
+    },
+    /// O7: an operand, and the instruction that gives a group a decoration which may not stand on the operand's id.
+    ByGroup {
+        operand: u32,
+        inst: u32,
+    },
+    /// O21: what the version of the header does not have, an opcode, a value or a bit; and the number of the line of
+    /// spv_versions' table that tells which versions and extensions have it.
+    Late {
+        lister: Lister,
+        line: u32,
+    },
+    /// O22: the greatest number that is allowed, which is passed.
+    Past {
+        most: u32,
     },
 }

@@ -3,6 +3,7 @@
 #![tactic(auto)]
 
 mod early;
+mod higher;
 mod incoming;
 pub mod laws;
 mod limits;
@@ -12,3 +13,4 @@ mod spanning;
 mod upper;
 
 pub use early::first_early;
+pub use higher::higher_block;

@@ -40,7 +40,7 @@ fn is_group(code: u16) -> bool
 }
 
 /// Whether a value, if there is one, is over Invocation.
-fn is_high(scope: Option<u64>) -> bool
+pub fn is_high(scope: Option<u64>) -> bool
     ensures { IsTrue result ↔ IsSomeAnd scope (λ n. 4 < n) }
 {
     match scope {
@@ -75,7 +75,7 @@ fn is_no_group(definitions: &Definitions, operands: &[Operand], seats: &[u32]) -
 }
 
 /// Whether a value, if there is one, has two orders, or a bit that no kernel has.
-fn are_bad_semantics(semantics: Option<u64>) -> bool
+pub fn are_bad_semantics(semantics: Option<u64>) -> bool
     ensures { IsTrue result ↔ IsSomeAnd semantics inner.AreBadSemantics }
 {
     match semantics {
@@ -142,7 +142,7 @@ fn has_own_bad_semantics(definitions: &Definitions, inst: &Inst<'_>) -> bool
 }
 
 /// Whether an instruction is that of a group, and the first of its scopes none of a group.
-fn has_bad_group(definitions: &Definitions, inst: &Inst<'_>, scopes: &[u32]) -> bool
+pub fn has_bad_group(definitions: &Definitions, inst: &Inst<'_>, scopes: &[u32]) -> bool
     ensures { IsTrue result ↔ (IsTrue (spec.is_group inst.now.opcode)
         × inner.IsNoGroup definitions.now (plain_inst inst.now).operands scopes.now) }
 {

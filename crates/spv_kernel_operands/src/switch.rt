@@ -13,7 +13,7 @@ use spv_type_forms::{Definitions, Form, Scalar};
 use std::alloc::{AllocError, Global};
 
 /// The number that an operand is, if it is a literal of OpSwitch.
-fn literal_in(operand: Operand) -> Option<u64>
+pub fn literal_in(operand: Operand) -> Option<u64>
     ensures { result ≡ spec.literal_in (plain_operand operand.entry) }
 {
     match operand {
@@ -46,7 +46,7 @@ fn int_width(definitions: &Definitions, t: u32) -> Option<u32>
 }
 
 /// How wide the selector of an OpSwitch is, in bits, if its type is an int type.
-fn selector_width(definitions: &Definitions, operands: &[Operand]) -> Option<u32>
+pub fn selector_width(definitions: &Definitions, operands: &[Operand]) -> Option<u32>
     ensures { MatchOption result ((w : ℕ) → ¬ (IsSelector definitions.now (plain_operands operands.now) w))
         (λ w. IsSelector definitions.now (plain_operands operands.now) w) }
 {
@@ -55,7 +55,7 @@ fn selector_width(definitions: &Definitions, operands: &[Operand]) -> Option<u32
 }
 
 /// Whether a literal has a bit from a width up.
-fn is_wide(literal: u64, width: u32) -> bool
+pub fn is_wide(literal: u64, width: u32) -> bool
     ensures { IsTrue result ↔ (2 ^ width ≤ literal) }
 {
     if 64 <= width {

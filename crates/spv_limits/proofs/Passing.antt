@@ -25,7 +25,7 @@ answer_no false P Q e h = h
 answer_no true P Q e h = absurd (let never : true ≡ false = e in cc)
 
 -- the text that is too long
-record Long (os : List Plain) : Type 0 where
+pub record Long (os : List Plain) : Type 0 where
   pub place : ℕ
   pub text : List ℕ
   pub there : slice_get os place ≡ Some (Text text)
@@ -35,14 +35,14 @@ long_one : (o : Plain) (os : List Plain) → IsLong o → Long (o ∷ os)
 long_one (Text t) os l = record { place = 0; text = t; there = refl; over = l }
 long_one _ os l = absurd l
 
-long_place : (os : List Plain) → AreLong os → Long os
+pub long_place : (os : List Plain) → AreLong os → Long os
 long_place [] h = absurd h
 long_place (o ∷ os) h = elim h [
   | inl a ↦ long_one o os a
   | inr b ↦ let r = long_place os b in record { place = suc r.place; text = r.text; there = r.there; over = r.over }
 ]
 
-place_long : (os : List Plain) (p : ℕ) (t : List ℕ) → slice_get os p ≡ Some (Text t)
+pub place_long : (os : List Plain) (p : ℕ) (t : List ℕ) → slice_get os p ≡ Some (Text t)
     → most limit.Characters < character_count t → AreLong os
 place_long [] p t e l = absurd (none-some (Text t) e)
 place_long (o ∷ os) zero t e l = inl (subst IsLong (sym (same_Some o (Text t) e)) l)

@@ -9,5 +9,6 @@ mod past;
 mod table;
 mod tallies;
 
+pub use counted::has_long_text;
 pub use past::first_past;
 pub use table::{Limit, most};

@@ -57,12 +57,12 @@ place_hit flags ns (p ∷ os) zero o e h = inl (subst (IsOperandHit flags ns) (s
 place_hit flags ns (p ∷ os) (suc q) o e h = inr (place_hit flags ns os q o e h)
 
 -- a kind of a number has a name
-record Known (G : Table) (k : Kind) (j : ℕ) : Type 0 where
+pub record Known (G : Table) (k : Kind) (j : ℕ) : Type 0 where
   pub name : List ℕ
   pub of : name_of k ≡ Some name
   pub number : number_named G name ≡ Some j
 
-known : (G : Table) (k : Kind) (j : ℕ) → number_of G k ≡ Some j → Known G k j
+pub known : (G : Table) (k : Kind) (j : ℕ) → number_of G k ≡ Some j → Known G k j
 known G k j e = by (name_of k) refl e
   where
     by : (o : Option (List ℕ)) → name_of k ≡ o → option_and_then (number_named G) o ≡ Some j → Known G k j
@@ -134,7 +134,7 @@ hit_late G minor is flags b ns i told numbers h = elim h [
   | inr f ↦ form_late G minor is flags b i told f
 ]
 
-number_hit : (G : Table) (minor : ℕ) (is : List PlainInst) (flags : List Bool) (b : Bool) (ns : List (Option ℕ))
+pub number_hit : (G : Table) (minor : ℕ) (is : List PlainInst) (flags : List Bool) (b : Bool) (ns : List (Option ℕ))
     (i : PlainInst) (k : Kind) (n : ℕ) → AreTold minor is flags b → AreNumbers G ns → HasNumber G i k n
     → IsMissing minor is k n → IsInstHit flags ns i
 number_hit G minor is flags b ns i _ _ told numbers of_opcode m =

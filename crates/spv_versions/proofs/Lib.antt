@@ -5,3 +5,4 @@ pub mod Numbering
 pub mod Lateness
 pub mod Shaping
 pub mod Worked
+pub mod Hitting

@@ -3,3 +3,4 @@ pub mod First
 pub mod Lines
 pub mod Told
 pub mod Shapes
+pub mod Hits

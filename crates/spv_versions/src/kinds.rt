@@ -14,7 +14,7 @@ use spv_table::Table;
 /// The kinds of operands of which the table speaks, by their numbers in a grammar.
 #[derive(Clone, Copy)]
 pub struct Kinds {
-    numbers: [Option<u32>; KIND_COUNT],
+    pub numbers: [Option<u32>; KIND_COUNT],
 }
 
 /// The number that a kind has in a grammar.
@@ -28,7 +28,7 @@ fn number_of(table: &Table, kind: Kind) -> Option<u32>
 }
 
 /// Whether a number that may be missing is that one.
-fn is_number(number: Option<u32>, wanted: u32) -> bool
+pub fn is_number(number: Option<u32>, wanted: u32) -> bool
     ensures { IsTrue result ↔ (number ≡ Some wanted) }
 {
     match number {
@@ -38,7 +38,7 @@ fn is_number(number: Option<u32>, wanted: u32) -> bool
 }
 
 /// The number of one bit.
-fn bit_at(position: u32) -> u32
+pub fn bit_at(position: u32) -> u32
     requires { position < 32 }
     ensures { result ≡ 2 ^ position }
 {
@@ -46,7 +46,7 @@ fn bit_at(position: u32) -> u32
 }
 
 /// Whether the bit at a position is set in a mask.
-fn is_set(mask: u32, position: u32) -> bool
+pub fn is_set(mask: u32, position: u32) -> bool
     requires { position < 32 }
     ensures { IsTrue result ↔ (mask / 2 ^ position % 2 ≡ 1) }
 {

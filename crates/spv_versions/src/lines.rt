@@ -1,10 +1,10 @@
 //! Lines of the table, and which of them are missing.
 
-ghost use Rattle.std.specs.Prelude.{◌≡◌, ◌≤◌, ◌↔◌, ◌&&◌, ℕ, Some, false, not, IsTrue, length, map, slice_get};
+ghost use Rattle.std.specs.Prelude.{◌≡◌, ◌≤◌, ◌↔◌, ◌&&◌, ℕ, Some, false, not, IsTrue, MatchOption, length, map, slice_get};
 ghost use Rattle.std.specs.Prelude.{slice_index_or};
 ghost use Rattle.spv_versions.specs.declared.table.Kind.TheVariants as kind;
 ghost use Rattle.spv_versions.specs.Table.{IsBefore, IsOf};
-ghost use Rattle.spv_versions.specs.inner.Lines.{IsListed, Read, names_have, plain_line};
+ghost use Rattle.spv_versions.specs.inner.Lines.{IsListed, IsListedAt, Read, names_have, plain_line};
 
 use crate::table::{COUNT, Kind, Line, is_before};
 
@@ -84,4 +84,22 @@ pub fn is_listed(lines: &[Line; COUNT], flags: &[bool; COUNT], kind: Kind, numbe
         }
     }
     false
+}
+
+/// The line by which a number of a kind is missing, if one is.
+pub fn listed_line(
+    lines: &[Line; COUNT],
+    flags: &[bool; COUNT],
+    kind: Kind,
+    number: u32,
+) -> Option<u32>
+    ensures { MatchOption result (¬ (IsListed (map plain_line lines.now) flags.now kind number))
+        (IsListedAt (map plain_line lines.now) flags.now kind number) }
+{
+    for k in 0..COUNT {
+        if flags[k] && is_of(&lines[k], kind, number) {
+            return Some(k as u32);
+        }
+    }
+    None
 }

@@ -1,16 +1,16 @@
 //! Which lines of the table are missing in a module.
 
-ghost use Rattle.std.specs.Prelude.{◌≡◌, ◌↔◌, ◌&&◌, ◌∷◌, ◌++◌, ℕ, List, [], Some, IsTrue, codes, length, not};
+ghost use Rattle.std.specs.Prelude.{◌≡◌, ◌↔◌, ◌&&◌, ◌∷◌, ◌++◌, ℕ, List, [], Some, IsTrue, MatchOption, codes, length, not};
 ghost use Rattle.std.specs.Prelude.{option_map};
 ghost use Rattle.std.specs.Str.{bytes_eq};
 ghost use Rattle.spv_module.specs.Module.{plain_inst};
 ghost use Rattle.spv_module.specs.Operand.{PlainInst};
 ghost use Rattle.spv_versions.specs.declared.table.Kind.TheVariants as kind;
 ghost use Rattle.spv_versions.specs.Table as spec;
-ghost use Rattle.spv_versions.specs.inner.Lines.{IsListed};
+ghost use Rattle.spv_versions.specs.inner.Lines.{IsListed, IsListedAt};
 ghost use Rattle.spv_versions.specs.inner.Told.{AreTold, IsLeast, extension_in};
 
-use crate::lines::{declare, is_listed, lacking, least_opcode};
+use crate::lines::{declare, is_listed, lacking, least_opcode, listed_line};
 use crate::table::{COUNT, Kind, table};
 use spv_module::{Inst, Operand, opcode};
 use spv_type_forms::Definitions;
@@ -104,6 +104,14 @@ impl Missing {
         ensures { IsTrue result ↔ IsListed spec.lines self.now.lines kind number }
     {
         is_listed(table(), &self.lines, kind, number)
+    }
+
+    /// The line by which a number of a kind is missing, if one is.
+    pub fn line_of(&self, kind: Kind, number: u32) -> Option<u32>
+        ensures { MatchOption result (¬ (IsListed spec.lines self.now.lines kind number))
+            (IsListedAt spec.lines self.now.lines kind number) }
+    {
+        listed_line(table(), &self.lines, kind, number)
     }
 
     /// Whether an opcode is missing.

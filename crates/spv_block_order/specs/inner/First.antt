@@ -1,5 +1,5 @@
 -- The first instruction at which something is so. (For the code alone.)
-use Rattle.std.specs.Prelude.{◌<◌, ℕ, List, Option, MatchOption}
+use Rattle.std.specs.Prelude.{◌≡◌, ◌<◌, ℕ, List, Option, MatchOption}
 use Rattle.spv_table.specs.Table.{Table}
 use Rattle.spv_module.specs.Operand.{PlainInst}
 use Rattle.spv_block_order.specs.Early.{IsEarlyIn, IsEarlyBlock, IsEarlyUse}
@@ -18,3 +18,10 @@ IsFirstBlock G is o = IsFirstOf (IsEarlyBlock G is) o
 -- the first use before its definition, of the instructions below one
 abbrev pub IsFirstUse : Table → List PlainInst → ℕ → Option ℕ → Type 0
 IsFirstUse G is limit o = IsFirstOf (λ n. (n < limit) × IsEarlyUse G is n) o
+
+-- Block n of the function stands early, and h is a higher one that is on the way to it; in some function.
+abbrev pub IsEarlyBy : Table → List PlainInst → ℕ → ℕ → ℕ → Type 0
+IsEarlyBy G is f n h = (e : IsEarlyIn G is f n) × (e.block ≡ h)
+
+abbrev pub IsEarlyBlockBy : Table → List PlainInst → ℕ → ℕ → Type 0
+IsEarlyBlockBy G is n h = (f : ℕ) × IsEarlyBy G is f n h

@@ -1,0 +1,11 @@
+pub mod Scoped
+pub mod Switched
+pub mod Operated
+pub mod Limited
+pub mod Declared
+pub mod Decorating
+pub mod Versioned
+pub mod Placed
+pub mod Ordered
+pub mod Worked
+pub mod Sufficing

@@ -1,0 +1,8 @@
+pub mod Operands
+pub mod Declarations
+pub mod Order
+pub mod Versions
+pub mod Limits
+pub mod Evidence
+pub mod Example
+pub mod inner
