@@ -109,7 +109,12 @@ fn push_number<'a>(
 /// Adds the text at the front of the words from `at` up to `end` to a list that has room for it, and answers how many
 /// words it takes. None where it is refused. By a call: most texts are short.
 #[inline(never)]
-fn push_long_text<'a>(image: &'a Image, operands: &mut Vec<Operand<'a>>, at: u32, end: u32) -> Option<u32>
+fn push_long_text<'a>(
+    image: &'a Image,
+    operands: &mut Vec<Operand<'a>>,
+    at: u32,
+    end: u32,
+) -> Option<u32>
     requires order { at < end }
     requires fits { end ≤ length image.now }
     requires spare { vec_len operands.now < vec_capacity operands.now }
@@ -203,7 +208,14 @@ pub fn push_next<'t, 'a>(
             operands.push_reserved(Operand::Mask { kind, value: first });
         }
         Leaf::Text => words = push_text(scene, operands, begin, at, end)?,
-        Leaf::ContextNumber => words = push_number(scene.definitions, scene.image, operands, begin, at, end)?,
+        Leaf::ContextNumber => words = push_number(
+            scene.definitions,
+            scene.image,
+            operands,
+            begin,
+            at,
+            end,
+        )?,
         Leaf::Nothing => return None,
     }
     Some(Pushed { words, kinds })

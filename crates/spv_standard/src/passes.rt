@@ -130,10 +130,7 @@ pub fn in_version(table: &Table, definitions: &Definitions, minor: u8, count: u3
     requires { count ≡ length definitions.now }
     ensures { IsFirstIn (versions.Broken table.now minor definitions.now) result }
 {
-    found_by(
-        Rule::O21,
-        first_late(table, definitions, minor, count),
-    )
+    found_by(Rule::O21, first_late(table, definitions, minor, count))
 }
 
 /// Where O22 is first broken. `count` is how many instructions there are.
@@ -146,8 +143,5 @@ pub fn in_limits(
     requires lower { AreLower definitions.now }
     ensures { IfOk result (IsFirstIn (limits.Broken definitions.now)) }
 {
-    Ok(found_by(
-        Rule::O22,
-        first_past(alloc, definitions, count)?,
-    ))
+    Ok(found_by(Rule::O22, first_past(alloc, definitions, count)?))
 }
