@@ -5,10 +5,10 @@ mod ids;
 mod import;
 mod members;
 mod other;
-mod target;
+mod targets;
 
 pub use entry::linking_entry;
 pub use import::outside_inst;
 pub use members::{Mixture, half_built_in};
 pub use other::other_inst;
-pub use target::{Target, bad_target};
+pub use targets::{Target, bad_target};
