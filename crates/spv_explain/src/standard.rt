@@ -46,19 +46,25 @@ fn kernel_evidence(
     ensures { IfOk result
         (λ e. IsKernelEvidence table.now minor (plain_insts «module».now) fault.rule fault.inst e) }
 {
-    let Fault { rule, inst, .. } = fault;
     let insts = module.insts.as_slice();
     let total = insts.len() as u32;
     let definitions = Definitions::new(insts, plan, ids);
-    match part_of(rule) {
-        Part::Order => order_evidence(alloc, module, plan, ids, rule, inst),
+    match part_of(fault.rule) {
+        Part::Order => order_evidence(alloc, module, plan, ids, fault.rule, fault.inst),
         Part::Interfaces => Ok(Evidence::Alone),
-        Part::Declarations => Ok(declaration_evidence(&definitions, rule, inst)),
-        Part::Placements => placement_evidence(alloc, &definitions, total, inst),
-        Part::Decorations => decoration_evidence(alloc, table, &definitions, total, rule, inst),
-        Part::Operands => operand_evidence(alloc, &definitions, rule, inst),
-        Part::Version => Ok(version_evidence(table, &definitions, minor, total, inst)),
-        Part::Limits => Ok(limit_evidence(&definitions, inst)),
+        Part::Declarations => Ok(declaration_evidence(&definitions, fault.rule, fault.inst)),
+        Part::Placements => placement_evidence(alloc, &definitions, total, fault.inst),
+        Part::Decorations => decoration_evidence(
+            alloc,
+            table,
+            &definitions,
+            total,
+            fault.rule,
+            fault.inst,
+        ),
+        Part::Operands => operand_evidence(alloc, &definitions, fault.rule, fault.inst),
+        Part::Version => Ok(version_evidence(table, &definitions, minor, total, fault.inst)),
+        Part::Limits => Ok(limit_evidence(&definitions, fault.inst)),
     }
 }
 
