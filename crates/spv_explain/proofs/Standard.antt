@@ -190,6 +190,13 @@ pub unbroken_branches : (G : Table) (reach : Reach) (bound : ℕ) (is : List Pla
 unbroken_branches G reach bound is f told b = λ q m s h.
     earlier f.rule f.inst q m (standard_stage G reach is f.rule f.inst b) s (told.0.least q m (Broken.of_flow q m h))
 
+-- of no other list they are asked
+pub not_asked : (reach : Reach) → ((minor : ℕ) → ¬ (reach ≡ OpenCl minor)) → (G : Table) (is : List PlainInst) (r : Rule)
+    (n : ℕ) → ¬ (standard.Broken G reach is r n)
+not_asked Profile other G is r n b = b
+not_asked Extended other G is r n b = b
+not_asked (OpenCl minor) other G is r n b = other minor refl
+
 -- what shows a rule suffices
 found_broken : (G : Table) (minor : ℕ) (is : List PlainInst) (r : Rule) (n : ℕ) (e : Evidence)
     → found.IsEvidence G minor is r n e → KernelBroken G minor is r n
