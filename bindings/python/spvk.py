@@ -268,6 +268,10 @@ class Evidence:
     operands: Optional[int] = None
     least: Optional[int] = None
     most: Optional[int] = None
+    other_operand: Optional[Operand] = None
+    on_the_way: Optional[int] = None
+    given: Optional[Instruction] = None
+    since: Optional[str] = None
 
     def __bool__(self) -> bool:
         return self.verdict.is_valid
@@ -360,6 +364,10 @@ _MEMBERS: Dict[str, Tuple[str, Callable[[Any], Any]]] = {
     "operands": ("operands", _same),
     "least": ("least", _same),
     "most": ("most", _same),
+    "otherOperand": ("other_operand", _made_of(Operand)),
+    "onTheWay": ("on_the_way", _same),
+    "given": ("given", _instruction),
+    "since": ("since", _same),
 }
 
 

@@ -189,6 +189,10 @@ LINES = {
     "operands": text("operands"),
     "least": count("least"),
     "most": count("most"),
+    "otherOperand": lambda told, _: [f"other operand: {told['index']}{operand_part(told)}"],
+    "onTheWay": result("on the way"),
+    "given": inst("given"),
+    "since": text("since"),
 }
 
 
@@ -596,6 +600,7 @@ def schema_refuses(_program, _folder):
         {"file": "a", "verdict": "error", "error": "memory"},
         fault,
         {**fault, "walk": [1], "operand": {"index": 2, "id": 3}, "defined": {"inst": 1, "text": "a"}},
+        {**fault, "code": "O22", "most": 255},
     ]
     bad = [
         {},
@@ -609,6 +614,7 @@ def schema_refuses(_program, _folder):
         {**fault, "inst": -1},
     ]
     bad += [{**fault, "walk": ["%1"]}, {**fault, "walk": [1]}, {**fault, "other": 1}, {**fault, "code": "W2"}]
+    bad += [{**fault, "otherOperand": {"index": 2}}, {**fault, "code": "O21", "since": "4"}]
     bad += [{name: value for name, value in fault.items() if name != lost} for lost in fault]
     wrong = [it for it in good if not validator().is_valid(it)] + [it for it in bad if validator().is_valid(it)]
     return f"  {wrong}" if wrong else None

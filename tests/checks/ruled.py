@@ -11,7 +11,7 @@ from typing import List
 
 from shapes.changes import with_extended
 
-from . import cases
+from . import cases, opencl
 from .common import LAYERS as ALL_LAYERS
 from .common import TESTS, Answer, Check, difference, run
 
@@ -102,7 +102,7 @@ def is_among(code, cell):
         return False
     for part in cell.split(", "):
         first, _, last = part.partition(" to ")
-        order = "WIPLDYCMEFAG"
+        order = "WIPLDYCMEFAGO"
         if part in ("all", code, code[0]) or (last and len(last) == 1 and order.index(code[0]) >= order.index(first)):
             return True
         if last and last[0] == code[0] and int(first[1:]) <= int(code[1:]) <= int(last[1:]):
@@ -111,14 +111,18 @@ def is_among(code, cell):
 
 
 def explained(folder):
-    """The modules of tests/modules, and those of cases that have an extended instruction, which are explained with its
-    operands: each with the flags for that."""
-    yield from (([], path) for path in sorted((TESTS / "modules").glob("*.spv")))
+    """The modules of tests/modules, those of cases that have an extended instruction, which are explained with its
+    operands, and those of cases of `--opencl`: each with the words for that."""
+    own = ["--grammar", GRAMMAR]
+    yield from ((own, path) for path in sorted((TESTS / "modules").glob("*.spv")))
     contents = cases.written()
-    for name in with_extended(contents):
-        path = folder / f"{name}.spv"
-        path.write_bytes(contents[name])
-        yield ["--extended"], path
+    extended = {name: contents[name] for name in with_extended(contents)}
+    kernels = ["--opencl", "--grammar", TESTS / cases.OPENCL]
+    for words, modules in ((["--extended", *own], extended), (kernels, opencl.written())):
+        for name, content in modules.items():
+            path = folder / f"{name}.spv"
+            path.write_bytes(content)
+            yield words, path
 
 
 def keyed(program, folder):
@@ -127,8 +131,8 @@ def keyed(program, folder):
     rows = next(table.rows for table in tables(text) if table.columns == LINES)
     wanted = {key: codes for keys, codes, _ in rows for key in keys.split(", ")}
     found, wrong = set(), []
-    for flags, path in explained(folder):
-        lines = run(program, ["explain", *flags, "--grammar", GRAMMAR, path], folder).out.decode().split("\n")[:-1]
+    for words, path in explained(folder):
+        lines = run(program, ["explain", *words, path], folder).out.decode().split("\n")[:-1]
         code = lines[0].split(" ")[1] if lines[1:] else ""
         keys = {line.split(": ")[0].rstrip(":") for line in lines[1:]}
         found |= keys

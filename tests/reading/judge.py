@@ -13,6 +13,7 @@ from .flow import CALL, TOLD, ToldOfTargets
 from .forms import UNLIKE, VECTOR, VOID
 from .order import BEGIN, MOST_NAMES, after, kinds_of, may_come, may_end, row_text
 from .profiles import Profile
+from .standard import told as standard
 from .text import CONTROL, bits_of, visible
 from .types import NEEDED, is_defined, is_import, parameters_of, plays
 
@@ -41,10 +42,13 @@ FORMS = {
     "Y6": f"{PLACE}(place|parameter);(type;)?wanted;found;",
     "Y7": f"{PLACE}place;wanted;found;",
     "Y8": f"{PLACE}(place|argument);(type;)?wanted;found;",
-    **{codes: f"{PLACE}{form}" for codes, form in {**TOLD, **extended.TOLD, **opencl_std.TOLD}.items()},
+    **{
+        codes: f"{PLACE}{form}"
+        for told in (TOLD, extended.TOLD, opencl_std.TOLD, standard.TOLD)
+        for codes, form in told.items()
+    },
     "A1 A2": f"{PLACE}operand;defined;walk;",
     "G1": f"{PLACE}calls;cycle;",
-    " ".join(f"O{number}" for number in range(1, 24)): PLACE,
 }
 FORM_OF = {code: form for codes, form in FORMS.items() for code in codes.split()}
 MOST_WORDS = 16
@@ -70,7 +74,7 @@ def length(start, goal, following):
     return None
 
 
-class Judge(ToldOfTargets, extended.ToldOfCalls, opencl_std.ToldOfTypes):
+class Judge(ToldOfTargets, extended.ToldOfCalls, opencl_std.ToldOfTypes, standard.ToldOfStandard):
     """The lines of one fault, in full or not. A method of the name of a key says whether a line with that key is
     true."""
 
@@ -145,6 +149,8 @@ class Judge(ToldOfTargets, extended.ToldOfCalls, opencl_std.ToldOfTypes):
             found.append("no line imported")
         if self.code in ("Y6", "Y8") and "type" not in keys and self.signature() is not None:
             found.append("no line type")
+        if self.code == "O21":
+            found += self.lacks_of_version(keys)
         return found + (self.lacks_of_condition(keys) if self.code in ("Y2", "Y4", "Y5") else [])
 
     def lacks_of_condition(self, keys):
@@ -235,6 +241,8 @@ class Judge(ToldOfTargets, extended.ToldOfCalls, opencl_std.ToldOfTypes):
         )
 
     def is_opcode(self, text):
+        if self.code == "O21" and not self.lacks_opcode():
+            return False
         opcode = self.facts.words[self.facts.place_of(self.number)] & 0xFFFF
         entry = self.facts.grammar.entries.get(opcode)
         return text == (f"{opcode} {visible(entry['opname'])}" if entry else str(opcode))
@@ -387,6 +395,8 @@ class Judge(ToldOfTargets, extended.ToldOfCalls, opencl_std.ToldOfTypes):
 
     def is_earlier(self, text):
         number = self.numbered(text)
+        if self.code[0] == "O":
+            return number is not None and self.speaks_against(number)
         if number is None or number >= self.number:
             return False
         other = self.facts.insts[number]
@@ -406,7 +416,8 @@ class Judge(ToldOfTargets, extended.ToldOfCalls, opencl_std.ToldOfTypes):
         return text == self.capability(6) and 6 not in self.facts.types.implied
 
     def is_implied(self, text):
-        return text == self.capability(1) and 1 in self.facts.types.implied
+        number = standard.IMPLIED.get(self.code, 1)
+        return text == self.capability(number) and number in self.facts.types.implied
 
     def listed(self):
         """The names that what needs a capability lists."""
@@ -429,6 +440,8 @@ class Judge(ToldOfTargets, extended.ToldOfCalls, opencl_std.ToldOfTypes):
         return self.inst.operands[self.operand()][0] == "Mask" and text and self.bit() > 0
 
     def is_needs_one_of(self, text):
+        if self.code == "O21":
+            return self.are_extensions(text)
         types, listed = self.facts.types, self.listed()
         if listed and not types.is_covered(listed):
             return text == " ".join(map(visible, listed))
@@ -442,6 +455,9 @@ class Judge(ToldOfTargets, extended.ToldOfCalls, opencl_std.ToldOfTypes):
         if not needed or not self.one("operand") or self.operand() != (2 if self.inst.opcode == VECTOR else 1):
             return False
         return text == " ".join(map(self.capability, needed)) and not set(needed) & types.implied
+
+    def is_most(self, text):
+        return self.is_limit(text) if self.code == "O22" else super().is_most(text)
 
     def is_missing(self, text):
         if self.code == "L1":

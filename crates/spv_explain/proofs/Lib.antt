@@ -2,6 +2,7 @@ mod Objects
 mod Readings
 mod Shown
 mod Stages
+mod Standard
 mod Sufficing
 mod Tellings
 mod Worked

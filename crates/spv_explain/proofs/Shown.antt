@@ -16,12 +16,10 @@ use Rattle.spv_extended.specs.Reach.{opens, profile_of}
 use Rattle.spv_std_types.specs.Broken as std_rule
 use Rattle.spv_std_types.specs.Broken.{asks_types}
 use Rattle.spv_std_types.specs.Mistyped.{IsMistyped}
-use Rattle.spv_standard.specs.Broken as standard_rule
 use Rattle.spv_check.specs.Fork.{fork_of}
 use Rattle.spv_layout.specs.Broken as broken
 use Rattle.spv_layout.specs.Plan as plan
 use Rattle.spv_evidence.specs.declared.evidence.Evidence.{Evidence}
-use Rattle.spv_evidence.specs.declared.evidence.Evidence.TheVariants.{Alone}
 use Rattle.spv_form_evidence.specs.layout.Evidence as layout
 use Rattle.spv_form_evidence.specs.ids.Evidence as ids
 use Rattle.spv_form_evidence.specs.ids.Roles as roles
@@ -34,6 +32,7 @@ use Rattle.spv_flow_evidence.specs.walks.Evidence as walks
 use Rattle.spv_flow_evidence.specs.calls.Evidence as calls
 use Rattle.spv_explain.specs.Evidence.{IsEvidence}
 use Rattle.spv_explain.specs.Mistyped as mistyped
+use Rattle.spv_explain.specs.Standard as standard
 use Rattle.spv_explain.specs.inner.Shown.{IsShownAt}
 
 pub role_shown : (G : Table) (reach : Reach) (bound : ℕ) (is : List PlainInst) (f : Fault) (e : Evidence)
@@ -109,6 +108,6 @@ mistyping_shown G reach bound is f e b h =
     λ s. IsEvidence.of_std_types f.rule f.inst e m.1 (subst (λ r. mistyped.IsEvidence is r f.inst e) (sym m.0) h)
 
 -- what the standard asks besides
-pub standard_shown : (G : Table) (reach : Reach) (bound : ℕ) (is : List PlainInst) (f : Fault)
-    → standard_rule.Broken G reach is f.rule f.inst → IsShownAt G reach bound is f Alone
-standard_shown G reach bound is f b = λ s. IsEvidence.of_standard f.rule f.inst b
+pub standard_shown : (G : Table) (reach : Reach) (bound : ℕ) (is : List PlainInst) (f : Fault) (e : Evidence)
+    → standard.IsEvidence G reach is f.rule f.inst e → IsShownAt G reach bound is f e
+standard_shown G reach bound is f e h = λ s. IsEvidence.of_standard f.rule f.inst e h

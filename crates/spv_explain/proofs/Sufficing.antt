@@ -38,6 +38,7 @@ use Rattle.spv_flow_evidence.proofs.lemmas.walks.Sufficing as walks_law
 use Rattle.spv_flow_evidence.proofs.lemmas.calls.Walked.{sufficient}
 use Rattle.spv_explain.specs.Evidence.{IsEvidence}
 use Rattle.spv_explain.specs.Mistyped as by_std_types
+use Rattle.spv_explain.proofs.Standard.{standard_broken}
 
 -- the instruction at which a rule on capabilities or entry points is shown to be broken
 record IsThere (is : List PlainInst) (n : ℕ) : Type 0 where
@@ -115,7 +116,8 @@ suffices G reach bound is _ _ _ (IsEvidence.of_extended r n e on h) =
     Broken.of_extended r n (extended_broken reach is r n e on h)
 suffices G reach bound is _ _ _ (IsEvidence.of_std_types r n e on h) =
     Broken.of_std_types r n (std_types_broken reach is r n e on h)
-suffices G reach bound is _ _ _ (IsEvidence.of_standard r n b) = Broken.of_standard r n b
+suffices G reach bound is _ _ _ (IsEvidence.of_standard r n e h) =
+    Broken.of_standard r n (standard_broken G reach is r n e h)
 
 -- evidence of a stage before D is that of the shapes and the layout
 apart : (r : Rule) (a b : ℕ) → stage_of r < stages.of_ids → (stage_of r ≡ a) ⊎ (stage_of r ≡ b) → 3 ≤ a → 3 ≤ b → ⊥
@@ -150,8 +152,9 @@ of_layout_alone G reach bound is _ _ _ (IsEvidence.of_extended r n e on h) s =
 of_layout_alone G reach bound is _ _ _ (IsEvidence.of_std_types r n e on h) s =
     absurd (apart r 10 10 s (inl (std_types_stage reach is r n (std_types_broken reach is r n e on h))) (omega arith)
     (omega arith))
-of_layout_alone G reach bound is _ _ _ (IsEvidence.of_standard r n b) s =
-    absurd (apart r 11 11 s (inl (standard_stage G reach is r n b)) (omega arith) (omega arith))
+of_layout_alone G reach bound is _ _ _ (IsEvidence.of_standard r n e h) s =
+    absurd (apart r 11 11 s (inl (standard_stage G reach is r n (standard_broken G reach is r n e h))) (omega arith)
+    (omega arith))
 
 -- evidence of the stage of Y9 is that of calls of extended instructions
 below : (r : Rule) (a b : ℕ) → stage_of r ≡ stages.of_extended → (stage_of r ≡ a) ⊎ (stage_of r ≡ b) → a ≤ 8 → b ≤ 8 → ⊥
@@ -189,8 +192,8 @@ of_extended_alone G reach bound is _ _ _ (IsEvidence.of_extended r n e on h) s =
 of_extended_alone G reach bound is _ _ _ (IsEvidence.of_std_types r n e on h) s =
     let t = std_types_stage reach is r n (std_types_broken reach is r n e on h) in
     absurd (omega (arith, s, t))
-of_extended_alone G reach bound is _ _ _ (IsEvidence.of_standard r n b) s =
-    let t = standard_stage G reach is r n b in
+of_extended_alone G reach bound is _ _ _ (IsEvidence.of_standard r n e h) s =
+    let t = standard_stage G reach is r n (standard_broken G reach is r n e h) in
     absurd (omega (arith, s, t))
 
 -- evidence of the stage of Y10 is that of the types of calls of OpenCL.std
@@ -229,6 +232,6 @@ of_std_types_alone G reach bound is _ _ _ (IsEvidence.of_extended r n e on h) s 
     absurd (past r 9 9 s (inl (extended_stage reach is r n (extended_broken reach is r n e on h))) (omega arith)
     (omega arith))
 of_std_types_alone G reach bound is _ _ _ (IsEvidence.of_std_types r n e on h) s = record { on = on; shows = h }
-of_std_types_alone G reach bound is _ _ _ (IsEvidence.of_standard r n b) s =
-    let t = standard_stage G reach is r n b in
+of_std_types_alone G reach bound is _ _ _ (IsEvidence.of_standard r n e h) s =
+    let t = standard_stage G reach is r n (standard_broken G reach is r n e h) in
     absurd (omega (arith, s, t))

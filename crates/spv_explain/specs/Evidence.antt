@@ -7,7 +7,6 @@ use Rattle.spv_extended.specs.declared.reach.Reach.{Reach}
 use Rattle.spv_extended.specs.Reach.{opens, profile_of}
 use Rattle.spv_check.specs.Fork.{fork_of}
 use Rattle.spv_evidence.specs.declared.evidence.Evidence.{Evidence}
-use Rattle.spv_evidence.specs.declared.evidence.Evidence.TheVariants.{Alone}
 use Rattle.spv_form_evidence.specs.layout.Evidence as layout
 use Rattle.spv_form_evidence.specs.ids.Evidence as ids
 use Rattle.spv_form_evidence.specs.ids.Roles as roles
@@ -19,8 +18,8 @@ use Rattle.spv_form_evidence.specs.extended.Evidence as extended
 use Rattle.spv_type_evidence.specs.types.Evidence as types
 use Rattle.spv_operation_evidence.specs.Evidence as operations
 use Rattle.spv_std_types.specs.Broken.{asks_types}
-use Rattle.spv_standard.specs.Broken as standard
 use Rattle.spv_explain.specs.Mistyped as mistyped
+use Rattle.spv_explain.specs.Standard as standard
 
 -- Of a list that is looked at so far, under the bound of ids, this shows that the rule is broken at the instruction of
 -- that number.
@@ -53,5 +52,6 @@ pub data IsEvidence (G : Table) (reach : Reach) (bound : ℕ) (is : List PlainIn
   -- Y10
   of_std_types : (r : Rule) (n : ℕ) (e : Evidence) → IsTrue (asks_types reach) → mistyped.IsEvidence is r n e
       → IsEvidence G reach bound is r n e
-  -- O: the rule alone, which is broken there
-  of_standard : (r : Rule) (n : ℕ) → standard.Broken G reach is r n → IsEvidence G reach bound is r n Alone
+  -- O
+  of_standard : (r : Rule) (n : ℕ) (e : Evidence) → standard.IsEvidence G reach is r n e
+      → IsEvidence G reach bound is r n e

@@ -1,4 +1,5 @@
 pub mod Mistyped
+pub mod Standard
 pub mod Evidence
 pub mod Example
 pub mod Explained

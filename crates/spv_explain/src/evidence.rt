@@ -10,6 +10,7 @@ ghost use Rattle.spv_layout.specs.Place.{IsShort};
 ghost use Rattle.spv_layout.specs.Plan.{IsPlan};
 ghost use Rattle.spv_ids.specs.Outcome.{AreIds, IsDefinitionOf, definition_in};
 ghost use Rattle.spv_std_types.specs.Mistyped.{IsMistyped};
+ghost use Rattle.spv_check.specs.Broken.{IsTold};
 ghost use Rattle.spv_check.specs.Fork.{fork_of};
 ghost use Rattle.spv_check.specs.Judged.{IsRefusedAt};
 ghost use Rattle.spv_check.specs.flow.Outcome as flow_outcome;
@@ -18,6 +19,7 @@ ghost use Rattle.spv_explain.specs.Mistyped.{IsEvidence};
 ghost use Rattle.spv_explain.specs.inner.Shown.{IsShownAt};
 
 use crate::kinds::{is_of_calls, is_of_capabilities, is_of_operations, is_of_roles, is_of_values};
+use crate::standard::standard_evidence;
 use spv_check::Reached;
 use spv_evidence::Evidence;
 use spv_extended::{Reach, profile_of};
@@ -121,6 +123,7 @@ pub fn evidence_of(
     requires words { IsShort (plain_insts «module».now) }
     requires refused { IsRefusedAt table.now reach «module».now.header.bound (plain_insts «module».now) reached.now
         (stops.Fault fault) }
+    requires told { IsTold table.now reach «module».now.header.bound (plain_insts «module».now) (stops.Fault fault) }
     ensures { IfOk result
         (λ e. IsShownAt table.now reach «module».now.header.bound (plain_insts «module».now) fault e) }
 {
@@ -137,7 +140,8 @@ pub fn evidence_of(
         Reached::Typed(plan, ids) => flow_evidence(alloc, module, plan, ids, fault),
         Reached::Sound => Ok(extended_evidence(alloc, module, fault.inst)?),
         Reached::Called(plan, ids) => Ok(std_evidence(module, plan, ids, fault.inst)),
-        // Of the rules O nothing is looked at again.
-        Reached::Settled(_, _) => Ok(Evidence::Alone),
+        Reached::Settled(plan, ids) => Ok(standard_evidence(
+            alloc, table, reach, module, plan, ids, fault,
+        )?),
     }
 }

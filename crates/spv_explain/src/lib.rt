@@ -7,6 +7,7 @@ mod kinds;
 pub mod laws;
 mod reading;
 mod rules;
+mod standard;
 mod stream;
 
 pub use answers::{Answer, Unread, check_json, error_json, explain_json};

@@ -6,6 +6,7 @@ ghost use Rattle.spv_module.specs.Module.{plain_insts};
 ghost use Rattle.spv_module.specs.declared.fault.Stop.TheVariants as stops;
 ghost use Rattle.spv_layout.specs.Place.{IsShort};
 ghost use Rattle.spv_check.specs.Answer.{IsAnswer};
+ghost use Rattle.spv_check.specs.Broken.{IsTold};
 ghost use Rattle.spv_check.specs.Judged.{AreWordsOf, IsRefusedAt};
 ghost use Rattle.spv_explain.specs.Explained.{IsShown, IsShownDead, IsSpelled, verdict_in};
 ghost use Rattle.spv_explain.specs.inner.Reading.{IsExplained};
@@ -95,6 +96,7 @@ fn shown_and_spelled<'a>(
     requires words { IsShort (plain_insts «module») }
     requires refused { IsRefusedAt table.now reach «module».header.bound (plain_insts «module») reached.now
         (stops.Fault fault) }
+    requires told { IsTold table.now reach «module».header.bound (plain_insts «module») (stops.Fault fault) }
     requires read { AreWordsOf table.now reach «module» image.now }
     ensures shown { IfOk result
         (λ p. IsShownAt table.now reach «module».entry.header.bound (plain_insts «module».entry) fault p.0) }

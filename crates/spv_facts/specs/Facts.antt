@@ -21,6 +21,7 @@ use Rattle.spv_facts.specs.declared.fact.Thing.TheVariants as thing
 use Rattle.spv_facts.specs.Definition.{definition_from}
 use Rattle.spv_facts.specs.Owners.{own_place, places_in, size_of, tells_size, types_at, without}
 use Rattle.spv_facts.specs.Place.{comes_early, open_before, place_of}
+use Rattle.spv_facts.specs.Versions.{extensions_of, first_version}
 
 -- an instruction in full, or an id that none defines
 abbrev pub thing_at : Option ℕ → ℕ → Thing
@@ -120,6 +121,29 @@ lister_facts is n lister.Width = fact.Operand n (width_operand (slice_get is n))
 lister_facts is n lister.Type = []
 lister_facts is n lister.Access = fact.Operand n 8 ∷ []
 
+-- what instruction n has that a version lacks: its opcode, a value, or a bit of a mask
+abbrev pub opcode_facts : Option PlainInst → List Fact
+opcode_facts None = []
+opcode_facts (Some i) = fact.Opcode i.opcode ∷ []
+
+abbrev pub lack_facts : List PlainInst → ℕ → Lister → List Fact
+lack_facts is n lister.Entry = opcode_facts (slice_get is n)
+lack_facts is n l = lister_facts is n l
+
+-- the first version that has it, if one has, and the extensions that have it, if some have
+abbrev pub since_facts : Option ℕ → List Fact
+since_facts None = []
+since_facts (Some minor) = fact.Since minor ∷ []
+
+abbrev pub extension_facts : ℕ → List (List ℕ) → List Fact
+extension_facts line [] = []
+extension_facts line (name ∷ names) = fact.Extensions line ∷ []
+
+-- all of these, by the line of the table of versions that tells what has it
+abbrev pub late_facts : List PlainInst → ℕ → Lister → ℕ → List Fact
+late_facts is n l line =
+    lack_facts is n l ++ (since_facts (first_version line) ++ extension_facts line (extensions_of line))
+
 -- what the evidence at instruction n tells
 abbrev pub evidence_facts : List PlainInst → ℕ → Evidence → List Fact
 evidence_facts is n (evidence.Opcode opcode) = fact.Opcode opcode ∷ []
@@ -147,6 +171,11 @@ evidence_facts is n (evidence.Walk k m blocks) = fact.Operand n k ∷ fact.Defin
 evidence_facts is n (evidence.Cycle calls cycle) = fact.Calls calls ∷ fact.Cycle cycle ∷ []
 evidence_facts is n (evidence.Miscalled number operands least most) =
     fact.Number number ∷ fact.Operands operands ∷ fact.Least least ∷ fact.Most most ∷ []
+evidence_facts is n (evidence.OnTheWay b) = fact.OnTheWay b ∷ []
+evidence_facts is n (evidence.Pair j k) = fact.Operand n j ∷ fact.OtherOperand n k ∷ []
+evidence_facts is n (evidence.ByGroup k m) = fact.Operand n k ∷ fact.Given m ∷ []
+evidence_facts is n (evidence.Late l line) = late_facts is n l line
+evidence_facts is n (evidence.Past most) = fact.Most (Some most) ∷ []
 
 -- the function that a place is of, told in a fact of the place; nothing where it is of none
 abbrev pub place_fact : Option ℕ → Fact → List Fact

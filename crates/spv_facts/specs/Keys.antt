@@ -58,6 +58,10 @@ spelling_of key.Number = (codes "number", codes "number")
 spelling_of key.Operands = (codes "operands", codes "operands")
 spelling_of key.Least = (codes "least", codes "least")
 spelling_of key.Most = (codes "most", codes "most")
+spelling_of key.OtherOperand = (codes "other operand", codes "otherOperand")
+spelling_of key.OnTheWay = (codes "on the way", codes "onTheWay")
+spelling_of key.Given = (codes "given", codes "given")
+spelling_of key.Since = (codes "since", codes "since")
 
 -- in a line, and in JSON
 abbrev pub line_name : Key → List ℕ
@@ -124,3 +128,8 @@ key_of (fact.Number n) = key.Number
 key_of (fact.Operands n) = key.Operands
 key_of (fact.Least n) = key.Least
 key_of (fact.Most n) = key.Most
+key_of (fact.OtherOperand n k) = key.OtherOperand
+key_of (fact.OnTheWay b) = key.OnTheWay
+key_of (fact.Given n) = key.Given
+key_of (fact.Since minor) = key.Since
+key_of (fact.Extensions line) = key.NeedsOneOf

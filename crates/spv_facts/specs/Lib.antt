@@ -8,5 +8,6 @@ pub mod Place
 pub mod Refused
 pub mod Shapes
 pub mod Texts
+pub mod Versions
 pub mod Words
 pub mod inner

@@ -106,7 +106,7 @@ pub enum Fact {
     Role {
         role: Role,
     },
-    /// `earlier`: an earlier instruction with the same result, or an earlier type.
+    /// `earlier`: an earlier instruction with the same result, an earlier type, or one that speaks against this one.
     Earlier {
         inst: u32,
     },
@@ -216,8 +216,29 @@ pub enum Fact {
     Least {
         count: Option<u32>,
     },
-    /// `most`: how many it takes at most, if it does not take any.
+    /// `most`: how many it takes at most, if it does not take any; or how many a limit allows.
     Most {
         count: Option<u32>,
+    },
+    /// `other operand`: an operand of an instruction that may not stand beside the first.
+    OtherOperand {
+        inst: u32,
+        operand: u32,
+    },
+    /// `on the way`: a block that stands higher, and is on each walk to this one.
+    OnTheWay {
+        block: u32,
+    },
+    /// `given`: the instruction that gives a group its decoration.
+    Given {
+        inst: u32,
+    },
+    /// `since`: the first version that has what an earlier one lacks, by its minor number.
+    Since {
+        minor: u8,
+    },
+    /// `needs one of`: the extensions that have it, by the line of the table of versions that names them.
+    Extensions {
+        line: u32,
     },
 }

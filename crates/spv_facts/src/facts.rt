@@ -24,7 +24,7 @@ pub fn push_one(facts: &mut Vec<Fact>, fact: Fact) -> Result<(), AllocError>
 }
 
 /// Adds two facts.
-fn push_two(facts: &mut Vec<Fact>, first: Fact, second: Fact) -> Result<(), AllocError>
+pub fn push_two(facts: &mut Vec<Fact>, first: Fact, second: Fact) -> Result<(), AllocError>
     ensures { OnOk result (facts.new.items ≡ facts.old.items ++ (first ∷ second ∷ [])) }
 {
     push_one(facts, first)?;
@@ -157,7 +157,11 @@ fn push_miscall(
 }
 
 /// Adds the facts of evidence on forms, implied capabilities, entry points and extended instructions, or those of ids.
-fn push_form_facts(facts: &mut Vec<Fact>, inst: u32, evidence: &Evidence) -> Result<(), AllocError>
+pub fn push_form_facts(
+    facts: &mut Vec<Fact>,
+    inst: u32,
+    evidence: &Evidence,
+) -> Result<(), AllocError>
     ensures { OnOk result (facts.new.items ≡ facts.old.items ++ parts.form_facts inst evidence.now) }
 {
     match evidence {
@@ -258,28 +262,41 @@ impl<'m, 'a> About<'m, 'a> {
         }
     }
 
-    /// Adds what lists capabilities, and those.
-    fn push_needs(&self, facts: &mut Vec<Fact>, inst: u32, lister: Lister) -> Result<(), AllocError>
-        ensures { OnOk result (facts.new.items ≡ facts.old.items ++ (lists.lister_facts
-            (plain_insts self.now.«module».now) inst lister ++ (kinds.NeedsOneOf inst lister ∷ []))) }
+    /// Adds what lists capabilities: an operand, a bit of one, a width or count, or an access qualifier.
+    pub fn push_lister(
+        &self,
+        facts: &mut Vec<Fact>,
+        inst: u32,
+        lister: Lister,
+    ) -> Result<(), AllocError>
+        ensures { OnOk result (facts.new.items ≡ facts.old.items ++ lists.lister_facts
+            (plain_insts self.now.«module».now) inst lister) }
     {
         match lister {
-            Lister::Entry | Lister::Type => {}
-            Lister::Access => push_one(facts, Fact::Operand { inst, operand: 8 })?,
-            Lister::Value { operand } => push_one(facts, Fact::Operand { inst, operand })?,
+            Lister::Entry | Lister::Type => Ok(()),
+            Lister::Access => push_one(facts, Fact::Operand { inst, operand: 8 }),
+            Lister::Value { operand } => push_one(facts, Fact::Operand { inst, operand }),
             Lister::Bit { operand, bit } => push_two(
                 facts,
                 Fact::Operand { inst, operand },
                 Fact::Bit { inst, operand, bit },
-            )?,
+            ),
             Lister::Width => push_one(
                 facts,
                 Fact::Operand {
                     inst,
                     operand: self.width_operand(inst),
                 },
-            )?,
+            ),
         }
+    }
+
+    /// Adds what lists capabilities, and those.
+    fn push_needs(&self, facts: &mut Vec<Fact>, inst: u32, lister: Lister) -> Result<(), AllocError>
+        ensures { OnOk result (facts.new.items ≡ facts.old.items ++ (lists.lister_facts
+            (plain_insts self.now.«module».now) inst lister ++ (kinds.NeedsOneOf inst lister ∷ []))) }
+    {
+        self.push_lister(facts, inst, lister)?;
         push_one(facts, Fact::NeedsOneOf { inst, lister })
     }
 
@@ -390,7 +407,8 @@ impl<'m, 'a> About<'m, 'a> {
         }
     }
 
-    /// Adds the facts of evidence on types and on what lists capabilities, or those of forms and ids.
+    /// Adds the facts of evidence on types and on what lists capabilities, or those of what the standard asks besides, of
+    /// forms and of ids.
     fn push_type_facts(
         &self,
         facts: &mut Vec<Fact>,
@@ -434,7 +452,7 @@ impl<'m, 'a> About<'m, 'a> {
                     },
                 )
             }
-            _ => push_form_facts(facts, inst, evidence),
+            _ => self.push_standard_facts(facts, inst, evidence),
         }
     }
 

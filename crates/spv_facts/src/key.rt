@@ -56,12 +56,17 @@ pub enum Key {
     Operands,
     Least,
     Most,
+    OtherOperand,
+    OnTheWay,
+    Given,
+    Since,
 }
 
 impl Key {
-    /// How the key of a fact about control flow or calls is written before the colon of a line. Nothing of another.
-    fn flow_name(self) -> &'static str
-        ensures { result.now ≡ parts.flow_name self }
+    /// How the key of a fact about control flow, about calls, or of the rules O alone is written before the colon of a
+    /// line. Nothing of another.
+    fn further_name(self) -> &'static str
+        ensures { result.now ≡ parts.further_name self }
     {
         match self {
             Key::MissingParent => "missing parent",
@@ -71,6 +76,10 @@ impl Key {
             Key::Walk => "walk",
             Key::Calls => "calls",
             Key::Cycle => "cycle",
+            Key::OtherOperand => "other operand",
+            Key::OnTheWay => "on the way",
+            Key::Given => "given",
+            Key::Since => "since",
             _ => "",
         }
     }
@@ -119,7 +128,7 @@ impl Key {
             Key::Operands => "operands",
             Key::Least => "least",
             Key::Most => "most",
-            _ => self.flow_name(),
+            _ => self.further_name(),
         }
     }
 
@@ -140,6 +149,8 @@ impl Key {
             Key::Type => "types",
             Key::MissingParent => "missingParent",
             Key::NoPredecessor => "noPredecessor",
+            Key::OtherOperand => "otherOperand",
+            Key::OnTheWay => "onTheWay",
             _ => self.line_name(),
         }
     }
@@ -226,6 +237,11 @@ impl Fact {
             Fact::Operands { .. } => Key::Operands,
             Fact::Least { .. } => Key::Least,
             Fact::Most { .. } => Key::Most,
+            Fact::OtherOperand { .. } => Key::OtherOperand,
+            Fact::OnTheWay { .. } => Key::OnTheWay,
+            Fact::Given { .. } => Key::Given,
+            Fact::Since { .. } => Key::Since,
+            Fact::Extensions { .. } => Key::NeedsOneOf,
         }
     }
 }

@@ -15,7 +15,7 @@ ghost use Rattle.spv_type_kinds.specs.declared.kinds.Kind.TheVariants as kind;
 ghost use Rattle.spv_type_kinds.specs.declared.kinds.Relation.TheVariants as relation;
 ghost use Rattle.spv_facts.specs.Conditions.{condition_text, image_text, kind_text, object_text};
 ghost use Rattle.spv_facts.specs.Conditions.{pointer_text, relation_text};
-ghost use Rattle.spv_facts.specs.Facts.{lister_facts};
+ghost use Rattle.spv_facts.specs.Facts.{lack_facts, lister_facts};
 ghost use Rattle.spv_facts.specs.Keys.{line_name, member_name};
 ghost use Rattle.spv_facts.specs.Example.{vector};
 ghost use Rattle.spv_facts.specs.Owners.{operand_type, own_place, places_from, places_in, short_number, size_in};
@@ -23,6 +23,7 @@ ghost use Rattle.spv_facts.specs.Owners.{size_of, tells_size, types_at, without}
 ghost use Rattle.spv_facts.specs.Place.{nowhere, place_of};
 ghost use Rattle.spv_facts.specs.Refused.{front_of, help_text};
 ghost use Rattle.spv_facts.specs.Shapes.{row_text};
+ghost use Rattle.spv_facts.specs.Versions.{extensions_of, first_version, since_text};
 ghost use Rattle.spv_facts.specs.declared.fact.Fact.TheVariants as fact;
 ghost use Rattle.spv_facts.specs.declared.key.Key.TheVariants as keys;
 
@@ -61,6 +62,8 @@ pub fn key_examples()
     ensures line { line_name keys.MayCome ≡ codes "may come" }
     ensures member { member_name keys.MayCome ≡ codes "mayComeNext" }
     ensures not_member { ¬ (member_name keys.NeedsOneOf ≡ codes "needs one of") }
+    ensures way { line_name keys.OnTheWay ≡ codes "on the way" }
+    ensures way_member { member_name keys.OnTheWay ≡ codes "onTheWay" }
     // Types have one member, and a line each.
     ensures types { member_name keys.Type ≡ codes "types" }
 {}
@@ -75,6 +78,21 @@ pub fn lister_examples()
     // An image type itself is no operand, nor is the entry of an opcode.
     ensures image { lister_facts (bare opcode.TYPE_IMAGE ∷ []) 0 lister.Type ≡ [] }
     ensures entry { lister_facts (bare opcode.TYPE_INT ∷ []) 0 lister.Entry ≡ [] }
+    // Where a version lacks it, the opcode is told.
+    ensures lacked { lack_facts (bare opcode.TYPE_INT ∷ []) 0 lister.Entry ≡ fact.Opcode opcode.TYPE_INT ∷ [] }
+    ensures not_operand { ¬ (lack_facts (bare opcode.TYPE_INT ∷ []) 0 (lister.Value 1) ≡ fact.Opcode opcode.TYPE_INT ∷ []) }
+{}
+
+/// What lines of the table of versions tell. Line 5 is of the opcodes 5632 and 5633, and the last but one of decoration
+/// 5636, which no version has.
+pub fn version_examples()
+    ensures since { first_version 5 ≡ Some 4 }
+    ensures extensions { extensions_of 5
+        ≡ codes "SPV_GOOGLE_decorate_string" ∷ codes "SPV_GOOGLE_hlsl_functionality1" ∷ [] }
+    ensures no_version { first_version 95 ≡ None }
+    ensures no_extensions { ¬ (extensions_of 95 ≡ []) }
+    ensures written { since_text 4 ≡ codes "1.4" }
+    ensures not_number { ¬ (since_text 4 ≡ codes "4") }
 {}
 
 /// Conditions in words.

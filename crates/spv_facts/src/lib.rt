@@ -13,8 +13,10 @@ mod owners;
 mod place;
 mod refused;
 mod shapes;
+mod standard;
 mod texts;
 mod types;
+mod versions;
 mod words;
 
 pub use about::{About, push_capability, push_id, push_number, push_value};
@@ -26,4 +28,5 @@ pub use owners::Owners;
 pub use refused::{Front, found_in, front_of, help_for};
 pub use shapes::{push_row_of, role_name};
 pub use texts::{entry_part_words, listed_names, push_due, side_words};
+pub use versions::{extensions, push_since};
 pub use words::facts_of_words;

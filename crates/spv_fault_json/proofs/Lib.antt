@@ -1,2 +1,3 @@
 mod Quieted
+mod Texts
 mod Worked

@@ -1,3 +1,4 @@
 pub mod Members
 pub mod Quiet
 pub mod Tokens
+pub mod inner

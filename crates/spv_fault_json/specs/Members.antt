@@ -20,6 +20,7 @@ use Rattle.spv_facts.specs.Texts.{type_needs}
 use Rattle.spv_facts.specs.Owners.{places_in}
 use Rattle.spv_facts.specs.Refused.{found_text, help_text}
 use Rattle.spv_facts.specs.Shapes.{role_text, row_text}
+use Rattle.spv_facts.specs.Versions.{extensions_of, since_text}
 use Rattle.spv_facts.specs.declared.fact.Fact.{Fact}
 use Rattle.spv_facts.specs.declared.fact.Fact.TheVariants as fact
 use Rattle.spv_facts.specs.declared.fact.Place.{Place}
@@ -235,6 +236,11 @@ value_of G is lines (fact.Number n) = number_token n ∷ []
 value_of G is lines (fact.Operands n) = number_token n ∷ []
 value_of G is lines (fact.Least n) = maybe_number n
 value_of G is lines (fact.Most n) = maybe_number n
+value_of G is lines (fact.OtherOperand n k) = operand_tokens G k (operand_at is n k)
+value_of G is lines (fact.OnTheWay b) = maybe_number (result_of is b)
+value_of G is lines (fact.Given n) = inst_tokens lines n
+value_of G is lines (fact.Since minor) = string (since_text minor) ∷ []
+value_of G is lines (fact.Extensions line) = array (flat_map name_token (extensions_of line))
 
 -- the member of a fact
 abbrev pub member_of : Table → List PlainInst → List (List ℕ) → Fact → List Token

@@ -5,11 +5,13 @@ ghost use Rattle.spv_lines.specs.Text.{ShownLines};
 ghost use Rattle.spv_facts.specs.inner.Owned.{AreOwners};
 ghost use Rattle.spv_fault_json.specs.Tokens.{array};
 ghost use Rattle.spv_fault_json.specs.Members as members;
+ghost use Rattle.spv_fault_json.specs.inner.Texts.{text_token};
+ghost use Rattle.spv_facts.specs.Versions.{extensions_of};
 
 use crate::objects::{push_owned, push_thing};
 use crate::output::Output;
 use spv_evidence::Lister;
-use spv_facts::{About, Owners, Thing, listed_names, needs_of, push_capability};
+use spv_facts::{About, Owners, Thing, extensions, listed_names, needs_of, push_capability};
 use spv_module::Inst;
 use spv_table::{NameListRef, Table};
 use std::alloc::AllocError;
@@ -175,6 +177,25 @@ fn push_names(out: &mut Output, names: &NameListRef<'_>) -> Result<(), AllocErro
         out.text(names.name(place))?;
     }
     Ok(())
+}
+
+/// Adds texts.
+fn push_texts(out: &mut Output, texts: &[&str]) -> Result<(), AllocError>
+    ensures { OnOk result (out.new ≡ out.old ++ flat_map text_token texts.now) }
+{
+    for text in texts {
+        out.text(text)?;
+    }
+    Ok(())
+}
+
+/// Adds an array of the names of the extensions that a line of the table of versions has.
+pub fn push_extensions(out: &mut Output, line: u32) -> Result<(), AllocError>
+    ensures { OnOk result (out.new ≡ out.old ++ array (flat_map members.name_token (extensions_of line))) }
+{
+    out.begin_array()?;
+    push_texts(out, extensions(line))?;
+    out.end_array()
 }
 
 /// Adds the name of a capability, or its number where the grammar has none.

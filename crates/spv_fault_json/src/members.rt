@@ -5,13 +5,14 @@ ghost use Rattle.spv_module.specs.Module.{plain_insts};
 ghost use Rattle.spv_lines.specs.Text.{ShownLines};
 ghost use Rattle.spv_facts.specs.Texts.{unended_text};
 ghost use Rattle.spv_facts.specs.Shapes.{row_text};
+ghost use Rattle.spv_facts.specs.Versions.{since_text};
 ghost use Rattle.spv_fault_json.specs.Members as members;
 ghost use Rattle.spv_fault_json.specs.Members.{member_of, members_of, value_of};
 ghost use Rattle.spv_facts.specs.declared.key.Key.TheVariants as keys;
 
 use crate::arrays::{
-    push_capability_name, push_cycle, push_needs, push_opcodes, push_read, push_results,
-    push_things,
+    push_capability_name, push_cycle, push_extensions, push_needs, push_opcodes, push_read,
+    push_results, push_things,
 };
 use crate::objects::{
     push_bit, push_failing, push_inst, push_opcode, push_operand, push_owned, push_some_words,
@@ -21,7 +22,7 @@ use crate::output::Output;
 use spv_evidence::{EntryPart, Side};
 use spv_facts::{
     About, Fact, Front, Key, Place, condition_words, entry_part_words, found_in, help_for,
-    push_due, push_row_of, role_name, side_words,
+    push_due, push_row_of, push_since, role_name, side_words,
 };
 use spv_table::Table;
 use spv_words::WordError;
@@ -90,6 +91,15 @@ fn push_row(out: &mut Output, alloc: Global, opcode: u16, known: bool) -> Result
     out.text(text.as_str())
 }
 
+/// Adds a version by its minor number.
+fn push_version(out: &mut Output, alloc: Global, minor: u8) -> Result<(), AllocError>
+    ensures { OnOk result (out.new ≡ out.old ++ string (since_text minor) ∷ []) }
+{
+    let mut text = String::new(alloc);
+    push_since(&mut text, minor)?;
+    out.text(text.as_str())
+}
+
 /// Adds that what is open has no end.
 fn push_unended(out: &mut Output, about: &About<'_, '_>, place: Place) -> Result<(), AllocError>
     ensures { OnOk result (out.new ≡ out.old ++ string (unended_text (plain_insts about.now.«module».now) place) ∷ []) }
@@ -144,9 +154,10 @@ fn push_value(out: &mut Output, about: &About<'_, '_>, fact: &Fact) -> Result<()
         fact.now) }
 {
     match fact {
-        Fact::At { inst } | Fact::Defined { inst } | Fact::Earlier { inst } => {
-            push_inst(out, about, *inst)
-        }
+        Fact::At { inst }
+        | Fact::Defined { inst }
+        | Fact::Earlier { inst }
+        | Fact::Given { inst } => push_inst(out, about, *inst),
         Fact::In { place } | Fact::Open { place } => push_place(out, about, *place),
         Fact::Words {
             before,
@@ -159,6 +170,7 @@ fn push_value(out: &mut Output, about: &About<'_, '_>, fact: &Fact) -> Result<()
         Fact::MayCome { opcodes, end } => push_may_come(out, about.table, opcodes.as_slice(), *end),
         Fact::Unended { place } => push_unended(out, about, *place),
         Fact::Operand { inst, operand }
+        | Fact::OtherOperand { inst, operand }
         | Fact::NoPredecessor { inst, operand }
         | Fact::Twice { inst, operand } => push_operand(out, about, *inst, *operand),
         Fact::Failing { operand } => push_failing(out, about.alloc, about.table, *operand),
@@ -193,11 +205,15 @@ fn push_value(out: &mut Output, about: &About<'_, '_>, fact: &Fact) -> Result<()
             operands,
             ..
         } => push_owned(out, about, *thing, operands.as_slice()),
-        Fact::MissingParent { block } => out.maybe_number(about.result_of(*block)),
+        Fact::MissingParent { block } | Fact::OnTheWay { block } => {
+            out.maybe_number(about.result_of(*block))
+        }
         Fact::Predecessors { blocks } | Fact::Walk { blocks } | Fact::Calls { functions: blocks } =>
             push_results(out, about, blocks.as_slice()),
         Fact::Cycle { functions } => push_cycle(out, about, functions.as_slice()),
         Fact::Least { count } | Fact::Most { count } => out.maybe_number(*count),
+        Fact::Since { minor } => push_version(out, about.alloc, *minor),
+        Fact::Extensions { line } => push_extensions(out, *line),
     }
 }
 

@@ -59,6 +59,11 @@ one_line d G is lines (fact.Number number) h other = refl
 one_line d G is lines (fact.Operands count) h other = refl
 one_line d G is lines (fact.Least count) h other = refl
 one_line d G is lines (fact.Most count) h other = refl
+one_line d G is lines (fact.OtherOperand n k) h other = refl
+one_line d G is lines (fact.OnTheWay b) h other = refl
+one_line d G is lines (fact.Given n) h other = refl
+one_line d G is lines (fact.Since minor) h other = refl
+one_line d G is lines (fact.Extensions line) h other = refl
 
 pub lone : {T E : Type 0} (d : Detail) (G : Table) (is : List PlainInst) → is ≡ []
     → (r : Answer T E) (old new : List ℕ) (facts : List Fact)

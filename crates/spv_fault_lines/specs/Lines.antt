@@ -33,6 +33,7 @@ use Rattle.spv_facts.specs.Texts.{name_at, unended_text, due_text}
 use Rattle.spv_facts.specs.Texts.{capability_name, bit_name}
 use Rattle.spv_facts.specs.Texts.{type_needs, listed_names, entry_part_text}
 use Rattle.spv_facts.specs.Texts.{side_text, thing_id}
+use Rattle.spv_facts.specs.Versions.{extensions_of, since_text}
 use Rattle.spv_facts.specs.Keys.{key_of}
 
 -- after a space: a number, or a name
@@ -233,6 +234,11 @@ rest_of d G is lines (fact.Number n) = number_part n
 rest_of d G is lines (fact.Operands n) = number_part n
 rest_of d G is lines (fact.Least n) = count_part n
 rest_of d G is lines (fact.Most n) = count_part n
+rest_of d G is lines (fact.OtherOperand n k) = numbered_part G is n k
+rest_of d G is lines (fact.OnTheWay b) = results_part is (b ∷ [])
+rest_of d G is lines (fact.Given n) = inst_part lines n
+rest_of d G is lines (fact.Since minor) = name_part (since_text minor)
+rest_of d G is lines (fact.Extensions line) = flat_map name_part (extensions_of line)
 
 -- `KEY:` and what is told behind it
 abbrev pub keyed : Key → List ℕ → List ℕ

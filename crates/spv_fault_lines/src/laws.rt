@@ -13,6 +13,9 @@ pub fn line_examples()
     // Where there is no least count, a line tells so.
     ensures no_count { raw_of Short small [] [] (fact.Least None) ≡ codes "least: none" }
     ensures not_nothing { ¬ (raw_of Short small [] [] (fact.Least None) ≡ codes "least:") }
+    // A version is more than its minor number.
+    ensures since { raw_of Short small [] [] (fact.Since 2) ≡ codes "since: 1.2" }
+    ensures not_minor { ¬ (raw_of Short small [] [] (fact.Since 2) ≡ codes "since: 2") }
     // Of eight operands none is left out, and of nine one is.
     ensures few { more_part 8 ≡ [] }
     ensures many { ¬ (more_part 9 ≡ []) }

@@ -15,15 +15,15 @@ ghost use Rattle.spv_fault_lines.specs.inner.Parts.{named_text};
 
 use crate::classes::push_coming_classes;
 use crate::parts::{
-    push_block, push_capabilities, push_inst, push_names, push_numbered, push_opcode, push_opcodes,
-    push_operand_of, push_results, push_spaced,
+    push_block, push_capabilities, push_extensions, push_inst, push_names, push_numbered, push_opcode,
+    push_opcodes, push_operand_of, push_results, push_spaced,
 };
 use itoa::Buffer;
 use spv_evidence::{EntryPart, Lister, Side};
 use spv_facts::{
     About, Detail, Fact, Key, Owners, Place, Thing, condition_words, entry_part_words,
-    listed_names, needs_of, push_capability, push_due, push_number, push_row_of, role_name,
-    side_words,
+    listed_names, needs_of, push_capability, push_due, push_number, push_row_of, push_since,
+    role_name, side_words,
 };
 use spv_lines::{push_hex, push_plain};
 use spv_printer::push_quoted;
@@ -380,6 +380,7 @@ fn push_named(out: &mut String, about: &About<'_, '_>, fact: &Fact) -> Result<()
         Fact::NoEntry => out.push_str("OpEntryPoint"),
         Fact::Condition { condition } => out.push_str(condition_words(*condition)),
         Fact::Wanted { thing } | Fact::Found { thing } => push_thing_text(out, about, *thing),
+        Fact::Since { minor } => push_since(out, *minor),
         _ => Ok(()),
     }
 }
@@ -400,11 +401,15 @@ fn push_rest(out: &mut String, about: &About<'_, '_>, fact: &Fact) -> Result<(),
         Fact::Word { offset, word } => push_failing(out, *offset, *word),
         Fact::Opcode { opcode } => push_named_opcode(out, about.table, *opcode),
         Fact::MayCome { opcodes, end } => push_may_come(out, about, opcodes.as_slice(), *end),
-        Fact::Operand { inst, operand } => push_operand_text(out, about, *inst, *operand),
-        Fact::Defined { inst } | Fact::Earlier { inst } => push_numbered(out, about, *inst),
-        Fact::LocalTo { function: inst } | Fact::MissingParent { block: inst } => {
-            about.push_result(out, *inst)
+        Fact::Operand { inst, operand } | Fact::OtherOperand { inst, operand } => {
+            push_operand_text(out, about, *inst, *operand)
         }
+        Fact::Defined { inst } | Fact::Earlier { inst } | Fact::Given { inst } => push_numbered(
+            out, about, *inst,
+        ),
+        Fact::LocalTo { function: inst }
+        | Fact::MissingParent { block: inst }
+        | Fact::OnTheWay { block: inst } => about.push_result(out, *inst),
         Fact::NeedsOneOf { inst, lister } => push_needed_of(out, about, *inst, *lister),
         Fact::Part { part } => push_part(out, about, *part),
         Fact::Types { .. } | Fact::ReadTypes { .. } => Ok(()),
@@ -426,6 +431,7 @@ fn push_rest(out: &mut String, about: &About<'_, '_>, fact: &Fact) -> Result<(),
             push_results(out, about, blocks.as_slice()),
         Fact::Cycle { functions } => push_cycle(out, about, functions.as_slice()),
         Fact::Least { count } | Fact::Most { count } => push_count(out, *count),
+        Fact::Extensions { line } => push_extensions(out, *line),
         _ => {
             out.push_str(" ")?;
             push_named(out, about, fact)

@@ -8,8 +8,10 @@ ghost use Rattle.spv_facts.specs.Texts.{capability_name};
 ghost use Rattle.spv_fault_lines.specs.Lines.{may_come_part, name_part, number_part};
 ghost use Rattle.spv_fault_lines.specs.Lines.{opcode_part, operand_part};
 ghost use Rattle.spv_facts.specs.Texts.{operand_at, result_part};
+ghost use Rattle.spv_facts.specs.Versions.{extensions_of};
+ghost use Rattle.spv_fault_lines.specs.inner.Parts.{spaced};
 
-use spv_facts::{About, push_capability, push_id, push_number, push_value};
+use spv_facts::{About, extensions, push_capability, push_id, push_number, push_value};
 use spv_module::Operand;
 use spv_printer::show_inst;
 use spv_table::{NameListRef, Table};
@@ -32,6 +34,24 @@ pub fn push_names(out: &mut String, names: &NameListRef<'_>) -> Result<(), Alloc
         out.push_str(names.name(place))?;
     }
     Ok(())
+}
+
+/// Adds texts, each after a space.
+fn push_texts(out: &mut String, texts: &[&str]) -> Result<(), AllocError>
+    ensures { OnOk result (string_bytes out.new ≡ string_bytes out.old ++ flat_map spaced texts.now) }
+{
+    for text in texts {
+        out.push_str(" ")?;
+        out.push_str(text)?;
+    }
+    Ok(())
+}
+
+/// Adds the names of the extensions that a line of the table of versions has, each after a space.
+pub fn push_extensions(out: &mut String, line: u32) -> Result<(), AllocError>
+    ensures { OnOk result (string_bytes out.new ≡ string_bytes out.old ++ flat_map name_part (extensions_of line)) }
+{
+    push_texts(out, extensions(line))
 }
 
 /// Adds the names of capabilities, each after a space.

@@ -24,11 +24,11 @@ use Rattle.spv_versions.specs.inner.Lines.{IsListed, IsListedAt}
 use Rattle.spv_versions.specs.inner.Told.{AreHit, AreNumbers, AreTold, IsInstHit, IsOperandHit}
 use Rattle.spv_versions.proofs.Lateness.{known, late_inst, number_hit}
 use Rattle.spv_evidence.specs.declared.evidence.Evidence.{Evidence}
-use Rattle.spv_evidence.specs.declared.evidence.Evidence.TheVariants.{Late, Operand}
+use Rattle.spv_evidence.specs.declared.evidence.Evidence.TheVariants.{Late, Opcode, Operand}
 use Rattle.spv_evidence.specs.declared.evidence.Lister.{Lister}
 use Rattle.spv_evidence.specs.declared.evidence.Lister.TheVariants as lister
 use Rattle.spv_standard_evidence.specs.Versions.{HasNumberBy, IsEvidence, IsMissingBy, Shows}
-use Rattle.spv_standard_evidence.specs.inner.Versions.{IsForm, IsLackOf, IsMaskAt, mask_at}
+use Rattle.spv_standard_evidence.specs.inner.Versions.{IsForm, IsGone, IsLackOf, IsMaskAt, IsOdd, mask_at}
 
 -- a line that is told to be missing
 missing_by : (minor : ℕ) (is : List PlainInst) (flags : List Bool) (b : Bool) (k : Kind) (v l : ℕ)
@@ -66,13 +66,50 @@ lack_shown G minor is flags b ns i lister.Access n told numbers h = absurd h
 -- where it has nothing that is missing, it has a form that came later
 pub form_by : (G : Table) (minor : ℕ) (is : List PlainInst) (flags : List Bool) (b : Bool) (ns : List (Option ℕ))
     (i : PlainInst) → AreTold minor is flags b → AreNumbers G ns → ¬ (IsInstHit flags ns i) → IsLate G minor is i
-    → IsForm minor is i
+    → IsOdd minor is i
 form_by G minor is flags b ns i told numbers none (late.number k n has m) =
     absurd (none (number_hit G minor is flags b ns i k n told numbers has m))
-form_by G minor is flags b ns i told numbers none (late.two_masks l o m) = IsForm.two_masks l o m
-form_by G minor is flags b ns i told numbers none (late.whole t x c os l o e h) = IsForm.whole t x c os l o e h
+form_by G minor is flags b ns i told numbers none (late.two_masks l o m) = inr (IsForm.two_masks l o m)
+form_by G minor is flags b ns i told numbers none (late.whole t x c os l o e h) = inr (IsForm.whole t x c os l o e h)
+form_by G minor is flags b ns i told numbers none (late.no_either l o) = inl (IsGone.no_either l o)
+form_by G minor is flags b ns i told numbers none (late.no_weak l o) = inl (IsGone.no_weak l o)
 form_by G minor is flags b ns i told numbers none (late.no_meaning x name os l o e h d) =
-    IsForm.no_meaning x name os l o e h d
+    inr (IsForm.no_meaning x name os l o e h d)
+
+-- what went, by its opcode
+abbrev pub IsGoneCode : ℕ → Type 0
+IsGoneCode c = (c ≡ opcode.LESS_OR_GREATER) ⊎ (c ≡ opcode.ATOMIC_COMPARE_EXCHANGE_WEAK)
+
+gone_code : (minor : ℕ) (i : PlainInst) → IsGone minor i → IsGoneCode i.opcode
+gone_code minor i (IsGone.no_either l o) = inl o
+gone_code minor i (IsGone.no_weak l o) = inr o
+
+not_gone : (c d : ℕ) → c ≡ d → IsGoneCode c → d ≢ opcode.LESS_OR_GREATER → d ≢ opcode.ATOMIC_COMPARE_EXCHANGE_WEAK → ⊥
+not_gone c d e g a b = elim g [ inl x ↦ a (sym e ∙ x) | inr y ↦ b (sym e ∙ y) ]
+
+form_stays : (minor : ℕ) (is : List PlainInst) (i : PlainInst) → IsForm minor is i → ¬ (IsGoneCode i.opcode)
+form_stays minor is i (IsForm.two_masks l o m) g = elim o [
+  | inl e ↦ not_gone i.opcode opcode.COPY_MEMORY e g (λ x. omega (arith, x)) (λ x. omega (arith, x))
+  | inr e ↦ not_gone i.opcode opcode.COPY_MEMORY_SIZED e g (λ x. omega (arith, x)) (λ x. omega (arith, x))
+]
+form_stays minor is i (IsForm.whole t x c os l o e h) g =
+    not_gone i.opcode opcode.SELECT o g (λ x. omega (arith, x)) (λ x. omega (arith, x))
+form_stays minor is i (IsForm.no_meaning x name os l o e h d) g =
+    not_gone i.opcode opcode.EXT_INST_IMPORT o g (λ x. omega (arith, x)) (λ x. omega (arith, x))
+
+pub odd_form : (minor : ℕ) (is : List PlainInst) (i : PlainInst) → ¬ (IsGoneCode i.opcode) → IsOdd minor is i
+    → IsForm minor is i
+odd_form minor is i not h = elim h [ inl g ↦ absurd (not (gone_code minor i g)) | inr f ↦ f ]
+
+gone_shown : (minor : ℕ) (is : List PlainInst) (i : PlainInst) → IsGone minor i → (G : Table)
+    → Shows G minor is i (Opcode i.opcode)
+gone_shown minor is i (IsGone.no_either l o) G = Shows.no_either l o
+gone_shown minor is i (IsGone.no_weak l o) G = Shows.no_weak l o
+
+pub odd_shown : (minor : ℕ) (is : List PlainInst) (i : PlainInst) → IsGoneCode i.opcode → IsOdd minor is i
+    → (G : Table) → Shows G minor is i (Opcode i.opcode)
+odd_shown minor is i gone h G =
+    elim h [ inl g ↦ gone_shown minor is i g G | inr f ↦ absurd (form_stays minor is i f gone) ]
 
 -- forms, by the opcode
 abbrev pub IsCopy : ℕ → Type 0
@@ -188,6 +225,8 @@ shows_late G minor is i _ (Shows.number b k v l has m) =
     late.number k v (number_of G i b k v has) (missing_of minor is k v l m)
 shows_late G minor is i _ (Shows.two_masks place o l c m e t) = late.two_masks l c m
 shows_late G minor is i _ (Shows.whole t x c os l o e h) = late.whole t x c os l o e h
+shows_late G minor is i _ (Shows.no_either l o) = late.no_either l o
+shows_late G minor is i _ (Shows.no_weak l o) = late.no_weak l o
 shows_late G minor is i _ (Shows.no_meaning x name os l o e h d) = late.no_meaning x name os l o e h d
 
 pub versions_suffice : (G : Table) (minor : ℕ) (is : List PlainInst) (r : Rule) (n : ℕ) (e : Evidence)

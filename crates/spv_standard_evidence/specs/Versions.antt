@@ -14,7 +14,7 @@ use Rattle.spv_versions.specs.Missing.{SelectsWhole, is_mask}
 use Rattle.spv_versions.specs.Named.{IsDeclared, IsSetBit}
 use Rattle.spv_versions.specs.Table.{IsBefore, IsOf, Line, Text as Name, lines, name_of}
 use Rattle.spv_evidence.specs.declared.evidence.Evidence.{Evidence}
-use Rattle.spv_evidence.specs.declared.evidence.Evidence.TheVariants.{Late, Operand}
+use Rattle.spv_evidence.specs.declared.evidence.Evidence.TheVariants.{Late, Opcode, Operand}
 use Rattle.spv_evidence.specs.declared.evidence.Lister.{Lister}
 use Rattle.spv_evidence.specs.declared.evidence.Lister.TheVariants as lister
 
@@ -37,8 +37,8 @@ pub data HasNumberBy (G : Table) (i : PlainInst) : Lister → Kind → ℕ → T
       → name_of k ≡ Some name → number_named G name ≡ Some j → IsSetBit m v
       → HasNumberBy G i (lister.Bit place v) k v
 
--- It shows that instruction i of a module of version 1.minor is what that version does not have. [3; OpCopyMemory,
--- OpSelect; SPV_KHR_non_semantic_info]
+-- It shows that instruction i of a module of version 1.minor is what that version does not have, or has no more. [3;
+-- OpCopyMemory, OpSelect; OpLessOrGreater, OpAtomicCompareExchangeWeak: 'missing after'; SPV_KHR_non_semantic_info]
 pub data Shows (G : Table) (minor : ℕ) (is : List PlainInst) (i : PlainInst) : Evidence → Type 0 where
   -- the opcode, the value or the bit, and the line of the table
   number : (b : Lister) (k : Kind) (v l : ℕ) → HasNumberBy G i b k v → IsMissingBy minor is k v l
@@ -50,6 +50,9 @@ pub data Shows (G : Table) (minor : ℕ) (is : List PlainInst) (i : PlainInst) :
   -- the result type
   whole : (t x c : ℕ) (os : List Plain) → minor < 4 → i.opcode ≡ opcode.SELECT
       → i.operands ≡ OfType t ∷ Result x ∷ Id c ∷ os → SelectsWhole is t c → Shows G minor is i (Operand 0)
+  -- the opcode of an instruction that went
+  no_either : 5 < minor → i.opcode ≡ opcode.LESS_OR_GREATER → Shows G minor is i (Opcode i.opcode)
+  no_weak : 3 < minor → i.opcode ≡ opcode.ATOMIC_COMPARE_EXCHANGE_WEAK → Shows G minor is i (Opcode i.opcode)
   -- the name of the set
   no_meaning : (x : ℕ) (name : List ℕ) (os : List Plain) → minor < 6 → i.opcode ≡ opcode.EXT_INST_IMPORT
       → i.operands ≡ Result x ∷ Text name ∷ os → IsTrue (starts_with nat_eq name (codes "NonSemantic."))

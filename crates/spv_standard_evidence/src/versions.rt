@@ -11,7 +11,7 @@ ghost use Rattle.spv_versions.specs.Missing as spec;
 ghost use Rattle.spv_versions.specs.inner.Told.{AreHit, IsAnyHit, IsInstHit, IsOperandHit};
 ghost use Rattle.spv_evidence.specs.declared.evidence.Evidence.TheVariants as evidence;
 ghost use Rattle.spv_standard_evidence.specs.Versions.{IsEvidence, Shows};
-ghost use Rattle.spv_standard_evidence.specs.inner.Versions.{IsForm, IsLackOf, IsMaskAt, mask_at};
+ghost use Rattle.spv_standard_evidence.specs.inner.Versions.{IsForm, IsLackOf, IsMaskAt, IsOdd, mask_at};
 
 use spv_evidence::{Evidence, Lister};
 use spv_module::{Inst, Operand, opcode};
@@ -155,9 +155,38 @@ fn form_place(inst: &Inst<'_>) -> u32
     if inst.opcode == opcode::SELECT { 0 } else { 1 }
 }
 
+/// Whether an opcode is that of an instruction which went with some version.
+fn is_gone(code: u16) -> bool
+    ensures { IsTrue result
+        ↔ ((code ≡ opcodes.LESS_OR_GREATER) ⊎ (code ≡ opcodes.ATOMIC_COMPARE_EXCHANGE_WEAK)) }
+{
+    match code {
+        opcode::LESS_OR_GREATER | opcode::ATOMIC_COMPARE_EXCHANGE_WEAK => true,
+        _ => false,
+    }
+}
+
+/// Of an instruction that has nothing of the table that is missing its opcode, if it went, or the operand by which it
+/// has a form that came with a later version.
+fn odd_evidence(inst: &Inst<'_>) -> Evidence
+    requires { (minor : ℕ) × (is : List PlainInst) × IsOdd minor is (plain_inst inst.now) }
+    ensures { (G : tables.Table) (minor : ℕ) (is : List PlainInst) → IsOdd minor is (plain_inst inst.now)
+        → Shows G minor is (plain_inst inst.now) result }
+{
+    if is_gone(inst.opcode) {
+        return Evidence::Opcode {
+            opcode: inst.opcode,
+        };
+    }
+    Evidence::Operand {
+        operand: form_place(inst),
+    }
+}
+
 /// What shows that O21 is broken at the instruction of a number, from 0, of a module of version 1.`minor`: the opcode,
-/// the value or the bit that the version does not have, and the line of the table that says so; or an operand by which
-/// it has a form that came later. `total` is how many instructions there are.
+/// the value or the bit that the version does not have, and the line of the table that says so; the opcode that it has
+/// no more; or an operand by which the instruction has a form that came later. `total` is how many instructions there
+/// are.
 ///
 /// Time is linear in the words of the module. It takes no memory.
 pub fn version_evidence(
@@ -176,8 +205,6 @@ pub fn version_evidence(
     let inst = definitions.inst(inst);
     match lack_of(&missing, &kinds, inst) {
         Some((lister, line)) => Evidence::Late { lister, line },
-        None => Evidence::Operand {
-            operand: form_place(inst),
-        },
+        None => odd_evidence(inst),
     }
 }

@@ -2,6 +2,8 @@
 use Rattle.std.specs.Prelude.{Bool, true, false}
 use Rattle.spv_module.specs.declared.fault.Rule.{Rule}
 use Rattle.spv_module.specs.declared.fault.Rule.TheVariants as rule
+use Rattle.spv_explain.specs.declared.kinds.Part.{Part}
+use Rattle.spv_explain.specs.declared.kinds.Part.TheVariants as part
 
 -- the rule on roles
 abbrev pub is_of_roles : Rule → Bool
@@ -32,3 +34,25 @@ is_of_values _ = false
 abbrev pub is_of_calls : Rule → Bool
 is_of_calls rule.G1 = true
 is_of_calls _ = false
+
+-- the part that a rule O is of
+abbrev pub part_of : Rule → Part
+part_of rule.O1 = part.Order
+part_of rule.O2 = part.Order
+part_of rule.O4 = part.Interfaces
+part_of rule.O7 = part.Placements
+part_of rule.O8 = part.Decorations
+part_of rule.O9 = part.Decorations
+part_of rule.O10 = part.Decorations
+part_of rule.O11 = part.Decorations
+part_of rule.O14 = part.Operands
+part_of rule.O15 = part.Operands
+part_of rule.O16 = part.Operands
+part_of rule.O17 = part.Operands
+part_of rule.O18 = part.Operands
+part_of rule.O19 = part.Operands
+part_of rule.O20 = part.Operands
+part_of rule.O21 = part.Version
+part_of rule.O22 = part.Limits
+part_of rule.O23 = part.Operands
+part_of _ = part.Declarations

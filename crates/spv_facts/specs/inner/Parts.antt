@@ -8,7 +8,7 @@ use Rattle.spv_facts.specs.declared.fact.Fact.{Fact}
 use Rattle.spv_facts.specs.declared.fact.Fact.TheVariants as fact
 use Rattle.spv_facts.specs.declared.key.Key.{Key}
 use Rattle.spv_facts.specs.declared.key.Key.TheVariants as key
-use Rattle.spv_facts.specs.Facts.{asked_facts, condition_facts, failing_facts, lister_facts, side_thing}
+use Rattle.spv_facts.specs.Facts.{asked_facts, condition_facts, failing_facts, late_facts, lister_facts, side_thing}
 use Rattle.spv_facts.specs.Words.{begin_of, words_fact}
 use Rattle.spv_words.specs.declared.words.WordError.{WordError}
 use Rattle.spv_facts.specs.declared.refused.Front.{Front}
@@ -35,14 +35,23 @@ form_facts n (evidence.Miscalled number operands least most) =
     fact.Number number ∷ fact.Operands operands ∷ fact.Least least ∷ fact.Most most ∷ []
 form_facts n e = id_facts n e
 
--- on types and what lists capabilities, or on forms and ids
+-- on what the standard asks besides, or on forms and ids
+abbrev pub standard_facts : List PlainInst → ℕ → Evidence → List Fact
+standard_facts is n (evidence.OnTheWay b) = fact.OnTheWay b ∷ []
+standard_facts is n (evidence.Pair j k) = fact.Operand n j ∷ fact.OtherOperand n k ∷ []
+standard_facts is n (evidence.ByGroup k m) = fact.Operand n k ∷ fact.Given m ∷ []
+standard_facts is n (evidence.Late l line) = late_facts is n l line
+standard_facts is n (evidence.Past most) = fact.Most (Some most) ∷ []
+standard_facts is n e = form_facts n e
+
+-- on types and what lists capabilities, or on all that stands above
 abbrev pub typed_facts : List PlainInst → ℕ → Evidence → List Fact
 typed_facts is n (evidence.Needs l) = lister_facts is n l ++ (fact.NeedsOneOf n l ∷ [])
 typed_facts is n (evidence.Condition c k m wanted found types) =
     failing_facts n c k m ++ condition_facts is n c k wanted found types
 typed_facts is n (evidence.Mismatch s wanted found of) = fact.Differs s ∷ asked_facts is of
     ++ (fact.Wanted (side_thing is s wanted) ∷ fact.Found (side_thing is s found) ∷ [])
-typed_facts is n e = form_facts n e
+typed_facts is n e = standard_facts is n e
 
 -- on layout and flow, or on all else
 abbrev pub list_facts : List PlainInst → ℕ → Evidence → List Fact
@@ -68,13 +77,18 @@ word_facts ws n word =
 abbrev pub found_words : WordError → Front → List ℕ
 found_words e f = unwrap_or (found_text e f) []
 
--- how a key is written before the colon of a line, if its fact is about control flow or calls
-abbrev pub flow_name : Key → List ℕ
-flow_name key.MissingParent = codes "missing parent"
-flow_name key.NoPredecessor = codes "no predecessor"
-flow_name key.Twice = codes "twice"
-flow_name key.Predecessors = codes "predecessors"
-flow_name key.Walk = codes "walk"
-flow_name key.Calls = codes "calls"
-flow_name key.Cycle = codes "cycle"
-flow_name k = []
+-- how a key is written before the colon of a line, if its fact is about control flow, about calls, or of the rules O
+-- alone
+abbrev pub further_name : Key → List ℕ
+further_name key.MissingParent = codes "missing parent"
+further_name key.NoPredecessor = codes "no predecessor"
+further_name key.Twice = codes "twice"
+further_name key.Predecessors = codes "predecessors"
+further_name key.Walk = codes "walk"
+further_name key.Calls = codes "calls"
+further_name key.Cycle = codes "cycle"
+further_name key.OtherOperand = codes "other operand"
+further_name key.OnTheWay = codes "on the way"
+further_name key.Given = codes "given"
+further_name key.Since = codes "since"
+further_name k = []

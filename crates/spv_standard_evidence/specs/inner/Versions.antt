@@ -40,3 +40,11 @@ pub data IsForm (minor : ℕ) (is : List PlainInst) (i : PlainInst) : Type 0 whe
   no_meaning : (x : ℕ) (name : List ℕ) (os : List Plain) → minor < 6 → i.opcode ≡ opcode.EXT_INST_IMPORT
       → i.operands ≡ Result x ∷ Text name ∷ os → IsTrue (starts_with nat_eq name (codes "NonSemantic."))
       → ¬ (IsDeclared is (codes "SPV_KHR_non_semantic_info")) → IsForm minor is i
+
+-- an instruction went with an earlier version
+pub data IsGone (minor : ℕ) (i : PlainInst) : Type 0 where
+  no_either : 5 < minor → i.opcode ≡ opcode.LESS_OR_GREATER → IsGone minor i
+  no_weak : 3 < minor → i.opcode ≡ opcode.ATOMIC_COMPARE_EXCHANGE_WEAK → IsGone minor i
+
+abbrev pub IsOdd : ℕ → List PlainInst → PlainInst → Type 0
+IsOdd minor is i = IsGone minor i ⊎ IsForm minor is i

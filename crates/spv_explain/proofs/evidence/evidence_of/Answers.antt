@@ -4,6 +4,7 @@ use Rattle.spv_module.specs.declared.fault.Stop.TheVariants as stop
 use Rattle.spv_check.specs.Fork.{fork_of}
 use Rattle.spv_explain.proofs.Shown.{extended_shown, id_shown, layout_shown, mistyping_shown, refused_broken, the_miscall}
 use Rattle.spv_explain.proofs.Shown.{standard_shown, the_mistyping}
+use Rattle.spv_explain.proofs.Standard.{unbroken_branches}
 use Rattle.spv_explain.proofs.evidence.evidence_of.Goals as goal
 
 pub layout_evidence-requires : goal.layout_evidence-requires
@@ -85,8 +86,23 @@ returns-in-Called c =
     let r = rw c.in-Called.is at c.requires.refused in
     mistyping_shown c.args.table.now c.args.reach _ is c.args.fault _ r.2.0.broken c.std_evidence.ensures
 
-pub returns-in-Settled : goal.returns-in-Settled
-returns-in-Settled c =
-    let is = plain_insts c.args.module.now in
+pub standard_evidence-requires-clause-plan : goal.standard_evidence-requires-clause-plan
+standard_evidence-requires-clause-plan c = let r = rw c.in-Settled.is at c.requires.refused in r.0
+
+pub standard_evidence-requires-clause-ids : goal.standard_evidence-requires-clause-ids
+standard_evidence-requires-clause-ids c = let r = rw c.in-Settled.is at c.requires.refused in r.1
+
+pub standard_evidence-requires-clause-branches : goal.standard_evidence-requires-clause-branches
+standard_evidence-requires-clause-branches c =
     let r = rw c.in-Settled.is at c.requires.refused in
-    standard_shown c.args.table.now c.args.reach _ is c.args.fault r.2.0.broken
+    unbroken_branches c.args.table.now c.args.reach _ (plain_insts c.args.module.now) c.args.fault c.requires.told
+    r.2.0.broken
+
+pub standard_evidence-requires-clause-broken : goal.standard_evidence-requires-clause-broken
+standard_evidence-requires-clause-broken c =
+    let r = rw c.in-Settled.is at c.requires.refused in
+    r.2.0.broken
+
+pub returns-in_ok-standard_evidence-in-Settled : goal.returns-in_ok-standard_evidence-in-Settled
+returns-in_ok-standard_evidence-in-Settled c =
+    standard_shown c.args.table.now c.args.reach _ _ c.args.fault _ c.in_ok-standard_evidence-in-Settled.ensures

@@ -34,6 +34,14 @@ shown_and_spelled-requires-clause-refused c =
     let j = subst (λ j. IsJudged G reach m.header.bound (plain_insts m) j) c.in-Broken.is c.in_ok-checked.ensures in
     rw (j.same_bound, j.same_insts) j.refused
 
+pub shown_and_spelled-requires-clause-told : goal.shown_and_spelled-requires-clause-told
+shown_and_spelled-requires-clause-told c =
+    let G = c.args.table.now in
+    let reach = c.args.reach in
+    let m = c.in-Ok.module in
+    let j = subst (λ j. IsJudged G reach m.header.bound (plain_insts m) j) c.in-Broken.is c.in_ok-checked.ensures in
+    rw (j.same_bound, j.same_insts) j.told
+
 pub shown_and_spelled-requires-clause-read : goal.shown_and_spelled-requires-clause-read
 shown_and_spelled-requires-clause-read c =
     let G = c.args.table.now in

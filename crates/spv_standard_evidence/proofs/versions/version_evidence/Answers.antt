@@ -3,8 +3,8 @@ use Rattle.spv_standard_evidence.specs.Versions.{IsEvidence}
 use Rattle.spv_standard_evidence.proofs.Versioned.{form_by, lack_shown, late_by}
 use Rattle.spv_standard_evidence.proofs.versions.version_evidence.Goals as goal
 
-pub form_place-requires : goal.form_place-requires
-form_place-requires c =
+pub odd_evidence-requires : goal.odd_evidence-requires
+odd_evidence-requires c =
     let G = c.args.table.now in
     let is = c.args.definitions.now in
     let i = plain_inst c.inst-inst.result.now in
@@ -33,7 +33,7 @@ returns-in-None c =
     let i = plain_inst c.inst-inst.result.now in
     let m = c.of-missing.result in
     IsEvidence.late c.args.inst i _ c.inst-inst.ensures
-    (c.form_place.ensures G c.args.minor is
+    (c.odd_evidence.ensures G c.args.minor is
     (form_by G c.args.minor is m.lines m.is_without_meaning c.of-kinds.result.numbers i c.of-missing.ensures.told
     c.of-kinds.ensures c.in-None.ensures
     (late_by G c.args.minor is c.args.inst i c.inst-inst.ensures c.requires.broken)))

@@ -1,0 +1,2 @@
+-- Definitions that serve the code alone.
+pub mod Texts
