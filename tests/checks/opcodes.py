@@ -1,11 +1,13 @@
-"""The lists that lead from an opcode to its row, in spv_layout and spv_ops, as the rows tell them.
+"""The lists that lead from an opcode to its row, in spv_layout and spv_ops, and the lengths of the tables, as the rows
+tell them.
 
 Both crates find the row of an opcode in a list of numbers, `NUMBERS`: of each opcode the number of
 its row, from 0, or 255 where there is none. A row is a line of the table in src/rows.rt of
 spv_layout and src/table.rt of spv_ops, and begins with its opcodes, which are named as in
 spv_module. The rows of the last opcodes, from FAR on, are not in the list of spv_layout, which
 looks through these rows, and `NUMBERED` says how many there are before them; in that of spv_ops
-they come last, by `PLACES`. A proof says that the lists are right; this is what writes them.
+they come last, by `PLACES`. A table has parts, each of which is some statics, whose types have its length. A proof
+says that the lists are right; this is what writes them.
 """
 
 import re
@@ -25,6 +27,15 @@ WIDTH = 95
 REMEDY = "tests/rows-of-opcodes --write makes it anew"
 NUMBERED = re.compile(r"(?m)^(const NUMBERED: usize = )\d+;$")
 NUMBERS = re.compile(r"(?m)^(pub )?static NUMBERS: \[u8; \d+\] = \[\n(    .*\n)*\];\n")
+# The statics of a file, and the constant, whose lengths are how many rows there are in which of its parts.
+LENGTHS = {
+    LAYOUT: {"TABLE": (0, 1), "ROWS": (0,), "OWN": (0,), "OPENCL_ROWS": (1,)},
+    TYPED: {
+        **dict.fromkeys(("TABLE", "ENTRIES", "FIRSTS"), (0,)),
+        **dict.fromkeys(("FURTHER", "FURTHER_ENTRIES"), (1,)),
+        **dict.fromkeys(("OBJECTS", "OBJECT_ENTRIES"), (2,)),
+    },
+}
 
 
 def text(path):
@@ -78,6 +89,18 @@ def list_of(path, rows):
     return f"static NUMBERS: [u8; {len(numbers)}] = [\n{textwrap.indent(told, '    ')}\n];\n"
 
 
+def with_lengths(path, content):
+    """A file with the lengths of its tables."""
+    counts = [len(ROW.findall(part)) for part in PART.findall(content)]
+    for name, parts in LENGTHS[path].items():
+        head = re.compile(rf"(?m)^((?:pub )?(?:static {name}: \[\w+; |const {name}: usize = ))\d+")
+        count = sum(counts[part] for part in parts)
+        content, found = head.subn(lambda was, count=count: f"{was[1]}{count}", content)
+        if found != 1:
+            raise Unusable(f"{path} has no {name}, or several")
+    return content
+
+
 def files():
     """Both files, with what they must hold."""
     found = {}
@@ -86,10 +109,9 @@ def files():
         if not NUMBERS.search(now):
             raise Unusable(f"{path} has no NUMBERS")
         before = sum(last < FAR for _, last, _ in rows(path))
-        found[path] = NUMBERED.sub(
-            lambda was, before=before: f"{was[1]}{before};",
-            NUMBERS.sub(lambda was, told=told: (was[1] or "") + told, now),
-        )
+        numbered = NUMBERS.sub(lambda was, told=told: (was[1] or "") + told, now)
+        numbered = NUMBERED.sub(lambda was, before=before: f"{was[1]}{before};", numbered)
+        found[path] = with_lengths(path, numbered)
     return found
 
 
@@ -101,7 +123,7 @@ def wrong_files(_program, _folder):
         return f"  a row has {name}, which is no opcode"
     for path, content in found.items():
         if text(path) != content:
-            return f"  NUMBERS of {path.relative_to(CRATES)} is not what the rows tell; {REMEDY}"
+            return f"  NUMBERS, or the lengths, of {path.relative_to(CRATES)} are not what the rows tell; {REMEDY}"
     return None
 
 
