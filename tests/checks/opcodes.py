@@ -116,7 +116,7 @@ def files():
 
 
 def wrong_files(_program, _folder):
-    """None if the files hold the lists that the rows tell, else which does not."""
+    """None if the files hold the lists that the rows say, else which does not."""
     try:
         found = files()
     except KeyError as name:
