@@ -19,6 +19,16 @@ CRATES = TESTS.parent / "crates"
 OPCODES = CRATES / "spv_module/src/opcode.rt"
 LAYOUT = CRATES / "spv_layout/src/rows.rt"
 TYPED = CRATES / "spv_ops/src/table.rt"
+# The recipe of an opcode, and where the lines that it shows stand.
+RECIPE = re.compile(r"(?ms)^## \(a\) A new opcode\n(.*?)^## ")
+SHOWN = re.compile(r"(?m)^ {8}(\S.*)$")
+COMMANDS = ("cd ", "tests/")
+PLACES_OF_LINES = (
+    *(OPCODES, LAYOUT, TYPED, CRATES / "spv_ops/src/laws.rt"),
+    *(TESTS.parent / "docs/PROFILE.md", TESTS / "opencl.json"),
+    *(TESTS / "reading" / name for name in ("opencl.py", "objects.py", "object_conditions.py")),
+    TESTS / "checks/typed_opencl.py",
+)
 NONE = 255
 FAR = 4096
 # The opcodes that have a place in the list of spv_ops, in order.
@@ -127,6 +137,20 @@ def wrong_files(_program, _folder):
     return None
 
 
+def wrong_recipe(_program, _folder):
+    """None if the tree has the lines that CONTRIBUTING.md shows of an opcode, else which it has not."""
+    places = [text(path) for path in PLACES_OF_LINES]
+    lines = SHOWN.findall(part(TESTS.parent / "CONTRIBUTING.md", RECIPE.pattern))
+    found = [line for line in lines if not line.startswith(COMMANDS)]
+    absent = [line for line in found if not any(line in place for place in places)]
+    if len(found) < 8:
+        return f"  CONTRIBUTING.md shows {len(found)} lines"
+    return "\n".join(f"  no file has: {line}" for line in absent) or None
+
+
 def checks():
-    """One check, of both files."""
-    return [Check("opcodes: the numbers of their rows", frozenset(), wrong_files)]
+    """The check of both files, and that of the recipe which changes them."""
+    return [
+        Check("opcodes: the numbers of their rows", frozenset(), wrong_files),
+        Check("opcodes: the lines of the recipe", frozenset(), wrong_recipe),
+    ]
