@@ -13,12 +13,11 @@
 
 A grammar is made once, the built-in one of SPIR-V 1.6 or that of a grammar file, and then answers about
 any number of modules, also from several threads at the same time: the calls run without Python's global
-lock. It is let go with its last reference. By `opencl` all is taken that a kernel of OpenCL can be, as compilers
-make it; without it the profile of SPIR-V 1.6. By `extended` extended instructions are looked at too: loaders of
-strangers' modules set it.
+lock. It is freed with its last reference. `opencl` accepts all that compilers make of OpenCL C; without it only
+the profile of SPIR-V 1.6 is accepted. `extended` checks extended instructions too: set it for untrusted modules.
 
-The shared library is the file that the environment's SPVK_LIBRARY names, or else libspvk.so.1 beside this
-file, as the wheel has it, or where the system finds it. Python 3.8 or later, and nothing else.
+The shared library is the file that SPVK_LIBRARY names in the environment, or else libspvk.so.1 beside this
+file, as in the wheel, or where the system finds it. Python 3.8 or later, and nothing else.
 """
 
 import ctypes

@@ -46,7 +46,7 @@ def functions_of(facts):
 
 
 def code_of(printed):
-    """The first letter of the code that is told, a space where the module is valid."""
+    """The first letter of the code that is reported, a space where the module is valid."""
     return printed[0].split(" ")[1][0] if printed[0] != "valid" else " "
 
 
@@ -303,7 +303,7 @@ TOLD_ONCE = {
 
 
 def names_once(program, folder):
-    """The name of an id that an instruction uses several times is told once, where it is used first."""
+    """The name of an id that an instruction uses several times stands once, where it is used first."""
     grammar_read = grammar_in(GRAMMAR)
     content = assembled(grammar_read, REPEATED)
     path = folder / "module.spv"
@@ -320,7 +320,7 @@ def names_once(program, folder):
 
 
 def names_of_opencl(program, folder):
-    """Each instruction of OpenCL.std is told by its name in Khronos' file, and other numbers by none."""
+    """Each instruction of OpenCL.std has its name of Khronos' file, and other numbers none."""
     grammar_read = grammar_in(GRAMMAR)
     insts = [f"%{1000 + number} = OpExtInst %5 %50 {number}" for number in range(max(opencl_names()) + 3)]
     content = assembled(grammar_read, [*DECLARATIONS, *BEGUN, *insts, *ENDED])

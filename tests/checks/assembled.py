@@ -53,7 +53,7 @@ def wrong_with(program, folder, module, text):
 
 
 def wrongly_refused(program, folder, module, got):
-    """None if `check` tells the W or I fault that `show` refuses the module with, else what went wrong."""
+    """None if `check` gives the W or I fault that `show` refuses the module with, else what went wrong."""
     wanted = run(program, ["check", "--grammar", GRAMMAR, module], folder)
     if wanted.status == 1 and NO_LIST.fullmatch(wanted.out):
         wrong = difference(wanted, got)

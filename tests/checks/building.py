@@ -276,7 +276,7 @@ def refuses(_, folder):
 
 
 def knows_no_times(_, folder):
-    """Without a list of times nothing is told of what is left."""
+    """Without a list of times nothing is reported of what is left."""
     said, status = told(folder, [], seconds="# of no crate\n")
     wanted = [it.replace(r", about \d more", "").replace(", about 0 more", "") for it in PROVED]
     return differing(said, wanted) or (f"  exit {status}" if status else None)
@@ -305,7 +305,7 @@ def refuses_words(_, folder):
 
 
 def on_a_terminal(_, folder):
-    """On a terminal a last line tells what is under way, and is written over; the lines of the crates stay."""
+    """On a terminal a last line says what is under way, and is written over; the lines of the crates stay."""
     top = repository(folder, "spv_table 2\n")
     ours, theirs = pty.openpty()
     with subprocess.Popen([top / "build"], cwd=folder, env=environment(folder), stdin=theirs, stdout=theirs) as ended:

@@ -1,4 +1,4 @@
-"""The built-in grammar, in spv_builtin, as Khronos' grammar file tells it.
+"""The built-in grammar, in spv_builtin, as Khronos' grammar file has it.
 
 How rows tell a table is said in crates/spv_table/specs/Rows.antt. What is dropped, and how kinds are numbered, is
 told in spv_grammar (specs/Made.antt, specs/Kinds.antt).
@@ -27,12 +27,12 @@ use spv_table::{{
     Span,
 }};
 """
-# Below which number the place of an enumerant's value is told.
+# Below which number the place of an enumerant's value is kept.
 SMALL = 64
-# In how many slots a name may lie: in the one that its hash tells, and in those behind it.
+# In how many slots a name may lie: in the one that its hash gives, and in those behind it.
 NEAR = 8
 NO_PLACE = 0xFFFF_FFFF
-# Below which opcodes the fronts of patterns are told: those of the profile.
+# Below which opcodes the fronts of patterns are kept: those of the profile.
 FRONTED = 331
 MOST = 255
 NO_FRONT = ("Nothing", 0, False, MOST)
@@ -135,7 +135,7 @@ def optional_in(operands):
 
 
 def form_of(name, category):
-    """The form of a kind, as crates/spv_table/specs/inner/Form.antt tells it."""
+    """The form of a kind, as crates/spv_table/specs/inner/Form.antt has it."""
     leaves = {
         "Id": {"IdResultType": "ResultType", "IdResult": "Result"}.get(name, "Id"),
         "Literal": {
@@ -236,7 +236,7 @@ def results_of(operands):
 
 def ids_in(kinds, operands):
     """How many items are ids that come once at most, whether ids that come any number of times follow, and how many
-    operands there are at least, as crates/spv_table/specs/inner/Front.antt tells it."""
+    operands there are at least, as crates/spv_table/specs/inner/Front.antt has it."""
     singles, repeated, least = 0, False, 0
     for operand in reversed(operands):
         is_id = kinds[operand["kind"]][0] == "Id" and operand["kind"] not in RESULTS
@@ -359,7 +359,7 @@ def written():
 
 
 def wrong_constants(_program, _folder):
-    """None if the file holds the constants that Khronos' file tells."""
+    """None if the file holds the constants that Khronos' file gives."""
     if CONSTANTS.read_text(encoding="utf-8") != written():
         return f"  {CONSTANTS.name} of spv_builtin is not what {GRAMMAR} tells; {REMEDY}"
     return None

@@ -1,4 +1,4 @@
-"""The table of OpenCL.std of docs/PROFILE.md (Y10), as the table of spv_std_types tells it.
+"""The table of OpenCL.std of docs/PROFILE.md (Y10), as the table of spv_std_types has it.
 
 A line of the table in src/table.rt of spv_std_types has numbers of instructions and the conditions that they ask. The
 names of the instructions are those that spv_annotate has for comments, and what a type is to be is said in the words
@@ -117,7 +117,7 @@ def page(now):
 
 
 def wrong_page(_program, _folder):
-    """None if the page holds the table that the table of OpenCL.std tells, else that it does not."""
+    """None if the page holds the table that the table of OpenCL.std gives, else that it does not."""
     now = text(PAGE)
     if now != page(now):
         return f"  the table of OpenCL.std of docs/PROFILE.md is not that of spv_std_types; {REMEDY}"

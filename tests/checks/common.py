@@ -98,7 +98,7 @@ def joined(words, folder, seconds=SECONDS, **how):
 
 
 def run(program, words, folder, seconds=SECONDS, **how):
-    """Runs the program with these words in this folder; catches both outputs if not told else."""
+    """Runs the program with these words in this folder; catches both outputs unless told otherwise."""
     how = {"stdin": subprocess.DEVNULL, "stdout": subprocess.PIPE, **how}
     ended = subprocess.run(
         [str(program), *map(str, words)],
@@ -122,7 +122,7 @@ class Run:
 
 
 def measured(program, words, folder):
-    """Runs the program with these words, and tells what it took."""
+    """Runs the program with these words, and says what it took."""
     out = folder / "out"
     measure = [sys.executable, "-S", TESTS / "checks/measure", out, program, *words]
     ended = subprocess.run(

@@ -149,7 +149,7 @@ def each_command(program, folder):
 
 
 def one_that_is_named_wins(program, folder):
-    """A grammar file that is named counts, by `--grammar` before SPV_GRAMMAR, and where it is bad that is told."""
+    """A grammar file that is named counts, by `--grammar` before SPV_GRAMMAR, and where it is bad that is reported."""
     thin, refused = TESTS / "grammars/thin.json", folder / "refused.json"
     refused.write_bytes(b"[1")
     module = MODULES / "value-missing-on-one-branch.spv"

@@ -1,6 +1,6 @@
-"""What extended instructions take, in spv_extended and in the second reading, as Khronos' grammar files tell it.
+"""What extended instructions take, in spv_extended and in the second reading, as Khronos' grammar files have it.
 
-The crate has a list for each set: at the number of an instruction a number that tells what stands behind it
+The crate has a list for each set: at the number of an instruction a number that says what stands behind it
 (src/facts.rt says how it is read). The reading has the kinds of the operands themselves (reading/sets.json). This is
 what writes both, and compares them.
 """
@@ -97,7 +97,7 @@ def files():
 
 
 def wrong_facts(_program, _folder):
-    """None if the files hold what Khronos' files tell."""
+    """None if the files hold what Khronos' files say."""
     for path, content in files().items():
         if not path.exists() or path.read_text(encoding="utf-8") != content:
             return f"  {path.relative_to(TESTS.parent)} is not what Khronos' files tell; {REMEDY}"

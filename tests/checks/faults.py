@@ -78,7 +78,7 @@ def crossed(insts):
 
 
 def too_few(struct, parts):
-    """What is told of one constituent too few."""
+    """What is said of one constituent too few."""
     made = f"%{struct} = OpTypeStruct {ids(parts)}"
     condition = "condition: there are as many constituents as the type has parts"
     of = f"{made}, of operand 0 %{struct}"

@@ -41,7 +41,7 @@ def enumerants(count):
 
 
 def entries(count, opcode):
-    """Very many instructions; `opcode` tells the opcode of each."""
+    """Very many instructions; `opcode` gives the opcode of each."""
     operands = [{"kind": "IdResult"}, {"kind": "IdRef", "quantifier": "*"}]
     return grammar(
         ({"opname": f"Op{at}", "opcode": opcode(at), "operands": operands} for at in range(count)),

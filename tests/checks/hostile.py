@@ -104,7 +104,7 @@ def closed_pipe(program, folder):
 
 
 def both_outputs_full(program, folder):
-    """The error line can't be written either; the exit status still tells."""
+    """The error line can't be written either; the exit status still gives it."""
     with open("/dev/full", "wb") as full:
         ended = subprocess.run(
             [str(program), *map(str, check_words())],

@@ -71,7 +71,7 @@ def of_types_of_opencl(folder):
 
 
 def unlike(program, file, names, words, profile=Profile.OWN):
-    """What is untrue of what explains modules with these names, and which of some conditions is told of none."""
+    """What is untrue of what explains modules with these names, and which of some conditions is reported of none."""
     grammar = Grammar(json.loads(file.read_text(encoding="utf-8")))
     sentence_of = dict(sentences(PAGE.read_text(encoding="utf-8")))
     told, wrong = set(), []
@@ -85,7 +85,7 @@ def unlike(program, file, names, words, profile=Profile.OWN):
 
 
 def conditions(program, folder):
-    """None if each condition of the table of types is told of some module that breaks it, and nothing untrue."""
+    """None if each condition of the table of types is reported of some module that breaks it, and nothing untrue."""
     return "\n".join(unlike(program, PROFILE, of_types(folder), OWN_WORDS)) or None
 
 

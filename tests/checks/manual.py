@@ -388,7 +388,7 @@ def examples_run(program, folder):
 
 
 def version_as_program(program, folder):
-    """The man page's first line has the version that the program tells."""
+    """The man page's first line has the version that the program gives."""
     said = run(program, ["--version"], folder).out.decode().splitlines()[:1]
     first = shlex.split(PAGE.read_text(encoding="utf-8").splitlines()[0])
     return None if said == [first[4]] else f"  the man page is of {first[4]}, the program {said}"

@@ -185,7 +185,7 @@ def grammar_once(program, folder):
 
 
 def grammar_first(program, folder):
-    """A grammar file that is absent or refused is told alone, and no file is looked at."""
+    """A grammar file that is absent or refused is reported alone, and no file is looked at."""
     refused = folder / "refused.json"
     refused.write_bytes(b"[1")
     names = ["absent.spv", KERNEL]
@@ -234,7 +234,7 @@ def full_output(program, folder):
 
 
 def full_error_output(program, folder):
-    """Where the line of an error cannot be written, the others are, and the status tells."""
+    """Where the line of an error cannot be written, the others are, and the status gives it."""
     with open("/dev/full", "wb") as full:
         ended = subprocess.run(
             [str(program), "check", "absent.spv", str(KERNEL)],

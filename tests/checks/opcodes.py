@@ -1,11 +1,13 @@
-"""The lists that lead from an opcode to its row, in spv_layout and spv_ops, as the rows tell them.
+"""The lists that lead from an opcode to its row, in spv_layout and spv_ops, and the lengths of the tables, as the rows
+tell them.
 
 Both crates find the row of an opcode in a list of numbers, `NUMBERS`: of each opcode the number of
 its row, from 0, or 255 where there is none. A row is a line of the table in src/rows.rt of
 spv_layout and src/table.rt of spv_ops, and begins with its opcodes, which are named as in
 spv_module. The rows of the last opcodes, from FAR on, are not in the list of spv_layout, which
 looks through these rows, and `NUMBERED` says how many there are before them; in that of spv_ops
-they come last, by `PLACES`. A proof says that the lists are right; this is what writes them.
+they come last, by `PLACES`. A table has parts, each of which is some statics, whose types have its length. A proof
+says that the lists are right; this is what writes them.
 """
 
 import re
@@ -17,6 +19,16 @@ CRATES = TESTS.parent / "crates"
 OPCODES = CRATES / "spv_module/src/opcode.rt"
 LAYOUT = CRATES / "spv_layout/src/rows.rt"
 TYPED = CRATES / "spv_ops/src/table.rt"
+# The recipe of an opcode, and where the lines that it shows stand.
+RECIPE = re.compile(r"(?ms)^## \(a\) A new opcode\n(.*?)^## ")
+SHOWN = re.compile(r"(?m)^ {8}(\S.*)$")
+COMMANDS = ("cd ", "tests/")
+PLACES_OF_LINES = (
+    *(OPCODES, LAYOUT, TYPED, CRATES / "spv_ops/src/laws.rt"),
+    *(TESTS.parent / "docs/PROFILE.md", TESTS / "opencl.json"),
+    *(TESTS / "reading" / name for name in ("opencl.py", "objects.py", "object_conditions.py")),
+    TESTS / "checks/typed_opencl.py",
+)
 NONE = 255
 FAR = 4096
 # The opcodes that have a place in the list of spv_ops, in order.
@@ -25,6 +37,15 @@ WIDTH = 95
 REMEDY = "tests/rows-of-opcodes --write makes it anew"
 NUMBERED = re.compile(r"(?m)^(const NUMBERED: usize = )\d+;$")
 NUMBERS = re.compile(r"(?m)^(pub )?static NUMBERS: \[u8; \d+\] = \[\n(    .*\n)*\];\n")
+# The statics of a file, and the constant, whose lengths are how many rows there are in which of its parts.
+LENGTHS = {
+    LAYOUT: {"TABLE": (0, 1), "ROWS": (0,), "OWN": (0,), "OPENCL_ROWS": (1,)},
+    TYPED: {
+        **dict.fromkeys(("TABLE", "ENTRIES", "FIRSTS"), (0,)),
+        **dict.fromkeys(("FURTHER", "FURTHER_ENTRIES"), (1,)),
+        **dict.fromkeys(("OBJECTS", "OBJECT_ENTRIES"), (2,)),
+    },
+}
 
 
 def text(path):
@@ -78,6 +99,18 @@ def list_of(path, rows):
     return f"static NUMBERS: [u8; {len(numbers)}] = [\n{textwrap.indent(told, '    ')}\n];\n"
 
 
+def with_lengths(path, content):
+    """A file with the lengths of its tables."""
+    counts = [len(ROW.findall(part)) for part in PART.findall(content)]
+    for name, parts in LENGTHS[path].items():
+        head = re.compile(rf"(?m)^((?:pub )?(?:static {name}: \[\w+; |const {name}: usize = ))\d+")
+        count = sum(counts[part] for part in parts)
+        content, found = head.subn(lambda was, count=count: f"{was[1]}{count}", content)
+        if found != 1:
+            raise Unusable(f"{path} has no {name}, or several")
+    return content
+
+
 def files():
     """Both files, with what they must hold."""
     found = {}
@@ -86,25 +119,38 @@ def files():
         if not NUMBERS.search(now):
             raise Unusable(f"{path} has no NUMBERS")
         before = sum(last < FAR for _, last, _ in rows(path))
-        found[path] = NUMBERED.sub(
-            lambda was, before=before: f"{was[1]}{before};",
-            NUMBERS.sub(lambda was, told=told: (was[1] or "") + told, now),
-        )
+        numbered = NUMBERS.sub(lambda was, told=told: (was[1] or "") + told, now)
+        numbered = NUMBERED.sub(lambda was, before=before: f"{was[1]}{before};", numbered)
+        found[path] = with_lengths(path, numbered)
     return found
 
 
 def wrong_files(_program, _folder):
-    """None if the files hold the lists that the rows tell, else which does not."""
+    """None if the files hold the lists that the rows say, else which does not."""
     try:
         found = files()
     except KeyError as name:
         return f"  a row has {name}, which is no opcode"
     for path, content in found.items():
         if text(path) != content:
-            return f"  NUMBERS of {path.relative_to(CRATES)} is not what the rows tell; {REMEDY}"
+            return f"  NUMBERS, or the lengths, of {path.relative_to(CRATES)} are not what the rows tell; {REMEDY}"
     return None
 
 
+def wrong_recipe(_program, _folder):
+    """None if the tree has the lines that CONTRIBUTING.md shows of an opcode, else which it has not."""
+    places = [text(path) for path in PLACES_OF_LINES]
+    lines = SHOWN.findall(part(TESTS.parent / "CONTRIBUTING.md", RECIPE.pattern))
+    found = [line for line in lines if not line.startswith(COMMANDS)]
+    absent = [line for line in found if not any(line in place for place in places)]
+    if len(found) < 8:
+        return f"  CONTRIBUTING.md shows {len(found)} lines"
+    return "\n".join(f"  no file has: {line}" for line in absent) or None
+
+
 def checks():
-    """One check, of both files."""
-    return [Check("opcodes: the numbers of their rows", frozenset(), wrong_files)]
+    """The check of both files, and that of the recipe which changes them."""
+    return [
+        Check("opcodes: the numbers of their rows", frozenset(), wrong_files),
+        Check("opcodes: the lines of the recipe", frozenset(), wrong_recipe),
+    ]

@@ -1,4 +1,4 @@
-"""The table of operations of docs/PROFILE.md (Y5), as the table of types of spv_ops tells it.
+"""The table of operations of docs/PROFILE.md (Y5), as the table of types of spv_ops has it.
 
 A line of the table in src/table.rt of spv_ops has opcodes, where their values stand and the conditions
 that they ask. The words of a condition are those of `spv explain`, in src/conditions.rt of
@@ -139,7 +139,7 @@ def page():
 
 
 def wrong_page(_program, _folder):
-    """None if the page holds the table that the table of types tells, else that it does not."""
+    """None if the page holds the table that the table of types gives, else that it does not."""
     if text(PAGE) != page():
         return f"  the table of operations of docs/PROFILE.md is not that of spv_ops; {REMEDY}"
     return None

@@ -186,7 +186,7 @@ def targets_of(inst):
 
 
 def steps_of(printed):
-    """The labels of the walk that is told, in order."""
+    """The labels of the walk that is reported, in order."""
     line = next((line for line in printed if line.startswith("walk:")), "")
     return [int(it) for it in re.findall(r"%(\d+)", line)]
 
@@ -198,7 +198,7 @@ def fault_of(printed):
 
 
 def blocks_wanted(facts, function, printed):
-    """The picture of the blocks of a function, with the fault that is told where it lies there."""
+    """The picture of the blocks of a function, with the fault that is reported where it lies there."""
     insts, wanted = facts.insts, Picture()
     body = next(it for it in bodies_of(insts) if insts[it[0]].result == function)
     fault = fault_of(printed)

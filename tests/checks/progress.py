@@ -16,7 +16,7 @@ def clock(seconds):
 
 
 class Progress:
-    """Counts the checks that have ended, and tells how many are left."""
+    """Counts the checks that have ended, and shows how many are left."""
 
     def __init__(self, count, out=sys.stdout):
         self.count, self.out = count, out

@@ -184,7 +184,7 @@ def readme(program, folder):
     return None if count >= 6 else f"  README has {count} command lines"
 
 
-def strangers_looked_at(_program, _folder):
+def untrusted_looked_at(_program, _folder):
     """Each check in a recipe of SECURITY.md looks at extended instructions too."""
     text = SECURITY.read_text(encoding="utf-8")
     lines = [line for _, part in sections_of(text) for it in blocks_of(part) for line in it.text.splitlines()]
@@ -196,4 +196,4 @@ def strangers_looked_at(_program, _folder):
 def checks():
     """The recipes, README and SECURITY.md. They need all layers of the program."""
     found = [*recipes(), Check("README: its command lines", frozenset({"trace"}), readme)]
-    return [*found, Check("SECURITY: modules of strangers", frozenset(), strangers_looked_at)]
+    return [*found, Check("SECURITY: untrusted modules", frozenset(), untrusted_looked_at)]

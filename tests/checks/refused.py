@@ -93,7 +93,7 @@ def stretches(records):
 
 def each_run(program, words, folder, environment, first=1, **how):
     """Runs the program with the call of each number from the first on refused in turn, until it is refused none or the
-    runs are too many: their stretches, of which the last tells whether there was an end. None where the library did not
+    runs are too many: their stretches, of which the last says whether there was an end. None where the library did not
     take hold."""
     runs = folder / "runs"
     runs.unlink(missing_ok=True)

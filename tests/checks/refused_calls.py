@@ -21,7 +21,7 @@ THIN = TESTS / "grammars/thin.json"
 INSIDE = TESTS / "modules/inside-of-an-extended-instruction.spv"
 OLD = "old.spv"
 GROWTH, OPEN, READ, WRITE = "growth", "open", "read", "write"
-# What a refused call is told as.
+# What a refused call is reported as.
 TOLD = {GROWTH: b"error memory", OPEN: b"error file", READ: b"error file", WRITE: b"error file"}
 MADE = "made.spv"
 LAST_OF_TABLE = 10

@@ -60,7 +60,7 @@ def below(text, code):
 
 
 def meanings(text, codes):
-    """Of each code the lines of what breaks it, each with the instructions at which it is told before it."""
+    """Of each code the lines of what breaks it, each with the instructions at which it is reported before it."""
     found = {code: [] for code in codes}
     for table in tables(text):
         at = next((at for at, name in enumerate(table.columns) if name in MEANINGS), None)

@@ -80,7 +80,7 @@ def unbuilt(_, folder):
 
 
 def on_a_terminal(program, folder):
-    """On a terminal a last line tells how many have ended, and what is under way, and is gone at the end."""
+    """On a terminal a last line shows how many have ended, and what is under way, and is gone at the end."""
     ours, theirs = pty.openpty()
     words = [sys.executable, RUN, "--program", program, "--only", PLAIN]
     with subprocess.Popen([str(it) for it in words], cwd=folder, stdin=theirs, stdout=theirs) as ended:

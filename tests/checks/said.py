@@ -403,7 +403,7 @@ PLACES = [
 
 
 def places_of_grammars(program, folder):
-    """Of a refused grammar file the place is told, what stands there and what is wanted; the file's name, too."""
+    """Of a refused grammar file the place is reported, what stands there and what is wanted; the file's name, too."""
     for code, tree, parts in PLACES:
         path = folder / "grammar.json"
         if code == "J6":
@@ -427,7 +427,7 @@ def no_json(program, folder):
 
 
 def entry_points(program, folder):
-    """After X1 the entry points are told, by the ids of their functions and by their names."""
+    """After X1 the entry points are reported, by the ids of their functions and by their names."""
     rows = [
         Row(["trace", "--function", "1", "--limit", "5", str(KERNEL)], "error X1", ("\\b3\\b", '"k"|\\bk\\b')),
         Row(["trace", "--function", "20", "--limit", "5", str(LATER)], "error X1", ("\\b10\\b", '"k"|\\bk\\b')),
@@ -555,7 +555,7 @@ def same_file(program, folder):
 
 
 def long_words(program, folder):
-    """Words of a megabyte in all are told, in a line or a few, and no slower for that."""
+    """Words of a megabyte in all are reported, in a line or a few, and no slower for that."""
     word = "x" * 100_000
     rows = [["check", f"--{word}"], [word], ["rules", word], ["check", word], ["check", *["-"] * 50_000]]
     for words in rows:

@@ -107,7 +107,7 @@ def like_ten(program, folder):
 
 
 def quiet(program, folder):
-    """`--quiet` writes no verdict and nothing that explains it: the exit status tells it, of several files too."""
+    """`--quiet` writes no verdict and nothing that explains it: the exit status gives it, of several files too."""
     placed(folder, a=KERNEL.read_bytes(), b=BROKEN.read_bytes(), c=b"123", d=LOOP.read_bytes())
     rows = []
     for command in JUDGES:
@@ -120,7 +120,7 @@ def quiet(program, folder):
 
 
 def quiet_of_errors(program, folder):
-    """With `--quiet` errors are told all the same, by the line and by the status, and the other files are judged."""
+    """With `--quiet` errors are still reported, by the line and by the status, and the other files are judged."""
     placed(folder, a=KERNEL.read_bytes(), b=BROKEN.read_bytes())
     refused = folder / "refused.json"
     refused.write_bytes(b"[1")

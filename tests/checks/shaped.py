@@ -1,4 +1,4 @@
-"""The table of shapes of docs/PROFILE.md for `--opencl`, as the table of rows of spv_layout tells it.
+"""The table of shapes of docs/PROFILE.md for `--opencl`, as the table of rows of spv_layout has it.
 
 A line of the table in src/rows.rt of spv_layout that ends with the word `opencl` belongs to that option alone. The
 page has such a line as the others: the opcodes, with b where they stand in the body of a block, their names, and the
@@ -69,7 +69,7 @@ def page(now):
 
 
 def wrong_page(_program, _folder):
-    """None if the page holds the table that the rows tell, else that it does not."""
+    """None if the page holds the table that the rows say, else that it does not."""
     now = text(PAGE)
     return None if now == page(now) else f"  the table of shapes of docs/PROFILE.md is not that of spv_layout; {REMEDY}"
 

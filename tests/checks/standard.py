@@ -149,7 +149,7 @@ class Khronos:
 
 
 def tables_agree(_program, _folder):
-    """None where the tables of versions and extensions are what Khronos' grammar file tells."""
+    """None where the tables of versions and extensions are what Khronos' grammar file says."""
     khronos, wrong = Khronos(), []
     for key, row in versions.ROWS.items():
         told = khronos.row(key) if khronos.entries.get(key) else None
@@ -194,7 +194,7 @@ def out_of_order(body):
 
 
 def blocks_ordered(_program, _folder):
-    """None where O1 tells the block of random functions that the standard tells."""
+    """None where O1 gives the block of random functions that the standard gives."""
     chance, told = random.Random(7), 0
     for number in range(3_000):
         found = list(bodies(tangle(chance)))
@@ -212,7 +212,7 @@ LAST_LINES = ("OpReturn", "OpFunctionEnd")
 
 def kernel(before=(), types=(), body=()):
     """The lines of a kernel with lines in its sections, up to its last block. The last of these lines is the one that
-    is told, if any is."""
+    is reported, if any is."""
     lines = [*BEGIN, "OpMemoryModel Physical64 OpenCL", 'OpEntryPoint Kernel %4 "k"', *before, *TYPES, *types]
     end = len(before) + 5 if not types else len(lines)
     lines += ["%4 = OpFunction %2 None %3", "%7 = OpLabel", *body]

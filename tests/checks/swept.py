@@ -242,7 +242,7 @@ def told(program, folder, contents):
 
 
 def program_reads(program, folder):
-    """None where the program tells of each module what the second reading does."""
+    """None where the program says of each module what the second reading does."""
     found, wrong = list(modules()), []
     for at in range(0, len(found), BATCH):
         some = found[at : at + BATCH]

@@ -45,7 +45,7 @@ def run_with_refusals(crate, test, folder):
 
 
 def each_refused(crate, test, does_without, folder):
-    """Runs the test, and tells what is wrong, if anything."""
+    """Runs the test, and says what is wrong, if anything."""
     answer, (began, _, refused, stretches, without) = run_with_refusals(crate, test, folder)
     if not began:
         return "  the library did not take hold: is the program linked with the C library?"

@@ -33,7 +33,7 @@ def sentence_of():
 
 
 def is_shown(told, octets):
-    """Whether a line tells a text: 200 characters, control characters as `\\xNN`, and ` ..` for others."""
+    """Whether a line shows a text: 200 characters, control characters as `\\xNN`, and ` ..` for others."""
     text = octets.decode("utf-8")
     return told == visible(text[:MOST_SHOWN]) + (" .." if len(text) > MOST_SHOWN else "")
 

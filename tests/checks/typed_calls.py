@@ -125,7 +125,7 @@ def differing(found, said, wanted):
 
 
 def program_tells(program, folder):
-    """None where the program tells the verdict on each call, and the operand that fails."""
+    """None where the program gives the verdict on each call, and the operand that fails."""
     found = list(calls())
     if len(found) < FEWEST:
         return f"  {len(found)} calls"
@@ -133,7 +133,7 @@ def program_tells(program, folder):
 
 
 def program_reads(program, folder):
-    """None where the program tells of each changed call what the second reading does, and some of them hold."""
+    """None where the program says of each changed call what the second reading does, and some of them hold."""
     found = list(islice(changed(), CHANGED))
     wanted = list(map(read, found))
     held = sum(line == "valid" for line, _ in wanted)
@@ -143,7 +143,7 @@ def program_reads(program, folder):
 
 
 def reading_tells(_program, _folder):
-    """None where the second reading tells the same of each call."""
+    """None where the second reading says the same of each call."""
     found = list(calls())
     return differing(found, list(map(read, found)), map(due, found))
 

@@ -20,7 +20,7 @@ def assembled(program, folder, out, file, *words, **how):
 
 
 def state(path):
-    """What tells whether a file was written: its bytes, its length and the time of its last change."""
+    """What says whether a file was written: its bytes, its length and the time of its last change."""
     found = path.stat()
     return path.read_bytes(), found.st_size, found.st_mtime_ns, found.st_ino
 
@@ -71,7 +71,7 @@ def same_file_of_any_text(program, folder):
 
 
 def before_the_grammar(program, folder):
-    """OUT that is FILE: FILE stays under a bad grammar file too, which may be told first."""
+    """OUT that is FILE: FILE stays under a bad grammar file too, which may be reported first."""
     (folder / "a").write_bytes(TEXT.read_bytes())
     before = state(folder / "a")
     (folder / "refused.json").write_bytes(b"[1")

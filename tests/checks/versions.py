@@ -178,7 +178,7 @@ def shown_as_1_6(program, folder):
 
 
 def each_as_it_is(program, folder):
-    """With `--opencl` versions 1.0 to 1.6 are taken: a text tells the version of its module, and gives the same bytes
+    """With `--opencl` versions 1.0 to 1.6 are taken: a text gives the version of its module, and gives the same bytes
     again; other versions are W5 as ever."""
     path, text, made = folder / "module.spv", folder / "text", folder / "made.spv"
     for content in examples():

@@ -21,7 +21,7 @@ OPENCL_FILE = Path("/usr/include/spirv/unified1/extinst.opencl.std.100.grammar.j
 MODES, DECORATIONS = {16, 331}, {71, 72, 73, 74, 75, 332, 5632, 5633}
 SECTIONS = ({17}, {10}, {11}, {14}, {15}, MODES, {2, 3, 4, 5, 6, 7, 330}, DECORATIONS)
 DECLARED = len(SECTIONS)
-# How many octets a name takes in a page at most, and how many of its own are told: the first of these that fit.
+# How many octets a name takes in a page at most, and how many of its own are shown: the first of these that fit.
 MOST_OF_NAME, TOLD_OF_NAME = 40, (40, 20, 10, 6)
 # How floats of a width are packed, and those that their decimal value reads back as.
 FORMS = {16: ("<e", "<f"), 32: ("<f", "<f"), 64: ("<d", "<d")}

@@ -12,7 +12,7 @@ from .order import opcodes_in
 from .types import RULES, cast, selected
 
 LETTERS = "opqstuvwx"
-# The seat of a condition that is told at no operand.
+# The seat of a condition that is reported at no operand.
 NOWHERE = "-"
 
 
@@ -223,7 +223,7 @@ HOLDS = {
     "Reached": lambda row, at, s, w: s == w,
 }
 
-# The words of each condition that is told, and its name here.
+# The words of each condition that is reported, and its name here.
 WORDS = {
     "its type is an int": "Int",
     "its type is an int of width 32": "Int32",

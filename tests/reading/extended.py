@@ -14,7 +14,7 @@ from .decode import Broken
 SETS = Path(__file__).resolve().parent / "sets.json"
 IMPORT, EXTENDED = 11, 12
 OPENCL = "OpenCL.std"
-# The name by which llvm-spirv imports a set if it is not told which form debug information is to have.
+# The name by which llvm-spirv imports a set unless it is told which form debug information is to have.
 OTHER_NAMES = {"SPIRV.debug": "OpenCL.DebugInfo.100"}
 MORE = "?*"
 # The kinds that are ids; any other one is a literal, though decoding reads an id there too.
@@ -106,7 +106,7 @@ class ToldOfCalls:
     """Whether the lines of Y9 are true: what judge.py asks of the fault that it judges."""
 
     def call(self):
-        """The name of the set, the number and the operands of the extended instruction that is told."""
+        """The name of the set, the number and the operands of the extended instruction that is reported."""
         return called(imported(self.facts.insts), self.inst)
 
     def is_number(self, text):

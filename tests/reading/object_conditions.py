@@ -1,6 +1,6 @@
 """The conditions of the rows that `--opencl` adds to the tables of types, constants and operations: their words, when
 each holds, and which there are of each opcode. As in conditions.py, which reads these tables beside its own; `-` is the
-seat of conditions that are told at no operand."""
+seat of conditions that are reported at no operand."""
 
 from . import objects
 from .forms import (

@@ -9,7 +9,7 @@ NAME, ENTRY_POINT, FUNCTION = 5, 15, 54
 ABOVE = ", part of a type above"
 # The sorts of operands that are ids; those that an OpExtInst has after its number are, wherever they are looked at.
 IDS = ("Id", "Argument", "Mention")
-# The conditions at which the number of parts of the type that is found is told.
+# The conditions at which the number of parts of the type that is found is reported.
 SIZED = ("Chosen", "Within", "Count", "ComponentCount", "Filled")
 
 

@@ -1,4 +1,4 @@
-"""Kernels in a short form: ids have names, and what is not declared is declared, if its name tells what it is.
+"""Kernels in a short form: ids have names, and what is not declared is declared, if its name says what it is.
 
     void, bool, i32, f16, sampler, event, image    types
     v4.f32, a2.i32, p5.i32                         a vector, an array, a pointer of a storage class by its number
@@ -113,7 +113,7 @@ class Declarations:
         self.lines, self.known, self.needed = [], set(own), {}
 
     def add(self, name):
-        """Declares a name that is not known and tells what it is."""
+        """Declares a name that is not known and says what it is."""
         said = None if name in self.known else declared(name)
         if said is None:
             return

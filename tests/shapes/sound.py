@@ -782,7 +782,7 @@ SHAPES = {
     "masks": masks,
 }
 
-# Shapes whose names take many octets each where they are told.
+# Shapes whose names take many octets each where they are written.
 NAMED = {
     f"{shape}-{kind}": partial(put, text=text * 64)
     for shape, put in (("stores", named_stores), ("elements", named_constants))

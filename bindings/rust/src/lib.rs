@@ -14,8 +14,8 @@
 //! # }
 //! ```
 //!
-//! By `Version::OpenCl` all is taken that a kernel of OpenCL can be, as compilers make it; without it the profile of
-//! SPIR-V 1.6. By `extended` extended instructions are looked at too: loaders of strangers' modules ask for it.
+//! `Version::OpenCl` accepts all that compilers make of OpenCL C; without it only the profile of SPIR-V 1.6 is accepted.
+//! `extended` checks extended instructions too: set it for untrusted modules.
 //!
 //! What each answer means is said in docs/PROFILE.md of the library's repository, and what is proved in its README.md.
 //! This crate adds no logic: it hands slices to the library, and lets go of what the library made. No call prints, and
