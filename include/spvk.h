@@ -140,9 +140,9 @@ typedef enum spvk_text_code {
  *  the instructions of the profile there are more, as those of images, events, pipes and groups, and OpExtInst may stand
  *  outside blocks, as debug information does (docs/PROFILE.md, "OpenCL"); extended instructions are looked at as with
  *  SPVK_EXTENDED, which may be set beside it and then changes nothing; and SPVK_Y10 is broken where an instruction of
- *  `OpenCL.std` has a result type, an operand of a type or a number among its operands that it does not take. A module of
- *  any other version still breaks W5. The rules are those of 1.6; SPVK_F4 is asked of a module of version 1.6 alone. It
- *  does not go with SPVK_AS_1_6. */
+ *  `OpenCL.std` has a result type, an operand of a type or a number among its operands that it does not take. SPVK_O1 to
+ *  SPVK_O23 are what the standard asks of a kernel besides. A module of any other version still breaks W5. The rules are
+ *  those of 1.6, whatever the version is, but for SPVK_F4, SPVK_O4 and SPVK_O21. It does not go with SPVK_AS_1_6. */
 #define SPVK_OPENCL UINT32_C(4)
 
 /** Stands for no instruction and no word: in the verdict on a valid module, and in one of W2 to W8. */

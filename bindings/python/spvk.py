@@ -570,8 +570,9 @@ class Grammar:
     By `opencl` a module is taken for what a kernel of OpenCL can be, of version 1.0 to 1.6: beside the instructions of
     the profile there are more, as those of images, events, pipes and groups, OpExtInst may stand outside blocks, and
     extended instructions are looked at as by `extended`; and Y10 is broken where an instruction of `OpenCL.std` has a
-    result type, an operand of a type or a number among its operands that it does not take. The rules are those of 1.6;
-    F4 is asked of a module of version 1.6 alone. It does not go with `as_1_6`: ValueError.
+    result type, an operand of a type or a number among its operands that it does not take. O1 to O23 are what the
+    standard asks of a kernel besides. The rules are those of 1.6, whatever the version is, but for F4, O4 and O21. It
+    does not go with `as_1_6`: ValueError.
     """
 
     def __init__(self, text: Optional[bytes] = None) -> None:

@@ -32,7 +32,7 @@ PROMISES = (
         (("spv_run", "tracing.rt", "trace"),),
     ),
     (
-        "What is refused by the profile is refused with --extended, and what is valid with it is a kernel of OpenCL, if it keeps Y10",
+        "What is refused by the profile is refused with --extended, and what is valid with it is a kernel of OpenCL, if it keeps Y10 and O",
         "The laws `refused_too` and `wider_too` of spv_verdict.",
         (("spv_verdict", "laws.rt", "refused_too"), ("spv_verdict", "laws.rt", "wider_too")),
     ),
@@ -185,7 +185,7 @@ What is proved is no more than what the contracts of the calls say, and these ar
 
 `tests/believe` makes this page from the files, and `tests/run` fails where it differs. Definitions that a promise shares with one above it are not listed again. Each file is in `crates/`; the numbers in square brackets in its comments are sections of the Khronos SPIR-V Specification 1.6, and 'own' marks a choice of the profile, which [PROFILE.md](PROFILE.md) states in prose. Lines of definitions and of comments are counted apart.
 
-How to read. By rule: begin with the rule's definition in the table below, and go on to what it names, which its file has or its `use` lines bring in (`as` renames). Or in the order of the list: first what a contract names, then what that is made of; for the rules Y begin with Form, Types, Parts and Values of spv_type_forms. Names stand for what their file says or imports: `Form`, `Shape`, `Row`, `Entry`, `Sort`, `Keeps`, `Broken`, `rows`, `row_of`, `row_in`, `class_in`, `constant_of`, `value_in`, `values_of`, `is_number` and `place_of` are said in several crates, of each crate's own things.
+How to read. By rule: begin with the rule's definition in the table below, and go on to what it names, which its file has or its `use` lines bring in (`as` renames). Or in the order of the list: first what a contract names, then what that is made of; for the rules Y begin with Form, Types, Parts and Values of spv_type_forms. Names stand for what their file says or imports: `Form`, `Shape`, `Row`, `Entry`, `Sort`, `Keeps`, `Broken`, `Line`, `lines`, `rows`, `row_of`, `row_in`, `class_in`, `constant_of`, `value_in`, `values_of`, `is_number` and `place_of` are said in several crates, of each crate's own things.
 
 - A path with `declared` in it is a type of the code: `Rattle.C.specs.declared.M.T` is `T` of `C/src/M.rt`, a struct with its fields or an enum with its variants (`T.TheVariants`). `tag_of the_type x` is the place of x among the variants, from 0, in the order in which the code declares them (`the_type` comes by the same path with `contracts` for `declared`). Three orders count: {orders}.
 - `opcode.NAME`, or NAME alone, is an opcode of spv_module/src/opcode.rt, by its name in the standard without `Op`; the first two tables of the code are written in them too: {opcodes}.
@@ -225,6 +225,7 @@ The words of the language, and those of the toolchain's library that stand in th
 | `filter t xs`, `find t xs`, `position t xs`, `count_by t xs` | of the elements that pass the test: all; the first; the place of that one; how many |
 | `list_all t xs`, `list_any t xs` | tests: whether each element passes; whether one does |
 | `All P xs`, `AllByRecursion P xs`, `Any P xs`, `Contains xs x` | P holds of each element; the same; of one; x is one |
+| `starts_with e xs ys`, `bit_and a b` | a test: xs begins with ys, elements being the same by the test e; the bits that two numbers share |
 | `sum_by f xs`, `fold f a xs`, `range_with_len a n` | the sum of f over xs; f over xs from the first on, beginning with a; a, a + 1 and so on, n of them |
 | `IsStrictlyIncreasing xs` | each element is less than the next |
 | `codes "a"`, `decimal n`, `string_bytes s`, `bytes_eq a b` | the bytes of a text, of a number in decimal, of a string of the code; a test: whether bytes are the same |
@@ -237,16 +238,29 @@ The words of the language, and those of the toolchain's library that stand in th
 # What a valid module is.
 VALID = ("Rattle.spv_check.specs.Valid", "IsValid")
 
-BY_VALID = """What a valid module is, `IsValid` alone: {count}.
+BY_VALID = """What a valid module is, `IsValid` alone: {profile}. With `--extended` there are {extended} besides, and with `--opencl` {opencl} more: those stand in a list of their own, and whoever reads for the profile may pass it over.
 """
 
-TABLES_HEAD = """Three tables are not said again in definitions: `rows` of spv_layout/specs/Rows, `lines` of spv_ops/specs/Table and `lines` of spv_std_types/specs/Table name the tables of the code, which stand there a row a line, in words and letters that the macros above them turn into values. These rows are to be read too, as definitions are; they are not among the lines that are counted here. Nor are the lists of what extended instructions take, which `facts_of` of spv_extended/specs/Facts names: how their numbers are read stands above them, and `tests/extended` compares them with Khronos' files:"""
+# What is asked with an option alone: without it the definition before each says that it does not count.
+BY_EXTENDED = (
+    ("Rattle.spv_extended.specs.Opened", "opened"),
+    ("Rattle.spv_extended.specs.Miscalled", "IsMiscalled"),
+)
+BY_OPENCL = (
+    ("Rattle.spv_std_types.specs.Mistyped", "IsMistyped"),
+    ("Rattle.spv_standard.specs.Broken", "KernelBroken"),
+)
+
+BESIDES_HEAD = """What `--extended` and `--opencl` ask besides, {count}:
+"""
+
+TABLES_HEAD = """Some tables are not said again in definitions: `rows` of spv_layout/specs/Rows, and `lines` and the like of other files, name the tables of the code, which stand there a row a line, in words and letters that the macros above them turn into values. These rows are to be read too, as definitions are; they are not among the lines that are counted here. Nor are the lists of what extended instructions take, which `facts_of` of spv_extended/specs/Facts names: how their numbers are read stands above them, and `tests/extended` compares them with Khronos' files:"""
 
 CONSTANTS_HEAD = """## Constants of the code
 
 Besides opcodes and the tables that are named above, definitions name these constants of the code. They are to be read where they stand:"""
 
-BY_RULE = """`check` takes the words of an image, which begin with a good header, and answers `IsAnswer` of them: the checked module (`IsChecked`) or its fault (`IsFault`). It answers the former exactly where the bytes of those words are a valid module (`IsValid`): they begin with a good header (`IsModule`: the rules W), the words behind it spell a list of instructions (`IsListing`: I), and the list breaks no other rule (`IsSound`: P to G). With `--extended` the list is looked at with the operands of extended instructions (`looked_at`), and must not break Y9 either; as a kernel of OpenCL too, whose rows and places are more (`profile_of`), which must not break Y10 either (`asks_types`), and of which F4 is asked in version 1.6 alone (`fork_of`). Whoever reads for the profile may pass over what is said of OpenCL: where P1 is broken nowhere each instruction has a row of the profile, and where the layout is not either each OpExtInst stands in a block (proved, `own_profile` of spv_layout). So of the table of shapes the rows marked `opencl` never count for the profile, nor do the cases of their opcodes in the definitions of types, constants and operations. `check_stream` writes the line of the verdict on the bytes that it reads (`IsVerdict`). That words have one verdict, and bytes one line, is proved beside them (`one_answer`, `one_verdict` and `one_first` of spv_check). Which table a grammar file gives is said in a part of its own below, and in prose in PROFILE.md. [RULES.md](RULES.md) has a line for each code, with the code that answers it, its evidence and a case.
+BY_RULE = """`check` takes the words of an image, which begin with a good header, and answers `IsAnswer` of them: the checked module (`IsChecked`) or its fault (`IsFault`). It answers the former exactly where the bytes of those words are a valid module (`IsValid`): they begin with a good header (`IsModule`: the rules W), the words behind it spell a list of instructions (`IsListing`: I), and the list breaks no other rule (`IsSound`: P to G). With `--extended` the list is looked at with the operands of extended instructions (`looked_at`), and must not break Y9 either; as a kernel of OpenCL too, whose rows and places are more (`profile_of`), which must not break Y10 either (`asks_types`) nor a rule O (`KernelBroken`), and of which F4 is asked in version 1.6 alone (`fork_of`). Whoever reads for the profile may pass over what is said of OpenCL: where P1 is broken nowhere each instruction has a row of the profile, and where the layout is not either each OpExtInst stands in a block (proved, `own_profile` of spv_layout). So of the table of shapes the rows marked `opencl` never count for the profile, nor do the cases of their opcodes in the definitions of types, constants and operations. `check_stream` writes the line of the verdict on the bytes that it reads (`IsVerdict`). That words have one verdict, and bytes one line, is proved beside them (`one_answer`, `one_verdict` and `one_first` of spv_check). Which table a grammar file gives is said in a part of its own below, and in prose in PROFILE.md. [RULES.md](RULES.md) has a line for each code, with the code that answers it, its evidence and a case.
 
 The rules, and the definitions that say what is kept, or (broken) where a rule is broken:
 
@@ -259,6 +273,11 @@ REFUSAL, SHAPE = "spv_module/specs/Refusal.antt", "spv_layout/specs/Shape.antt"
 IDS, CAPABILITIES = "spv_ids/specs/Broken.antt", "spv_capabilities/specs/Keeps.antt"
 BRANCHES, TARGET = "spv_flow/specs/branches/Broken.antt", "spv_flow/specs/branches/Target.antt"
 READY = "spv_flow/specs/branches/Ready.antt"
+ORDER, ENTRY = "spv_block_order/specs/Early.antt", "spv_declarations/specs/Entry.antt"
+DECLARED, DECORATED = "spv_declarations/specs/Declarations.antt", "spv_declarations/specs/Decorated.antt"
+POINTERS, OBJECTS = "spv_kernel_operands/specs/Pointers.antt", "spv_kernel_operands/specs/Objects.antt"
+SCOPES, SEATS = "spv_kernel_operands/specs/Scopes.antt", "spv_kernel_operands/specs/Seats.antt"
+VERSIONS, LIMITS = "spv_versions/specs/Missing.antt", "spv_limits/specs/Past.antt"
 RULES = (
     ("W2 to W8", "the bytes and the header", [(HEADER, "IsModule"), (HEADER, "BytesKeep")], []),
     (
@@ -356,14 +375,49 @@ RULES = (
         [("spv_std_types/specs/Condition.antt", "Holds"), ("spv_std_types/specs/Table.antt", "conditions_of")],
         [("spv_std_types/specs/Mistyped.antt", "IsMistyped")],
     ),
+    ("O1", "a block before the one that dominates it", [], [(ORDER, "IsEarlyBlock")]),
+    ("O2", "a use before its definition", [], [(ORDER, "IsEarlyUse")]),
+    ("O3", "names of entry points", [], [(ENTRY, "IsRepeated")]),
+    ("O4", "interfaces of entry points", [], [("spv_interfaces/specs/Interface.antt", "IsMisfaced")]),
+    ("O5", "execution modes with ids", [], [(ENTRY, "TakesId")]),
+    ("O6", "members that a struct does not have", [], [(DECLARED, "IsOfNoMember")]),
+    ("O7", "where decorations stand", [("spv_declarations/specs/Table.antt", "StandsOn")], [(DECORATED, "IsMisplaced")]),
+    ("O8", "Restrict and Aliased", [], [(DECORATED, "IsSecond")]),
+    ("O9", "linkage of entry points", [], [(DECORATED, "IsLinkedEntry")]),
+    ("O10", "initializers of variables", [], [(DECORATED, "IsInitialized")]),
+    ("O11", "structs that are built in in part", [], [(DECORATED, "IsHalfBuiltIn")]),
+    ("O12", "forward pointers", [], [(DECLARED, "IsForwardElsewhere")]),
+    ("O13", "ints of 8 bits, and the Vulkan memory model", [], [(DECLARED, "IsIncapable")]),
+    (
+        "O14",
+        "scopes and memory semantics",
+        [(SEATS, "scopes_of"), (SEATS, "semantics_of")],
+        [(SCOPES, "IsMisscoped")],
+    ),
+    ("O15", "what atomics work on", [], [(POINTERS, "IsMisatomic")]),
+    ("O16", "writes to what is read alone", [], [(POINTERS, "IsMiswritten")]),
+    ("O17", "copies of nothing", [], [(POINTERS, "IsEmptyCopy")]),
+    ("O18", "loop controls and weights", [], [("spv_kernel_operands/specs/Control.antt", "IsMiscontrolled")]),
+    ("O19", "literals of switches", [], [("spv_kernel_operands/specs/Switch.antt", "IsMisswitched")]),
+    ("O20", "returns of void", [], [(OBJECTS, "IsVoidReturn")]),
+    ("O21", "what the version does not have", [], [(VERSIONS, "IsMissing"), (VERSIONS, "IsLate")]),
+    ("O22", "universal limits", [("spv_limits/specs/Table.antt", "most")], [(LIMITS, "Passes")]),
+    ("O23", "where a sampled image is made", [], [(OBJECTS, "IsMadeElsewhere")]),
 )
 
 
-# The tables of the code that definitions name: the crate, the file of its src/, what it is, and where its rows begin.
+# The tables of the code that definitions name: the crate, the file of its src/, what it is, where its rows stand, and
+# how one begins.
+WORDS, LINES = r"\$what! \{\n(.*?)\n {8}\}\n", r"pub static TABLE: [^\n]* = \[\n(.*?)\n\];"
+ROW = r"(?m)^ +(?:[A-Z]\w+.*?:|\d[^:/]*:)"
 TABLES = (
-    ("spv_layout", "rows.rt", "the table of shapes (P1, L1, L2, Y1)", r"\$what! \{\n(.*?\n {8}\}\n.*?)\n {8}\}\n"),
-    ("spv_ops", "table.rt", "the table of types (Y5)", r"\$what! \{\n(.*?)\n {8}\}\n"),
-    ("spv_std_types", "table.rt", "the table of OpenCL.std (Y10)", r"\$what! \{\n(.*?)\n {8}\}\n"),
+    ("spv_layout", "rows.rt", "shapes (P1, L1, L2, Y1)", r"\$what! \{\n(.*?\n {8}\}\n.*?)\n {8}\}\n", ROW),
+    ("spv_ops", "table.rt", "types (Y5)", WORDS, ROW),
+    ("spv_std_types", "table.rt", "OpenCL.std (Y10)", WORDS, ROW),
+    ("spv_declarations", "table.rt", "decorations, with `NEVER_ON_MEMBERS` below it (O7)", LINES, r"(?m)^    \("),
+    ("spv_kernel_operands", "seats.rt", "scopes and memory semantics (O14)", WORDS, ROW),
+    ("spv_versions", "table.rt", "versions (O21)", LINES, r"(?m)^    line!\("),
+    ("spv_limits", "table.rt", "limits (O22)", LINES, r"(?m)^    \("),
 )
 
 # The lists of the code that definitions name: the crate, the file of its src/, and what they are.
@@ -518,11 +572,13 @@ def clauses(crate, file, call, block=None):
 class Closure:
     """The definitions that were come to, in order: those that stand nearer to the contracts first."""
 
-    def __init__(self):
-        self.found, self.seen, self.types = [], set(), set()
+    def __init__(self, without=()):
+        self.found, self.seen, self.types, self.without = [], set(), set(), without
 
     def take(self, module, name, waiting):
         """Comes to a name of a module: a definition, a constructor of one, or a type of the code."""
+        if (module, name) in self.without:
+            return
         path = file_of(module)
         if path is None:
             above, _, last = module.rpartition(".")
@@ -544,6 +600,13 @@ class Closure:
         if name in models() and name not in self.types:
             self.types.add(name)
             waiting.append((*models()[name], AS_SEEN))
+
+    def go_on(self, without):
+        """Comes to what was passed over, but for these."""
+        more = [it for it in self.without if it not in without]
+        self.without = without
+        for module, name in more:
+            self.follow(name, Scope({name: (module, name)}, {}))
 
     def follow(self, text, scope):
         """Comes to all that a text names, and to what that names, breadth first."""
@@ -621,13 +684,12 @@ def orders():
 
 def tables():
     """A line for each table of the code that definitions name, with the number of its rows, and one for the lists."""
-    for crate, file, about, pattern in TABLES:
+    for crate, file, about, pattern, row in TABLES:
         path = CRATES / crate / "src" / file
         found = re.search(pattern, path.read_text(encoding="utf-8"), re.S)
         if not found:
             raise NotFound(f"{crate}/src/{file} has no table")
-        rows = re.findall(r"(?m)^ +(?:[A-Z]\w+.*?:|\d[^:/]*:)", found[1])
-        yield f"- `TABLE` of {crate}/src/{file}, {about}: {len(rows)} rows"
+        yield f"- `TABLE` of {crate}/src/{file}, the table of {about}: {len(re.findall(row, found[1]))} rows"
     crate, file, about = LISTS
     text = (CRATES / crate / "src" / file).read_text(encoding="utf-8")
     found = [f"`{name}` ({count})" for name, count in re.findall(r"pub static (\w+): \[u32; (\d+)\]", text)]
@@ -653,13 +715,23 @@ def constants(found):
             yield f"- {', '.join(f'`{it}`' for it in names)} of {file}: {CONSTANTS[file]}"
 
 
+def counted(found):
+    """How many definitions there are, and their lines with those of comments."""
+    lines, comments = lines_in(it for _, it in found)
+    return f"{sum(len(it.heads) for _, it in found)} definitions, {lines + comments} lines with comments"
+
+
 def of_valid():
-    """How much there is to read to know what a valid module is."""
+    """How much there is to read to know what a valid module is: for the profile, and what each option adds."""
     module, name = VALID
-    closure = Closure()
+    closure = Closure(BY_EXTENDED + BY_OPENCL)
     closure.follow(name, Scope({name: (module, name)}, {}))
-    lines, comments = lines_in(it for _, it in closure.found)
-    return f"{sum(len(it.heads) for _, it in closure.found)} definitions, {lines + comments} lines with comments"
+    counts = [counted(closure.found)]
+    for without in (BY_OPENCL, ()):
+        begun = len(closure.found)
+        closure.go_on(without)
+        counts.append(counted(closure.found[begun:]))
+    return dict(zip(("profile", "extended", "opencl"), counts))
 
 
 def rows(found):
@@ -673,9 +745,16 @@ def rows(found):
         yield f"| {path.relative_to(CRATES)} | {names} | {lines} | {comments} | {sections(definitions)} |"
 
 
+def listed(found):
+    """A table of definitions by their files."""
+    head = "| File | Definitions | Lines | Comments | Sections |\n|---|---|---:|---:|---|"
+    return head + "\n" + "\n".join(rows(found)) + "\n"
+
+
 def page():
     """The page as it is to be."""
-    closure, parts = Closure(), [HEADING.replace("{orders}", orders()).replace("{opcodes}", opcodes())]
+    closure = Closure(BY_EXTENDED + BY_OPENCL)
+    parts = [HEADING.replace("{orders}", orders()).replace("{opcodes}", opcodes())]
     for title, about, calls in PROMISES:
         begun = len(closure.found)
         for call in calls:
@@ -685,12 +764,16 @@ def page():
         count = sum(len(it.heads) for _, it in found)
         parts.append(f"## {title}\n\n{about} {count} definitions, {lines} lines, and {comments} of comments.\n")
         if begun == 0:
-            parts.append(BY_VALID.format(count=of_valid()))
+            closure.go_on(())
+            besides = closure.found[len(found) :]
+            parts.append(BY_VALID.format(**of_valid()))
             parts.append(TABLES_HEAD + "\n\n" + "\n".join(tables()) + "\n")
             parts.append(BY_RULE)
-            parts.append("\n".join(rules(found)) + "\n")
-        parts.append("| File | Definitions | Lines | Comments | Sections |\n|---|---|---:|---:|---|")
-        parts.append("\n".join(rows(found)) + "\n")
+            parts.append("\n".join(rules(closure.found)) + "\n")
+        parts.append(listed(found))
+        if begun == 0:
+            parts.append(BESIDES_HEAD.format(count=counted(besides)))
+            parts.append(listed(besides))
     parts.append(CONSTANTS_HEAD + "\n\n" + "\n".join(constants(closure.found)) + "\n")
     return "\n".join(parts)
 

@@ -1,6 +1,7 @@
 """The index of the rules, docs/RULES.md: a line for each, with where it is said, decided, shown and tried."""
 
 import re
+from functools import lru_cache
 
 from . import believed
 from .believed import CRATES, NotFound
@@ -30,6 +31,10 @@ ANSWERING = (
     "spv_type_rules",
     "spv_capabilities",
     "spv_flow",
+    "spv_block_order",
+    "spv_declarations",
+    "spv_kernel_operands",
+    "spv_standard",
     "spv_check",
 )
 EVIDENCE = ("spv_*evidence/specs/**/*.antt", "spv_explain/specs/Mistyped.antt")
@@ -41,6 +46,8 @@ READING = re.compile(r"^\s*(?://|ghost |ensures |requires |\|)|matches!|=>\s*\S*
 LATER = ("cuts", "extended")
 # What is refused at an operand, whatever the rule: one constructor speaks of all codes.
 ANY_OPERAND = ("spv_form_evidence/specs/words/Evidence.antt", "Shows", "refused")
+# That a rule O is broken, where nothing else shows it: one constructor speaks of all of them.
+ANY_STANDARD = ("spv_explain/specs/Evidence.antt", "IsEvidence", "of_standard")
 
 
 def codes_in(text):
@@ -111,23 +118,31 @@ def evidence(code):
             if name in believed.read(path)[0] and "/inner/" not in str(path):
                 found.append(named(path, name, code, every=True))
     found = [it for it in found if it]
-    if not found and code.startswith("I"):
-        file, name, constructor = ANY_OPERAND
+    general = {"I": ANY_OPERAND, "O": ANY_STANDARD}.get(code[0])
+    if not found and general:
+        file, name, constructor = general
         if constructor not in CONSTRUCTOR.findall("\n".join(believed.read(CRATES / file)[0][name].lines)):
             raise NotFound(f"{file} has no {constructor}")
         return f"`{name}` ({file.replace('/specs', '').removesuffix('.antt')}): `{constructor}`"
     return "; ".join(found)
 
 
-def cases(code):
-    """A case in which a check answers a code, and how many there are: the first, of modules that are cut and of checks
-    with --extended only where there is no other."""
+@lru_cache(maxsize=None)
+def checked():
+    """The cases of a check whose layers stand, each as the page names it, with the first line of its answer."""
     found, stands = [], layers_that_stand()
     for path in sorted((TESTS / "cases").glob("*.cases"), key=lambda it: (it.stem in LATER, it.stem)):
         for case in read_cases(path):
             out, is_there = case.all("out"), layers_of(case.one("layer")) <= stands
-            if is_there and case.one("run").startswith("check ") and out and re.match(rf"fault {code}\b", out[0]):
-                found.append(f"`{case.one('case')}` ({path.stem})")
+            if is_there and case.one("run").startswith("check ") and out:
+                found.append((f"`{case.one('case')}` ({path.stem})", out[0]))
+    return found
+
+
+def cases(code):
+    """A case in which a check answers a code, and how many there are: the first, of modules that are cut and of checks
+    with --extended only where there is no other."""
+    found = [text for text, line in checked() if re.match(rf"fault {code}\b", line)]
     return f"{found[0]}, {len(found)} in all" if found else ""
 
 

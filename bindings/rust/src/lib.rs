@@ -55,8 +55,9 @@ pub enum Version {
     As1_6,
     /// As the one that the module tells, from 1.0 to 1.6, of a kernel of OpenCL: beside the instructions of the profile
     /// there are more, as those of images, events, pipes and groups, and OpExtInst may stand outside blocks; extended
-    /// instructions are looked at whole, and those of `OpenCL.std` have the types that they take and return (Y10). The
-    /// rules are those of 1.6; F4 is asked of a module of version 1.6 alone. A module of another version breaks W5.
+    /// instructions are looked at whole, and those of `OpenCL.std` have the types that they take and return (Y10); O1 to
+    /// O23 are what the standard asks of a kernel besides. The rules are those of 1.6, whatever the version is, but for
+    /// F4, O4 and O21. A module of another version breaks W5.
     OpenCl,
 }
 
