@@ -15,8 +15,8 @@ ghost use Rattle.spv_fault_lines.specs.inner.Parts.{named_text};
 
 use crate::classes::push_coming_classes;
 use crate::parts::{
-    push_block, push_capabilities, push_extensions, push_inst, push_names, push_numbered, push_opcode,
-    push_opcodes, push_operand_of, push_results, push_spaced,
+    push_block, push_capabilities, push_extensions, push_inst, push_names, push_numbered,
+    push_opcode, push_opcodes, push_operand_of, push_results, push_spaced,
 };
 use itoa::Buffer;
 use spv_evidence::{EntryPart, Lister, Side};
