@@ -2,7 +2,7 @@ mod Objects
 mod Readings
 mod Shown
 mod Stages
-mod Standard
+mod Parted
 mod Sufficing
 mod Tellings
 mod Worked

@@ -38,7 +38,7 @@ use Rattle.spv_flow_evidence.proofs.lemmas.walks.Sufficing as walks_law
 use Rattle.spv_flow_evidence.proofs.lemmas.calls.Walked.{sufficient}
 use Rattle.spv_explain.specs.Evidence.{IsEvidence}
 use Rattle.spv_explain.specs.Mistyped as by_std_types
-use Rattle.spv_explain.proofs.Standard.{standard_broken}
+use Rattle.spv_explain.proofs.Parted.{standard_broken}
 
 -- the instruction at which a rule on capabilities or entry points is shown to be broken
 record IsThere (is : List PlainInst) (n : ℕ) : Type 0 where

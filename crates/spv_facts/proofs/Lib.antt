@@ -5,3 +5,4 @@ pub mod Parts
 pub mod Placed
 pub mod Steps
 pub mod Told
+mod Lent

@@ -36,10 +36,10 @@ pub fn first_version(line: u32) -> Option<u8>
 pub fn extensions(line: u32) -> &'static [&'static str]
     ensures { map (λ name. name.now) result.now ≡ versions.extensions_of line }
 {
-    match line_at(line) {
-        Some(line) => line.4,
-        None => &[],
-    }
+    let Some(line) = line_at(line) else {
+        return &[];
+    };
+    line.4
 }
 
 /// Adds a version by its minor number, as `1.4`.

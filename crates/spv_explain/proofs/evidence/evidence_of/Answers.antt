@@ -4,7 +4,7 @@ use Rattle.spv_module.specs.declared.fault.Stop.TheVariants as stop
 use Rattle.spv_check.specs.Fork.{fork_of}
 use Rattle.spv_explain.proofs.Shown.{extended_shown, id_shown, layout_shown, mistyping_shown, refused_broken, the_miscall}
 use Rattle.spv_explain.proofs.Shown.{standard_shown, the_mistyping}
-use Rattle.spv_explain.proofs.Standard.{unbroken_branches}
+use Rattle.spv_explain.proofs.Parted.{unbroken_branches}
 use Rattle.spv_explain.proofs.evidence.evidence_of.Goals as goal
 
 pub layout_evidence-requires : goal.layout_evidence-requires

@@ -1,5 +1,5 @@
 use Rattle.spv_check.specs.Fork.{fork_of}
-use Rattle.spv_explain.proofs.Standard.{not_asked}
+use Rattle.spv_explain.proofs.Parted.{not_asked}
 use Rattle.spv_explain.proofs.standard.standard_evidence.Goals as goal
 
 pub kernel_evidence-requires-clause-branches : goal.kernel_evidence-requires-clause-branches
