@@ -2,5 +2,5 @@ mod Bridging
 mod Telling
 mod Using
 mod Joining
-mod Coding
+pub mod Coding
 mod Worked

@@ -12,6 +12,7 @@ use crate::fork::fork_of;
 use crate::std_types::std_types_check;
 use crate::types::type_check;
 use spv_extended::{Reach, profile_of};
+use spv_ids::laws::sound_uses;
 use spv_ids::{Ids, number};
 use spv_layout::laws::member_or_dead;
 use spv_layout::{Plan, lay_out};
@@ -88,6 +89,7 @@ pub fn judge<'a>(
     ensures { IfOk result (λ j. IsJudged table.now reach «module».entry.header.bound (plain_insts «module».entry) j) }
 {
     member_or_dead();
+    sound_uses();
     let plan = match lay_out(alloc, profile_of(reach), table, &module) {
         Ok(plan) => plan,
         Err(stop) => return refused(stop, module, Reached::Decoded),

@@ -10,21 +10,18 @@ use Rattle.spv_module.specs.Operand.{Plain, PlainInst, Id}
 use Rattle.spv_layout.specs.declared.class.Class.TheVariants.{Declaration}
 use Rattle.spv_layout.specs.declared.form.Form.{Form}
 use Rattle.spv_layout.specs.declared.form.Form.TheVariants as form
+use Rattle.spv_layout.specs.declared.form.Role.{Role}
 use Rattle.spv_layout.specs.declared.form.Role.TheVariants as role
 use Rattle.spv_layout.specs.declared.place.Place.{Place}
-use Rattle.spv_layout.specs.First.{IsUnbroken}
 use Rattle.spv_layout.specs.Layout.{classes}
 use Rattle.spv_layout.specs.Place.{IsOfSection, section_of}
 use Rattle.spv_layout.specs.Plan.{IsPlan}
 use Rattle.spv_layout.specs.Row.{PlainRow, repeated}
 use Rattle.spv_layout.specs.Rows.{row_of, class_of, rows}
 use Rattle.spv_layout.specs.Shape.{AreOf, Ends, FitsShape, HasForms, IsUse}
-use Rattle.spv_layout.specs.Stage.{of_ids}
-use Rattle.spv_ids.specs.Broken as ids
-use Rattle.spv_ids.specs.Definition.{IsDefinedAt}
+use Rattle.spv_ids.specs.Definition.{IsDefinedAt, IsUsedAt}
 use Rattle.spv_ids.specs.Order.{Announces, HasOpcode, IsInOrder}
-use Rattle.spv_ids.proofs.Defining.{same_inst}
-use Rattle.spv_ids.proofs.Sound.{sound_use}
+use Rattle.spv_ids.specs.Sound.{IsSoundUse}
 use Rattle.spv_type_forms.specs.Form.{form_in}
 use Rattle.spv_type_forms.specs.Types.{class_in}
 use Rattle.spv_declarations.proofs.Early.{class_at, never_behind}
@@ -151,14 +148,14 @@ ordered is n x m i j forwards at o there u only (IsInOrder.announced s h) =
 ordered is n x m i j forwards at o there u only (IsInOrder.member k s h l a) =
     absurd (not_pointer is x m j there u only (forwards k x a))
 
-pub are_lower : (G : Table) (bound : ℕ) (is : List PlainInst) (places : List Place) → IsPlan G is places
-    → IsUnbroken (ids.Broken G bound is) of_ids → AreForwards is → AreLower is
-are_lower G bound is places plan unbroken forwards n t m members struct member =
+pub are_lower : (G : Table) (is : List PlainInst) (places : List Place) → IsPlan G is places
+    → ((n k x : ℕ) (r : Role) → IsUsedAt G is n k x r → IsSoundUse is n x) → AreForwards is → AreLower is
+are_lower G is places plan sounds forwards n t m members struct member =
     let i = struct.inst in
     let named : slice_get i.operands (suc member.place) ≡ Some (Id member.id) =
     ap (λ (os : List Plain). slice_get os (suc member.place)) struct.operands ∙ member.named in
     let used = member_use G i member.place member.id struct.opcode (plan.fits n i struct.there) named in
-    let sound = sound_use G bound is places n (suc member.place) member.id role.OfType plan unbroken
+    let sound = sounds n (suc member.place) member.id role.OfType
     (record { inst = i; there = struct.there; used = used }) in
     let section = of_section G is places n i plan struct.there struct.opcode in
     ordered is n member.id m i member.struct.inst forwards struct.there struct.opcode member.struct.there

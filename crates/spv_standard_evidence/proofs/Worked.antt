@@ -1,6 +1,6 @@
 -- Worked examples.
 use Rattle.std.proofs.Common.{◌≡◌, ◌≢◌, ◌<◌, ◌≤◌, ◌∙◌, ℕ, zero, suc, List, [], ◌∷◌, Option, Some, None, Contains, length}
-use Rattle.std.proofs.Common.{refl, sym, ap, subst, inl, inr, arith}
+use Rattle.std.proofs.Common.{refl, sym, ap, subst, inl, inr, arith, rules}
 use Rattle.std.specs.Prelude.{slice_get}
 use Rattle.std.proofs.lemmas.Option.{none-some, same_Some}
 use Rattle.spv_table.specs.Table.{Table}
@@ -66,7 +66,7 @@ late_opcode G = late.IsEvidence.late 0 (inst 400 []) _ refl
     (late.Shows.number lister.Entry kind.Opcode 400 4 late.HasNumberBy.of_opcode record {
       line = _;
       there = refl;
-      of = (refl, (omega arith, omega arith));
+      of = (refl, omega arith, omega arith);
       before = omega arith;
       undeclared = λ name h. absurd (let l = h.1 in omega (arith, l));
     })

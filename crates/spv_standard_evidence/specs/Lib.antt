@@ -4,5 +4,4 @@ pub mod Order
 pub mod Versions
 pub mod Limits
 pub mod Evidence
-pub mod Example
 pub mod inner

@@ -75,7 +75,9 @@ standard_check-requires-clause-structs c =
     let G = c.args.table.now in
     let plan = c.in-Ok.ensures.plan in
     let ids = c.in-Ok-number.ensures.ids G plan in
-    are_lower G c.args.module.header.bound (plain_insts c.args.module) _ plan ids.unbroken
+    are_lower G (plain_insts c.args.module) _ plan
+    (λ n k x r u. c.sound_uses.ensures G c.args.module.header.bound (plain_insts c.args.module) _ n k x r plan
+    ids.unbroken u)
     (are_forwards G (plain_insts c.args.module) c.in-Ok-type_check.ensures.types.rules)
 
 pub new-requires : goal.new-requires
