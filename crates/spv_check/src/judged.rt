@@ -98,7 +98,7 @@ pub fn judge<'a>(
         Ok(ids) => ids,
         Err(stop) => return refused(stop, module, Reached::Placed(plan)),
     };
-    let types = match type_check(alloc, table, &module, &plan, &ids) {
+    let types = match type_check(alloc, &*table, &module, &plan, &ids) {
         Ok(types) => types,
         Err(stop) => return refused(stop, module, Reached::Numbered(plan, ids)),
     };
