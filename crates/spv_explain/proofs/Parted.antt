@@ -1,5 +1,5 @@
 -- A broken rule O is of its part, what is found of that part shows it, and what shows it suffices.
-use Rattle.std.proofs.Common.{◌≡◌, ◌<◌, ◌≤◌, ℕ, List, refl, sym, subst, inl, inr, arith}
+use Rattle.std.proofs.Common.{◌≡◌, ℕ, List, refl, sym, subst, inl, inr, arith}
 use Rattle.std.specs.Prelude.{IfOk, Ok, Err}
 use Rattle.std.specs.Prelude.{Result as Answer}
 use Rattle.spv_table.specs.Table.{Table}
