@@ -1,5 +1,5 @@
 -- Parts of what lines tell. (For the code alone.)
-use Rattle.std.specs.Prelude.{ℕ, List, [], ◌∷◌, flat_map, slice_get}
+use Rattle.std.specs.Prelude.{ℕ, List, [], ◌∷◌, ◌++◌, flat_map, slice_get}
 use Rattle.std.specs.Prelude.{codes, decimal}
 use Rattle.std.specs.Borrow.{Bor}
 use Rattle.spv_table.specs.Table.{Table}
