@@ -11,6 +11,16 @@ returns-then-is_of_values c = λ G reach plan ids first.
     (sym c.is_of_values.ensures ∙ c.if-is_of_values.true) first in
     walk_shown G reach _ _ c.args.fault _ (c.in_ok-walk_evidence.ensures (fork_of reach) G plan ids v.0)
 
+pub branch_evidence-requires-clause-first : goal.branch_evidence-requires-clause-first
+branch_evidence-requires-clause-first c =
+    let k = c.requires.known in (
+      k.0,
+      k.1,
+      k.2,
+      branches_of k.0 k.1 (plain_insts c.args.module.now) c.args.fault.rule c.args.fault.inst
+          (sym c.is_of_values.ensures ∙ c.if-is_of_values.false) (sym c.is_of_calls.ensures ∙ c.if-is_of_calls.false) k.4,
+    )
+
 pub returns-then-is_of_calls : goal.returns-then-is_of_calls
 returns-then-is_of_calls c = λ G reach plan ids first.
     call_shown G reach _ _ c.args.fault _ (the_call c.args.fault.rule

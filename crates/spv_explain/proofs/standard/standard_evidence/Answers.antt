@@ -12,5 +12,5 @@ pub unreachable-requires : goal.unreachable-requires
 unreachable-requires c =
     not_asked c.args.reach (λ minor e. c.in_default.not-OpenCl minor e) _ _ _ _ c.requires.broken
 
-pub returns-in-OpenCl : goal.returns-in-OpenCl
-returns-in-OpenCl c = rw c.in-OpenCl.is c.kernel_evidence.ensures
+pub returns : goal.returns
+returns c = rw c.in-OpenCl.is c.kernel_evidence.ensures
