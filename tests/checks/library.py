@@ -33,7 +33,9 @@ SANITIZED = ("-g", "-fsanitize=address,undefined", "-fno-sanitize-recover=all")
 WRAPPED = ("-Wl,--wrap=malloc,--wrap=realloc,--wrap=free",)
 MEMORY = ("valgrind", "-q", "--error-exitcode=9", "--leak-check=full", "--show-leak-kinds=all")
 # The letters of the codes that a verdict may have; `spv rules` has those of errors too.
-VERDICTS = "WIPLDYCMEFAG"
+# The letters of codes, each at the place of its hundred, and those of verdicts among them.
+LETTERS = "WIPLDYCMEFAGSO"
+VERDICTS = LETTERS.replace("S", "")
 CHECKS = 100_000
 SECONDS = 300
 INSTALLED = """
@@ -462,8 +464,7 @@ def codes_of_header(program, folder):
     """The header has each code of a verdict that `spv rules` lists, by its number, and no other."""
     said = run(program, ["rules"], folder).out.decode()
     codes = re.findall(rf"^([{VERDICTS}]\d+): ", said, re.MULTILINE)
-    letters = list(dict.fromkeys(code[0] for code in codes))
-    numbers = {f"SPVK_{code}": 100 * letters.index(code[0]) + int(code[1:]) for code in codes}
+    numbers = {f"SPVK_{code}": 100 * LETTERS.index(code[0]) + int(code[1:]) for code in codes}
     listed = re.search(r"enum spvk_code \{(.*?)\}", HEADER.read_text(encoding="utf-8"), re.DOTALL)[1]
     found = {name: int(number) for name, number in re.findall(r"\b(SPVK_\w+) = (\d+)", listed)}
     wrong = set(found.items()) ^ {("SPVK_VALID", 0), *numbers.items()}

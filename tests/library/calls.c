@@ -548,9 +548,9 @@ static int modules(const spvk_grammar *grammar, file module, file text) {
 
 // Names and sentences: of each code of a verdict, and of no other number.
 static int rules(void) {
-    const char letters[] = "WIPLDYCMEFAG";
+    const char letters[] = "WIPLDYCMEFAG?O";
     int count = 0;
-    for (uint32_t code = 0; code < 1300; code++) {
+    for (uint32_t code = 0; code < 1400; code++) {
         const char *name = spvk_rule_name(code), *sentence = spvk_rule_sentence(code);
         CHECK((name == NULL) == (sentence == NULL));
         if (name == NULL) continue;
@@ -560,7 +560,7 @@ static int rules(void) {
     }
     CHECK(count > 0);
     CHECK(spvk_rule_name(SPVK_VALID) == NULL && spvk_rule_name(SPVK_NOWHERE) == NULL);
-    CHECK(strcmp(spvk_rule_name(SPVK_I12), "I12") == 0 && strcmp(spvk_rule_name(SPVK_G1), "G1") == 0);
+    CHECK(strcmp(spvk_rule_name(SPVK_I12), "I12") == 0 && strcmp(spvk_rule_name(SPVK_O21), "O21") == 0);
     CHECK(strcmp(spvk_version(), SPVK_VERSION) == 0);
     return 0;
 }

@@ -290,8 +290,8 @@ class Calls(unittest.TestCase):
                 spvk.Grammar(wrong)
 
     def test_rules(self):
-        names = [name for name in map(spvk.rule_name, range(1300)) if name]
-        self.assertEqual((len(names), len(set(names))), (51, 51))
+        names = [name for name in map(spvk.rule_name, range(1400)) if name]
+        self.assertEqual((len(names), len(set(names))), (74, 74))
         self.assertEqual((spvk.rule_name(107), spvk.rule_name(-1), spvk.rule_name(1 << 40)), ("I7", None, None))
         self.assertEqual(spvk.version(), spvk.__version__)
 

@@ -222,8 +222,8 @@ fn where_grammars_are_refused() {
 
 #[test]
 fn rules() {
-    let codes: Vec<Code> = (0..1300).filter_map(Code::new).collect();
-    assert_eq!(codes.len(), 51);
+    let codes: Vec<Code> = (0..1400).filter_map(Code::new).collect();
+    assert_eq!(codes.len(), 74);
     assert_eq!(Code::new(107).unwrap().to_string(), "I7");
     assert_eq!(Code::new(0), None);
     assert_eq!(spvk::version(), env!("CARGO_PKG_VERSION"));
