@@ -22,6 +22,8 @@ from .usage import BROKEN, GRAMMAR, KERNEL, under
 
 LAYERS = frozenset(ALL_LAYERS)
 TOOLS = frozenset({"dot"})
+# How many octets of a text in angle brackets `dot` reads.
+LONGEST_READ = 16384
 SVG = "{http://www.w3.org/2000/svg}"
 LINK = "{http://www.w3.org/1999/xlink}href"
 SECONDS = 300
@@ -292,9 +294,14 @@ def modules_drawn(program, folder):
     return all_drawn(found, folder)
 
 
+def is_too_long(text):
+    """Whether a line of a picture's text is longer than what `dot` reads at once: that of a name of 65,535 octets."""
+    return any(len(line) > LONGEST_READ for line in text.splitlines())
+
+
 def cases_drawn(program, folder):
     """The modules of all other cases, each under its own grammar file: the answer of `show` where it has no text, and
-    else a text that `dot` draws."""
+    else a text that `dot` draws, if no line of it is too long for that."""
     found = []
     for case, words in cases_with_words(folder):
         shown, got = asked(program, folder, "show", *words), asked(program, folder, "graph", *words)
@@ -302,7 +309,7 @@ def cases_drawn(program, folder):
         wrong = difference(shown, got) if shown.status != 0 else wrong
         if wrong:
             return f"  {case.one('case')}\n{wrong}"
-        found += [got.out] if shown.status == 0 else []
+        found += [got.out] if shown.status == 0 and not is_too_long(got.out) else []
     try:
         drawn(found, folder)
     except ValueError as error:

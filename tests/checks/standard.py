@@ -60,8 +60,9 @@ REFUSED = """
 
 
 def cases():
-    """The cases of the layer."""
-    return [case for case in every_case() if LAYER in layers_of(case.one("layer"))]
+    """The cases of the layer that ask for a verdict."""
+    of_layer = (case for case in every_case() if LAYER in layers_of(case.one("layer")))
+    return [case for case in of_layer if case.one("run").startswith("check ")]
 
 
 def content_of(case):
