@@ -379,3 +379,10 @@ pub early_of : (G : Table) (is : List PlainInst) (places : List Place) (count : 
     → AreEarly is count
 early_of G is places count plan next = are_early G is places count plan
     (λ l. next is plan.place (subst (λ (m : ℕ). count < m) (sym plan.count) l))
+
+-- all of the instructions
+pub early_all : (is : List PlainInst) (count : ℕ) → count ≡ length is → AreEarly is count
+early_all is count e = record {
+  each = λ n i at t. let w = slice_get_within is n i at in omega (arith, w, e);
+  globals = λ n s. let w = (global_before is n 11 s refl).0 in omega (arith, w, e);
+}

@@ -19,11 +19,11 @@ least_none is d s e = record {
   least = λ x t. absurd (none_in s x e t);
 }
 
-tested : (b : Bool) → (IsTrue b) ⊎ (b ≡ false)
+pub tested : (b : Bool) → (IsTrue b) ⊎ (b ≡ false)
 tested true = inl refl
 tested false = inr refl
 
-least_here : (is : List PlainInst) (d n x : ℕ) (i : PlainInst) (old : BTreeSet ℕ) → slice_get is n ≡ Some i
+pub least_here : (is : List PlainInst) (d n x : ℕ) (i : PlainInst) (old : BTreeSet ℕ) → slice_get is n ≡ Some i
     → AreLeast is d n old → HasAt is (Gives d) x i → (IsIn old x) ⊎ (contains nat_cmp old x ≡ false)
     → (m : ℕ) × (m < n + 1) × IsLeastBy is x d m
 least_here is d n x i old at a h (inl t) = let l = a.least x t in (l.0, omega (arith, l.1), l.2)
@@ -55,7 +55,7 @@ least_more is d n i old new at add a = record {
 }
 
 -- one of the two is n, where both are not below it
-one_here : (r a n : ℕ) → r < n + 1 → a < n + 1 → (r < n → a < n → ⊥) → (n ≡ r) ⊎ (n ≡ a)
+pub one_here : (r a n : ℕ) → r < n + 1 → a < n + 1 → (r < n → a < n → ⊥) → (n ≡ r) ⊎ (n ≡ a)
 one_here r a n l k never = elim (cases_lt r n) [
   | inl p ↦ elim (cases_lt a n) [
     | inl q ↦ absurd (never p q)

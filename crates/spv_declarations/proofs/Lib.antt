@@ -17,3 +17,8 @@ pub mod Names
 pub mod Needing
 pub mod Worked
 pub mod Lines
+pub mod Showing
+pub mod Seconds
+pub mod Outside
+pub mod Mixed
+pub mod Badly

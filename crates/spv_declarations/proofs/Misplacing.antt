@@ -62,7 +62,7 @@ never_small : all_below 6000 never_on_members ≡ true
 unfolding never_on_members
 never_small = refl
 
-known_small : (d : ℕ) → IsKnown d → d < 4294967295
+pub known_small : (d : ℕ) → IsKnown d → d < 4294967295
 known_small d (inl h) = let l = listed_small 6000 d lines lines_small h in omega (arith, l)
 known_small d (inr h) = let l = among_small 6000 d never_on_members never_small h in omega (arith, l)
 

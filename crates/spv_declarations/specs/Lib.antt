@@ -4,5 +4,6 @@ pub mod Decorated
 pub mod Declarations
 pub mod Entry
 pub mod Broken
+pub mod Shown
 pub mod Example
 pub mod inner

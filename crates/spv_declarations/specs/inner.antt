@@ -8,4 +8,5 @@ pub mod Named
 pub mod Said
 pub mod Second
 pub mod Sets
+pub mod Shown
 pub mod Table

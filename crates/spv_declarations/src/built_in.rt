@@ -25,14 +25,15 @@ const BUILT_IN: u32 = 11;
 
 /// The members of structs that have BuiltIn, and the structs that have such a member.
 #[derive(Drop)]
-struct BuiltIns {
-    members: BTreeSet<(u32, usize)>,
-    structs: BTreeSet<u32>,
+pub struct BuiltIns {
+    pub members: BTreeSet<(u32, usize)>,
+    pub structs: BTreeSet<u32>,
 }
 
 /// How many members the struct has that an id declares; none where it declares none.
 pub fn member_count(definitions: &Definitions, t: u32) -> usize
-    ensures { (k : ℕ) → (k < result) ↔ IsMember definitions.now t k }
+    ensures members { (k : ℕ) → (k < result) ↔ IsMember definitions.now t k }
+    ensures few { result < 4294967296 }
 {
     match definitions.definition(t) {
         Some(inst) => {
@@ -57,7 +58,7 @@ fn struct_in(operands: &[Operand<'_>]) -> Option<u32>
 }
 
 /// The struct that an instruction declares.
-fn struct_of(inst: &Inst<'_>) -> Option<u32>
+pub fn struct_of(inst: &Inst<'_>) -> Option<u32>
     ensures { result ≡ inner.struct_by (plain_inst inst.now) }
 {
     if inst.opcode == opcode::TYPE_STRUCT {
@@ -170,7 +171,7 @@ impl BuiltIns {
     }
 
     /// Whether a struct has a member with BuiltIn and another without.
-    fn is_in_part(&self, definitions: &Definitions, t: u32) -> bool
+    pub fn is_in_part(&self, definitions: &Definitions, t: u32) -> bool
         ensures { IsTrue result ↔ (IsIn self.now.structs t
             × ((k : ℕ) × IsMember definitions.now t k × (¬ (HasBoth self.now.members t k)))) }
     {
@@ -191,7 +192,7 @@ impl BuiltIns {
 }
 
 /// The members to which instructions give BuiltIn.
-fn built_ins(
+pub fn built_ins(
     alloc: Global,
     definitions: &Definitions,
     said: &Said,

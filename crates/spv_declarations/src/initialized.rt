@@ -23,7 +23,7 @@ use std::alloc::{AllocError, Global};
 use std::collections::BTreeSet;
 
 /// The number of the storage class Input.
-const INPUT: u32 = 1;
+pub const INPUT: u32 = 1;
 
 /// The id and the storage class that the operands of an OpVariable with an initializer have.
 fn initialized_in(operands: &[Operand<'_>]) -> Option<(u32, u32)>
@@ -42,7 +42,7 @@ fn initialized_in(operands: &[Operand<'_>]) -> Option<(u32, u32)>
 }
 
 /// The id and the storage class of an OpVariable with an initializer.
-fn initialized_by(inst: &Inst<'_>) -> Option<(u32, u32)>
+pub fn initialized_by(inst: &Inst<'_>) -> Option<(u32, u32)>
     ensures { result ≡ spec.initialized_by (plain_inst inst.now) }
 {
     if inst.opcode == opcode::VARIABLE {

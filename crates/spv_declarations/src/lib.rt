@@ -18,6 +18,7 @@ mod pointer;
 mod said;
 mod second;
 mod sets;
+mod shown;
 mod stands;
 mod table;
 
@@ -25,4 +26,5 @@ pub use decorated::{given, group_of, has_id_behind, member_given};
 pub use entry::named;
 pub use found::Found;
 pub use misdeclared::first_misdeclared;
+pub use shown::{Mixture, Target, bad_target, half_built_in, linking_entry, other_inst, outside_inst};
 pub use stands::{is_never_on_members, stands_on};

@@ -29,7 +29,7 @@ fn second_id(operands: &[Operand<'_>]) -> Option<u32>
 }
 
 /// The function that an OpEntryPoint names.
-fn entered_by(inst: &Inst<'_>) -> Option<u32>
+pub fn entered_by(inst: &Inst<'_>) -> Option<u32>
     ensures { result ≡ spec.entered_by (plain_inst inst.now) }
 {
     if inst.opcode == opcode::ENTRY_POINT {

@@ -18,9 +18,9 @@ use std::alloc::{AllocError, Global};
 use std::collections::BTreeSet;
 
 /// The numbers of the decorations Restrict and Aliased.
-const RESTRICT: u32 = 19;
+pub const RESTRICT: u32 = 19;
 
-const ALIASED: u32 = 20;
+pub const ALIASED: u32 = 20;
 
 /// Adds the targets of a group that has a decoration.
 fn add_targets(
@@ -42,7 +42,7 @@ fn add_targets(
 }
 
 /// Adds the ids that have a decoration by an instruction of the module.
-fn add_with(
+pub fn add_with(
     set: &mut BTreeSet<u32>,
     definitions: &Definitions,
     said: &Said,

@@ -1,40 +1,32 @@
 -- Decorations that may not stand where they do, and what shows it.
-use Rattle.std.proofs.Common.{◌≡◌, ◌≢◌, ◌<◌, ◌≤◌, ◌+◌, ◌∙◌, ◌↔◌, ◌++◌, ◌⊎◌, ◌||◌, IsTrue, not, if◌then◌else◌, nat_eq, ℕ, zero, suc, List, [], ◌∷◌}
-use Rattle.std.proofs.Common.{Bool, true, false, Option, Some, None, Contains, length, refl, sym, ap, subst, inl, inr, arith}
-use Rattle.std.specs.Prelude.{MatchOption, slice_get}
-use Rattle.std.proofs.lemmas.Bool.{cases_lt, eqb-true, false≢true}
-use Rattle.std.proofs.lemmas.List.Elements.{Contains-append_cases, Contains-append_left, Contains-append_right}
+use Rattle.std.proofs.Common.{◌≡◌, ◌<◌, ◌≤◌, ◌∙◌, ◌⊎◌, ◌||◌, if◌then◌else◌, nat_eq, ℕ, List}
+use Rattle.std.proofs.Common.{Bool, true, false, Some, None, length, refl, sym, subst, inl, inr, arith}
+use Rattle.std.specs.Prelude.{slice_get}
+use Rattle.std.proofs.lemmas.Bool.{eqb-true}
 use Rattle.std.proofs.lemmas.Option.{none-some, same_Some, slice_get_within}
 use Rattle.spv_table.specs.Table.{Table}
 use Rattle.spv_module.specs.declared.opcode.TheConstants as opcode
-use Rattle.spv_module.specs.Operand.{Plain, Id, PlainInst}
+use Rattle.spv_module.specs.Operand.{PlainInst}
 use Rattle.spv_module.specs.declared.fault.Rule.TheVariants.{O7}
 use Rattle.spv_conditions.specs.Further.{IsGroup}
 use Rattle.spv_evidence.specs.declared.evidence.Evidence.{Evidence}
 use Rattle.spv_evidence.specs.declared.evidence.Evidence.TheVariants.{ByGroup, Earlier, Operand}
 use Rattle.spv_declarations.specs.Decorated.{Has, HasOnMember, IsMisplaced}
-use Rattle.spv_declarations.specs.Given.{Gives, HasId, HasIdBehind, NamesMember, NamesTarget, behind_first, first_in}
+use Rattle.spv_declarations.specs.Given.{Gives, HasIdBehind, NamesMember, NamesTarget, first_in}
 use Rattle.spv_declarations.specs.Given.{given_by, group_by, member_given_by}
+use Rattle.spv_declarations.specs.Shown.{IsBadTarget, IsGivenBadly}
 use Rattle.spv_declarations.specs.Table.{IsNeverOnMembers, StandsOn}
 use Rattle.spv_standard_evidence.specs.Declarations.{HasIdAt, IsEvidence, Misplaces}
 use Rattle.spv_standard_evidence.specs.inner.Declarations.{IsIdAt}
-use Rattle.spv_standard_evidence.specs.inner.Placements.{AreAllFine, AreFine, IsBadTarget, IsGivenBadly, IsGivenNever}
-use Rattle.spv_standard_evidence.specs.inner.Placements.{IsGivenNeverAt, IsLookedAt}
-use Rattle.spv_standard_evidence.proofs.Declared.{place_of}
+use Rattle.spv_standard_evidence.specs.inner.Placements.{IsGivenNever, IsGivenNeverAt}
 
 -- the ways in which an instruction breaks O7
 pub data Way (is : List PlainInst) (i : PlainInst) : Type 0 where
   with_id : i.opcode ≡ opcode.DECORATE → HasIdBehind i.operands → Way is i
   on_id : (x d : ℕ) → Gives d i x → ¬ (IsGroup is x) → ¬ (StandsOn is d x) → Way is i
-  on_target : (g : ℕ) → group_by opcode.GROUP_DECORATE i ≡ Some g → IsGivenBadly is i.operands g → Way is i
+  on_target : (g : ℕ) → group_by opcode.GROUP_DECORATE i ≡ Some g → IsGivenBadly is i g → Way is i
   on_member : (t k d : ℕ) → member_given_by i ≡ Some (t, k, d) → IsNeverOnMembers d → Way is i
   on_pair : (g t k : ℕ) → NamesMember i g t k → IsGivenNever is g → Way is i
-
--- a target stands behind the first operand
-target_place : (os : List Plain) (x : ℕ) → HasId (behind_first os) x
-    → (k : ℕ) × (0 < k) × (slice_get os k ≡ Some (Id x))
-target_place [] x h = absurd h
-target_place (o ∷ os) x h = let r = place_of os x h in (suc r.0, omega arith, r.1)
 
 id_way : (is : List PlainInst) (n : ℕ) (i : PlainInst) (x d : ℕ) → slice_get is n ≡ Some i → Has is (Gives d) x n
     → ¬ (StandsOn is d x) → Way is i
@@ -42,15 +34,15 @@ id_way is n i x d there (Has.own j t says not) stands =
     on_id x d (subst (λ (q : PlainInst). Gives d q x) (same_Some j i (sym t ∙ there)) says) not stands
 id_way is n i x d there (Has.by_group j p g m t names u says) stands =
     let mine : NamesTarget i g x = subst (λ (q : PlainInst). NamesTarget q g x) (same_Some j i (sym t ∙ there)) names in
-    let at = target_place i.operands x mine.1 in
     on_target g mine.0 record {
+      target = x;
+      names = mine.1;
       place = m;
       inst = p;
       there = u;
       decoration = d;
       gives = says;
-      operand = at.0;
-      bad = (at.1, (x, at.2, stands));
+      bad = stands;
     }
 
 member_way : (is : List PlainInst) (n : ℕ) (i : PlainInst) (t k d : ℕ) → slice_get is n ≡ Some i
@@ -150,18 +142,18 @@ member_shown is i p not none e (on_member t k d f h) = Misplaces.on_member t k d
 member_shown is i p not none e (on_pair g t k f h) = absurd (pair_no_member i g p f.0 e)
 
 pub target_bad : (is : List PlainInst) (i : PlainInst) (g : ℕ) → ¬ (IsWithId i) → given_by i ≡ None
-    → member_given_by i ≡ None → group_by opcode.GROUP_DECORATE i ≡ Some g → Way is i → IsGivenBadly is i.operands g
+    → member_given_by i ≡ None → group_by opcode.GROUP_DECORATE i ≡ Some g → Way is i → IsGivenBadly is i g
 target_bad is i g not none other e (with_id o h) = absurd (not (o, h))
 target_bad is i g not none other e (on_id x d f n s) = absurd (none-some (x, d) (sym none ∙ f))
 target_bad is i g not none other e (on_target h f bad) =
-    subst (λ (q : ℕ). IsGivenBadly is i.operands q) (same_Some h g (sym f ∙ e)) bad
+    subst (λ (q : ℕ). IsGivenBadly is i q) (same_Some h g (sym f ∙ e)) bad
 target_bad is i g not none other e (on_member t k d f h) = absurd (none-some (t, k, d) (sym other ∙ f))
 target_bad is i g not none other e (on_pair h t k f n) = absurd (pair_no_group i h g f.0 e)
 
-pub target_shown : (is : List PlainInst) (i j : PlainInst) (g d k m : ℕ) → group_by opcode.GROUP_DECORATE i ≡ Some g
-    → slice_get is m ≡ Some j → Gives d j g → IsBadTarget is i.operands d k → Misplaces is i (ByGroup k m)
-target_shown is i j g d k m e there gives bad =
-    Misplaces.on_target g bad.1.0 d k m j e bad.0 bad.1.1 there gives bad.1.2
+pub target_shown : (is : List PlainInst) (i : PlainInst) (g k m : ℕ) → group_by opcode.GROUP_DECORATE i ≡ Some g
+    → IsBadTarget is i g k m → Misplaces is i (ByGroup k m)
+target_shown is i g k m e t =
+    Misplaces.on_target g t.target t.decoration k m t.inst e t.behind t.names t.there t.gives t.bad
 
 pub record IsPair (is : List PlainInst) (i : PlainInst) (g : ℕ) : Type 0 where
   pub type : ℕ
@@ -200,101 +192,6 @@ misplaced_within is n (IsMisplaced.on_id x d (Has.by_group j p g m t f u s) b) =
 misplaced_within is n (IsMisplaced.on_member t k d (HasOnMember.own j u e) b) = slice_get_within is n j u
 misplaced_within is n (IsMisplaced.on_member t k d (HasOnMember.by_group j p g m u f v s) b) =
     slice_get_within is n j u
-
--- what was looked at of the instructions before one: one more
-pub record AreSeen (is : List PlainInst) (os : List Plain) (g n : ℕ) (seen : List ℕ) : Type 0 where
-  pub fine : AreAllFine is os seen
-  pub each : (m : ℕ) (j : PlainInst) (d : ℕ) → m < n → slice_get is m ≡ Some j → Gives d j g → Contains seen d
-
-pub seen_first : (is : List PlainInst) (os : List Plain) (g : ℕ) → AreSeen is os g 0 []
-seen_first is os g = record {
-  fine = λ d (k, lt, e). absurd (omega (arith, lt));
-  each = λ m j d lt e f. absurd (omega (arith, lt));
-}
-
-pub seen_none : (is : List PlainInst) (os : List Plain) (g n : ℕ) (i : PlainInst) (seen : List ℕ)
-    → slice_get is n ≡ Some i → ((d : ℕ) → ¬ (Gives d i g)) → AreSeen is os g n seen → AreSeen is os g (n + 1) seen
-seen_none is os g n i seen there none h = record {
-  fine = h.fine;
-  each = λ m j d lt e f. elim (cases_lt m n) [
-    | inl less ↦ h.each m j d less e f
-    | inr more ↦
-        let same : m ≡ n = omega (arith, lt, more) in
-        let at : slice_get is n ≡ Some j = subst (λ (q : ℕ). slice_get is q ≡ Some j) same e in
-        absurd (none d (subst (λ (q : PlainInst). Gives d q g) (same_Some j i (sym at ∙ there)) f))
-  ];
-}
-
-pub seen_more : (is : List PlainInst) (os : List Plain) (g n b : ℕ) (i : PlainInst) (old new : List ℕ)
-    → slice_get is n ≡ Some i → Gives b i g → AreAllFine is os new → Contains new b
-    → ((e : ℕ) → Contains old e → Contains new e) → AreSeen is os g n old → AreSeen is os g (n + 1) new
-seen_more is os g n b i old new there gives fine has keeps h = record {
-  fine = fine;
-  each = λ m j d lt e f. elim (cases_lt m n) [
-    | inl less ↦ keeps d (h.each m j d less e f)
-    | inr more ↦
-        let same : m ≡ n = omega (arith, lt, more) in
-        let at : slice_get is n ≡ Some j = subst (λ (q : ℕ). slice_get is q ≡ Some j) same e in
-        let mine : Gives d i g = subst (λ (q : PlainInst). Gives d q g) (same_Some j i (sym at ∙ there)) f in
-        let one : Some (g, b) ≡ Some (g, d) = sym gives ∙ mine in
-        let dec : b ≡ d = ap (λ (p : ℕ × ℕ). p.1) (same_Some (g, b) (g, d) one) in
-        subst (λ (q : ℕ). Contains new q) dec has
-  ];
-}
-
-pub not_all_fine : (is : List PlainInst) (os : List Plain) (g n : ℕ) (seen : List ℕ) → length is ≤ n
-    → AreSeen is os g n seen → IsGivenBadly is os g → ⊥
-not_all_fine is os g n seen all h bad =
-    let w = slice_get_within is bad.place bad.inst bad.there in
-    h.fine bad.decoration (h.each bad.place bad.inst bad.decoration (omega (arith, w, all)) bad.there bad.gives)
-    bad.operand bad.bad
-
--- what is among one is that
-one_of : (d e : ℕ) → Contains (d ∷ []) e → d ≡ e
-one_of d e (zero, lt, same) = same
-one_of d e (suc k, lt, same) = absurd (omega (arith, lt))
-
--- operands on which the decoration may stand
-pub fine_by : (is : List PlainInst) (os : List Plain) (d n : ℕ) → length os ≤ n
-    → ((j : ℕ) → j < n → ¬ (IsBadTarget is os d j)) → AreFine is os d
-fine_by is os d n all none = λ k bad.
-    let w = slice_get_within os k (Id bad.1.0) bad.1.1 in
-    none k (omega (arith, w, all)) bad
-
--- a decoration that was looked at before; one that was not
-pub looked_before : (is : List PlainInst) (os : List Plain) (d : ℕ) (seen : List ℕ) → AreAllFine is os seen
-    → Contains seen d → IsLookedAt is os d seen seen None
-looked_before is os d seen fine has = (fine, has, λ e h. h)
-
-all_fine : (is : List PlainInst) (os : List Plain) (d : ℕ) (old : List ℕ) → AreAllFine is os old → AreFine is os d
-    → AreAllFine is os (old ++ d ∷ [])
-all_fine is os d old fine more = λ e h. elim (Contains-append_cases old (d ∷ []) e h) [
-  | inl a ↦ fine e a
-  | inr b ↦ subst (λ (x : ℕ). AreFine is os x) (one_of d e b) more
-]
-
-pub looked_now : (is : List PlainInst) (os : List Plain) (d : ℕ) (old new : List ℕ) (o : Option ℕ)
-    → new ≡ old ++ d ∷ [] → AreAllFine is os old → MatchOption o (AreFine is os d) (IsBadTarget is os d)
-    → IsLookedAt is os d old new o
-looked_now is os d old new (Some k) same fine bad = bad
-looked_now is os d old new None same fine more = subst (λ (xs : List ℕ). IsLookedAt is os d old xs None) (sym same) (
-  all_fine is os d old fine more,
-  Contains-append_right old (d ∷ []) d (0, omega arith, refl),
-  λ e h. Contains-append_left old (d ∷ []) e h,
-)
-
--- an id on which a decoration may stand, or not
-pub bad_at : (is : List PlainInst) (os : List Plain) (d k x : ℕ) (r : Bool) → slice_get os k ≡ Some (Id x)
-    → IsTrue r ↔ StandsOn is d x
-    → IsTrue (not r) ↔ ((y : ℕ) × (slice_get os k ≡ Some (Id y)) × ¬ (StandsOn is d y))
-bad_at is os d k x true e s = (
-  λ t. absurd (false≢true t),
-  λ h.
-      let one : Some (Id x) ≡ Some (Id h.0) = sym e ∙ h.1 in
-      let same : x ≡ h.0 = cc in
-      absurd (h.2 (subst (λ (y : ℕ). StandsOn is d y) same (s.0 refl))),
-)
-bad_at is os d k x false e s = (λ t. (x, e, λ stands. absurd (false≢true (s.1 stands))), λ h. refl)
 
 pub never_found : (is : List PlainInst) (g n d : ℕ) (i : PlainInst) → slice_get is n ≡ Some i → Gives d i g
     → IsNeverOnMembers d → IsGivenNeverAt is g n

@@ -11,11 +11,12 @@ use Rattle.spv_type_forms.specs.Form.{form_in}
 use Rattle.spv_conditions.specs.Further.{IsGroup, IsMember}
 use Rattle.spv_capabilities.specs.Capable.{Has as IsImplied}
 use Rattle.spv_declarations.specs.Declarations.{HasBytes, IsForwardElsewhere, IsOfNoMember}
-use Rattle.spv_declarations.specs.Decorated.{Has, HasBuiltIn, HasBy, HasOnMember, Imports, IsBuiltIn, IsEntered}
-use Rattle.spv_declarations.specs.Decorated.{IsInitialized, IsLeastBy}
+use Rattle.spv_declarations.specs.Decorated.{Has, HasBy, Imports, IsEntered, IsInitialized}
 use Rattle.spv_declarations.specs.Entry.{IsRepeated}
 use Rattle.spv_declarations.specs.Given.{Gives, NamesMember, group_by, member_given_by}
+use Rattle.spv_declarations.specs.Shown.{IsHalfBy, IsOtherOf}
 use Rattle.spv_declarations.specs.Table.{IsNeverOnMembers, StandsOn}
+use Rattle.spv_declarations.specs.declared.shown.members.Mixture.TheVariants.{Members, Within}
 use Rattle.spv_evidence.specs.declared.evidence.Evidence.{Evidence}
 use Rattle.spv_evidence.specs.declared.evidence.Evidence.TheVariants.{ByGroup, Capability, Earlier, Operand, Pair}
 
@@ -42,11 +43,6 @@ pub data Misplaces (is : List PlainInst) (i : PlainInst) : Evidence → Type 0 w
   on_member_target : (g t k d m : ℕ) (j : PlainInst) → NamesMember i g t k → slice_get is m ≡ Some j → Gives d j g
       → IsNeverOnMembers d → Misplaces is i (Earlier m)
 
--- Instruction i is %t = OpTypeStruct .. with these members. [3.49.6]
-pub record Declares (i : PlainInst) (t : ℕ) (members : List Plain) : Type 0 where
-  pub called : i.opcode ≡ opcode.TYPE_STRUCT
-  pub operands : i.operands ≡ Result t ∷ members
-
 -- It shows that the rule is broken at the instruction of that number.
 pub data IsEvidence (G : Table) (is : List PlainInst) : Rule → ℕ → Evidence → Type 0 where
   -- the entry point that has the model and the name
@@ -59,20 +55,16 @@ pub data IsEvidence (G : Table) (is : List PlainInst) : Rule → ℕ → Evidenc
   misplaced : (n : ℕ) (i : PlainInst) (e : Evidence) → slice_get is n ≡ Some i → Misplaces is i e
       → IsEvidence G is O7 n e
   -- the least instruction by which an id has the other of Restrict (19) and Aliased (20)
-  aliased : (n m x : ℕ) → IsLeastBy is x 19 m → IsLeastBy is x 20 n → m ≤ n → IsEvidence G is O8 n (Earlier m)
-  restricted : (n m x : ℕ) → IsLeastBy is x 20 m → IsLeastBy is x 19 n → m ≤ n → IsEvidence G is O8 n (Earlier m)
+  second : (n m : ℕ) → IsOtherOf is n m → IsEvidence G is O8 n (Earlier m)
   -- the entry point of the function
   linked_entry : (n x : ℕ) (e : IsEntered is x) → HasBy is x 41 n → IsEvidence G is O9 n (Earlier e.place)
   -- the storage class Input; what imports the variable
   input : (n : ℕ) (e : IsInitialized G is n) → e.class ≡ 1 → IsEvidence G is O10 n (Operand 2)
   imported : (n m : ℕ) (e : IsInitialized G is n) → Has is (Imports G) e.id m → IsEvidence G is O10 n (Earlier m)
-  -- a member that has BuiltIn, and one that has not
-  in_part : (n t j k : ℕ) (i : PlainInst) (ms : List Plain) → slice_get is n ≡ Some i → Declares i t ms
-      → IsBuiltIn is t j → IsMember is t k → ¬ (IsBuiltIn is t k)
-      → IsEvidence G is O11 n (Pair (j + 1) (k + 1))
+  -- a member that has BuiltIn (11), and one that has not
+  in_part : (n j k : ℕ) → IsHalfBy is n (Members j k) → IsEvidence G is O11 n (Pair j k)
   -- a member whose type is a struct with a member that has BuiltIn
-  within : (n t u k : ℕ) (i : PlainInst) (ms : List Plain) → slice_get is n ≡ Some i → Declares i t ms
-      → slice_get i.operands k ≡ Some (Id u) → HasBuiltIn is u → IsEvidence G is O11 n (Operand k)
+  within : (n k : ℕ) → IsHalfBy is n (Within k) → IsEvidence G is O11 n (Operand k)
   -- the pointer type
   elsewhere : (n : ℕ) → IsForwardElsewhere is n → IsEvidence G is O12 n (Operand 0)
   -- the width; the capability VulkanMemoryModel (5345)

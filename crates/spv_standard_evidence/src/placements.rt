@@ -1,23 +1,23 @@
 //! What shows that O7 is broken: a decoration that may not stand where it does.
 
-ghost use Rattle.std.specs.Prelude.{◌≡◌, ◌↔◌, ℕ, Contains, IfOk, IsTrue, MatchOption, Some, length, slice_get};
+ghost use Rattle.std.specs.Prelude.{◌≡◌, ◌↔◌, ℕ, IfOk, IsTrue, MatchOption, Some, length, slice_get};
 ghost use Rattle.spv_table.specs.Table.{Table};
 ghost use Rattle.spv_module.specs.declared.fault.Rule.TheVariants.{O7};
 ghost use Rattle.spv_module.specs.declared.opcode.TheConstants as opcodes;
 ghost use Rattle.spv_module.specs.Module.{plain_inst};
-ghost use Rattle.spv_module.specs.Operand.{Id};
 ghost use Rattle.spv_declarations.specs.Decorated.{IsMisplaced};
 ghost use Rattle.spv_declarations.specs.Given.{Gives, group_by};
-ghost use Rattle.spv_declarations.specs.Table.{IsNeverOnMembers, StandsOn};
+ghost use Rattle.spv_declarations.specs.Shown.{IsGivenBadly};
+ghost use Rattle.spv_declarations.specs.Table.{IsNeverOnMembers};
 ghost use Rattle.spv_standard_evidence.specs.Declarations.{IsEvidence, Misplaces};
 ghost use Rattle.spv_standard_evidence.specs.inner.Placements as inner;
 
 use crate::declarations::id_behind;
 use spv_declarations::{
-    given, group_of, has_id_behind, is_never_on_members, member_given, stands_on,
+    bad_target, given, group_of, has_id_behind, is_never_on_members, member_given,
 };
 use spv_evidence::Evidence;
-use spv_module::{Inst, Operand, opcode};
+use spv_module::{Inst, opcode};
 use spv_type_forms::Definitions;
 use std::alloc::{AllocError, Global};
 
@@ -32,61 +32,8 @@ fn given_to(inst: &Inst<'_>, group: u32) -> Option<u32>
     }
 }
 
-/// Whether the operand of a number is an id on which a decoration may not stand.
-fn is_bad_at(definitions: &Definitions, inst: &Inst<'_>, decoration: u32, k: usize) -> bool
-    ensures { IsTrue result ↔ ((x : ℕ) × (slice_get (plain_inst inst.now).operands k ≡ Some (Id x))
-        × ¬ (StandsOn definitions.now decoration x)) }
-{
-    match inst.operands.as_slice().get(k) {
-        Some(Operand::Id(x)) => !stands_on(definitions, decoration, *x),
-        _ => false,
-    }
-}
-
-/// The first operand behind the first that is such an id.
-fn bad_target(definitions: &Definitions, inst: &Inst<'_>, decoration: u32) -> Option<u32>
-    ensures { MatchOption result (inner.AreFine definitions.now (plain_inst inst.now).operands decoration)
-        (inner.IsBadTarget definitions.now (plain_inst inst.now).operands decoration) }
-{
-    for k in 1..inst.operands.as_slice().len() {
-        if is_bad_at(definitions, inst, decoration, k) {
-            return Some(k as u32);
-        }
-    }
-    None
-}
-
-/// Whether a number is one of some.
-fn is_among(numbers: &[u32], number: u32) -> bool
-    ensures { IsTrue result ↔ Contains numbers.now number }
-{
-    for one in numbers {
-        if *one == number {
-            return true;
-        }
-    }
-    false
-}
-
-/// The same of a decoration that was not looked at before. `seen` are those that were.
-fn new_target(
-    seen: &mut Vec<u32>,
-    definitions: &Definitions,
-    inst: &Inst<'_>,
-    decoration: u32,
-) -> Result<Option<u32>, AllocError>
-    requires { inner.AreAllFine definitions.now (plain_inst inst.now).operands seen.old.items }
-    ensures { IfOk result (λ o. inner.IsLookedAt definitions.now (plain_inst inst.now).operands decoration
-        seen.old.items seen.new.items o) }
-{
-    if is_among(seen.as_slice(), decoration) {
-        return Ok(None);
-    }
-    seen.push(decoration)?;
-    Ok(bad_target(definitions, inst, decoration))
-}
-
-/// The first instruction that gives a group a decoration which may not stand on a target, and that target.
+/// The first target of a group on which a decoration of the group may not stand, and the first instruction that gives
+/// the group that decoration.
 ///
 /// An `AllocError` comes only where a growth of memory was refused.
 fn target_evidence(
@@ -97,22 +44,16 @@ fn target_evidence(
     total: u32,
 ) -> Result<Evidence, AllocError>
     requires total { total ≡ length definitions.now }
+    requires inst { (n : ℕ) × (slice_get definitions.now n ≡ Some (plain_inst inst.now)) }
     requires group { group_by opcodes.GROUP_DECORATE (plain_inst inst.now) ≡ Some group }
-    requires broken { inner.IsGivenBadly definitions.now (plain_inst inst.now).operands group }
+    requires broken { IsGivenBadly definitions.now (plain_inst inst.now) group }
     ensures { IfOk result (Misplaces definitions.now (plain_inst inst.now)) }
 {
-    let mut seen = Vec::new(alloc);
-    for number in 0..total {
-        if let Some(decoration) = given_to(definitions.inst(number), group) {
-            if let Some(operand) = new_target(&mut seen, definitions, inst, decoration)? {
-                return Ok(Evidence::ByGroup {
-                    operand,
-                    inst: number,
-                });
-            }
-        }
-    }
-    unreachable!()
+    let target = bad_target(alloc, definitions, total, inst, group)?;
+    Ok(Evidence::ByGroup {
+        operand: target.operand,
+        inst: target.inst,
+    })
 }
 
 /// Whether an instruction gives a group a decoration that is never one of members.
@@ -142,8 +83,8 @@ fn never_place(definitions: &Definitions, group: u32, total: u32) -> u32
 /// O7: the id behind the decoration, the id or the member that is decorated, or what gives the decoration to a group.
 /// `total` is how many instructions there are.
 ///
-/// Time is linear in the words of the module, times as many as there are decorations. An `AllocError` comes only where a
-/// growth of memory was refused.
+/// Time is near-linear in the words of the module: a target is looked at with the decorations of its group of which the
+/// table speaks. An `AllocError` comes only where a growth of memory was refused.
 pub fn placement_evidence(
     alloc: Global,
     definitions: &Definitions,

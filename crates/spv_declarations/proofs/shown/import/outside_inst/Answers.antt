@@ -1,0 +1,24 @@
+use Rattle.std.proofs.Common.{◌∙◌, sym}
+use Rattle.spv_declarations.proofs.Early.{early_all}
+use Rattle.spv_declarations.proofs.Outside.{initialized_within, not_initialized, imported_some, by_import}
+use Rattle.spv_declarations.proofs.shown.import.outside_inst.Goals as goal
+
+pub inst-requires : goal.inst-requires
+inst-requires c = initialized_within c.args.table.now c.args.definitions.now c.args.inst c.requires.broken
+
+pub unreachable-requires : goal.unreachable-requires
+unreachable-requires c = not_initialized c.args.table.now c.args.definitions.now c.args.inst _ c.inst.ensures
+    c.requires.broken (sym c.initialized_by.ensures ∙ c.in_default.is)
+
+pub gather-requires-clause-early : goal.gather-requires-clause-early
+gather-requires-clause-early c = early_all c.args.definitions.now c.args.total c.requires.total
+
+pub first_import-requires-clause-imported : goal.first_import-requires-clause-imported
+first_import-requires-clause-imported c = imported_some c.args.table.now c.args.definitions.now c.kind_named.result
+    c.args.inst _ _ _ c.kind_named.ensures c.inst.ensures c.requires.broken
+    (sym c.initialized_by.ensures ∙ c.in-Some.is) c.if-class.false
+
+pub returns : goal.returns
+returns c = by_import c.args.table.now c.args.definitions.now c.kind_named.result c.args.inst c.first_import.result
+    _ _ _ c.kind_named.ensures c.inst.ensures c.requires.broken (sym c.initialized_by.ensures ∙ c.in-Some.is)
+    c.first_import.ensures
