@@ -3,6 +3,7 @@ pub mod Switched
 pub mod Operated
 pub mod Limited
 pub mod Declared
+pub mod Decorating
 pub mod Versioned
 pub mod Placed
 pub mod Ordered

@@ -1,8 +1,8 @@
 -- Decorations that may not stand where they do, and what shows it.
-use Rattle.std.proofs.Common.{◌≡◌, ◌<◌, ◌≤◌, ◌∙◌, ◌⊎◌, ◌||◌, if◌then◌else◌, nat_eq, ℕ, List}
+use Rattle.std.proofs.Common.{◌≡◌, ◌<◌, ◌≤◌, ◌+◌, ◌∙◌, ◌⊎◌, ◌||◌, if◌then◌else◌, nat_eq, ℕ, List}
 use Rattle.std.proofs.Common.{Bool, true, false, Some, None, length, refl, sym, subst, inl, inr, arith}
 use Rattle.std.specs.Prelude.{slice_get}
-use Rattle.std.proofs.lemmas.Bool.{eqb-true}
+use Rattle.std.proofs.lemmas.Bool.{cases_lt, eqb-true}
 use Rattle.std.proofs.lemmas.Option.{none-some, same_Some, slice_get_within}
 use Rattle.spv_table.specs.Table.{Table}
 use Rattle.spv_module.specs.declared.opcode.TheConstants as opcode
@@ -197,3 +197,23 @@ pub never_found : (is : List PlainInst) (g n d : ℕ) (i : PlainInst) → slice_
     → IsNeverOnMembers d → IsGivenNeverAt is g n
 never_found is g n d i there gives never =
     (record { place = n; inst = i; there = there; decoration = d; gives = gives; never = never }, refl)
+
+pub never_more : (is : List PlainInst) (g n : ℕ) (i : PlainInst) → slice_get is n ≡ Some i
+    → ¬ ((d : ℕ) × Gives d i g × IsNeverOnMembers d)
+    → ((m : ℕ) (j : PlainInst) → m < n → slice_get is m ≡ Some j → ¬ ((d : ℕ) × Gives d j g × IsNeverOnMembers d))
+    → (m : ℕ) (j : PlainInst) → m < n + 1 → slice_get is m ≡ Some j
+    → ¬ ((d : ℕ) × Gives d j g × IsNeverOnMembers d)
+never_more is g n i there none before m j lt at h = elim (cases_lt m n) [
+  | inl l ↦ before m j l at h
+  | inr ge ↦
+      let e : m ≡ n = omega (arith, lt, ge) in
+      let here : slice_get is n ≡ Some j = subst (λ (k : ℕ). slice_get is k ≡ Some j) e at in
+      none (subst (λ (q : PlainInst). (d : ℕ) × Gives d q g × IsNeverOnMembers d) (same_Some j i (sym here ∙ there)) h)
+]
+
+pub never_missed : (is : List PlainInst) (g total n : ℕ) → total ≡ length is → total ≤ n
+    → ((m : ℕ) (j : PlainInst) → m < n → slice_get is m ≡ Some j → ¬ ((d : ℕ) × Gives d j g × IsNeverOnMembers d))
+    → IsGivenNever is g → ⊥
+never_missed is g total n e all none h =
+    let w = slice_get_within is h.place h.inst h.there in
+    none h.place h.inst (omega (arith, w, e, all)) h.there (h.decoration, h.gives, h.never)

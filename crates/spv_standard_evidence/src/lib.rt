@@ -3,6 +3,7 @@
 #![tactic(auto)]
 
 mod declarations;
+mod decorations;
 pub mod laws;
 mod limits;
 mod operands;
@@ -11,6 +12,7 @@ mod placements;
 mod versions;
 
 pub use declarations::declaration_evidence;
+pub use decorations::decoration_evidence;
 pub use limits::limit_evidence;
 pub use operands::operand_evidence;
 pub use order::order_evidence;
