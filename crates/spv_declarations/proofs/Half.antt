@@ -15,7 +15,7 @@ use Rattle.spv_declarations.proofs.Saying.{gated, opened}
 use Rattle.spv_declarations.proofs.Misplacing.{any_id, id_any}
 
 -- what stands behind the result of a struct
-half_struct : (is : List PlainInst) (n : ℕ) (i : PlainInst) → slice_get is n ≡ Some i → IsHalfBuiltIn is n
+pub half_struct : (is : List PlainInst) (n : ℕ) (i : PlainInst) → slice_get is n ≡ Some i → IsHalfBuiltIn is n
     → (t : ℕ) × (ms : List Plain) × (i.opcode ≡ opcode.TYPE_STRUCT) × (i.operands ≡ Result t ∷ ms)
     × (((k j : ℕ) × IsBuiltIn is t k × IsMember is t j × (¬ (IsBuiltIn is t j))) ⊎ ((u : ℕ) × HasId ms u × HasBuiltIn is u))
 half_struct is n i at (IsHalfBuiltIn.in_part h t k j ms there o p b m c) =

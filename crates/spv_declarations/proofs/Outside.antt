@@ -1,5 +1,5 @@
 -- O10: a variable with an initializer, and what imports it.
-use Rattle.std.proofs.Common.{◌≡◌, ◌∙◌, ◌⊎◌, ◌↔◌, ◌<◌, ℕ, Bool, true, false, refl, sym, subst, List, ◌∷◌, Option, Some, None, IsTrue, length, nat_eq, not}
+use Rattle.std.proofs.Common.{◌≡◌, ◌∙◌, ◌⊎◌, ◌↔◌, ◌<◌, inl, inr, ℕ, Bool, true, false, refl, sym, ap, subst, List, ◌∷◌, Option, Some, None, IsTrue, length, nat_eq, not}
 use Rattle.std.specs.Prelude.{slice_get, codes}
 use Rattle.std.proofs.lemmas.Bool.{eq-eqb, false≢true}
 use Rattle.std.proofs.lemmas.Option.{none-some, same_Some, slice_get_within}
@@ -40,10 +40,10 @@ pub not_initialized : (G : Table) (is : List PlainInst) (n : ℕ) (i : PlainInst
 not_initialized G is n i at e h = none-some (e.id, e.class) (sym h ∙ initialized_is G is n i at e)
 
 same_id : (x y c d : ℕ) → Some (x, c) ≡ Some (y, d) → x ≡ y
-same_id x y c d e = let p : (x, c) ≡ (y, d) = same_Some (x, c) (y, d) e in cc
+same_id x y c d e = ap (λ (p : ℕ × ℕ). p.0) (same_Some (x, c) (y, d) e)
 
 same_class : (x y c d : ℕ) → Some (x, c) ≡ Some (y, d) → c ≡ d
-same_class x y c d e = let p : (x, c) ≡ (y, d) = same_Some (x, c) (y, d) e in cc
+same_class x y c d e = ap (λ (p : ℕ × ℕ). p.1) (same_Some (x, c) (y, d) e)
 
 -- its class is Input
 pub by_class : (G : Table) (is : List PlainInst) (n x c : ℕ) (i : PlainInst) → slice_get is n ≡ Some i

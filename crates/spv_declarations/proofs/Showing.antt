@@ -188,12 +188,8 @@ pub both_tests : (is : List PlainInst) (Says : PlainInst → ℕ → Type 0) (i 
 both_tests is Says i x p q f t u e = u (t.0 e)
 
 pub first_test : (is : List PlainInst) (Says : PlainInst → ℕ → Type 0) (i : PlainInst) (x : ℕ) (p : Bool)
-    → (HasAt is Says x i → IsDecorated i x) → (IsTrue p ↔ IsDecorated i x) → p ≡ false
-    → IsTrue false ↔ HasAt is Says x i
-first_test is Says i x p f t e = (
-  λ h. let no : false ≡ true = h in absurd (cc),
-  λ h. let no : false ≡ true = sym e ∙ t.1 (f h) in absurd (cc),
-)
+    → (HasAt is Says x i → IsDecorated i x) → (IsTrue p ↔ IsDecorated i x) → p ≡ false → IsTrue p ↔ HasAt is Says x i
+first_test is Says i x p f t e = (λ h. let no : false ≡ true = sym e ∙ h in absurd (cc), λ h. t.1 (f h))
 
 -- O9: what has linkage by an instruction
 pub linked_at : (is : List PlainInst) (n : ℕ) (i : PlainInst) → slice_get is n ≡ Some i → IsLinkedEntry is n

@@ -38,7 +38,18 @@ fn misplaced_on(definitions: &Definitions, decorations: &[u32], x: u32) -> Optio
     None
 }
 
-/// The first of some decorations that may not stand on the operand of a number, if that is a target.
+/// The id that the operand of a number is.
+fn id_at(inst: &Inst<'_>, k: usize) -> Option<u32>
+    ensures { MatchOption result ((x : ℕ) → ¬ (slice_get (plain_inst inst.now).operands k ≡ Some (Id x)))
+        (λ x. slice_get (plain_inst inst.now).operands k ≡ Some (Id x)) }
+{
+    match inst.operands.as_slice().get(k) {
+        Some(Operand::Id(x)) => Some(*x),
+        _ => None,
+    }
+}
+
+/// The first of some decorations that may not stand on the operand of a number, if that is an id.
 fn misplaced_at(
     definitions: &Definitions,
     decorations: &[u32],
@@ -49,9 +60,9 @@ fn misplaced_at(
         ((d : ℕ) → ¬ (IsBadAt definitions.now (plain_inst inst.now).operands decorations.now d k))
         (λ d. IsBadAt definitions.now (plain_inst inst.now).operands decorations.now d k) }
 {
-    match inst.operands.as_slice().get(k) {
-        Some(Operand::Id(x)) => misplaced_on(definitions, decorations, *x),
-        _ => None,
+    match id_at(inst, k) {
+        Some(x) => misplaced_on(definitions, decorations, x),
+        None => None,
     }
 }
 

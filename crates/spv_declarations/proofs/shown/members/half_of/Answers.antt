@@ -10,18 +10,18 @@ unreachable-requires c = half_is_struct c.args.definitions.now c.requires.broken
 
 pub built_in_member-requires-clause-there : goal.built_in_member-requires-clause-there
 built_in_member-requires-clause-there c = one_built_in c.args.definitions.now c.args.found.now c.in-Some.t
-    c.member_count.result c.requires.found c.member_count.ensures.members
+    c.member_count-count.result c.requires.found c.member_count-count.ensures.members
     (c.is_in_part.ensures.0 c.if-is_in_part.true)
 
 pub other_member-requires-clause-there : goal.other_member-requires-clause-there
 other_member-requires-clause-there c = one_other c.args.definitions.now c.args.found.now c.in-Some.t
-    c.member_count.result c.member_count.ensures.members (c.is_in_part.ensures.0 c.if-is_in_part.true)
+    c.member_count-count.result c.member_count-count.ensures.members (c.is_in_part.ensures.0 c.if-is_in_part.true)
 
 pub returns-then-is_in_part : goal.returns-then-is_in_part
 returns-then-is_in_part c = λ n at.
-    part_shown c.args.definitions.now c.args.found.now n c.in-Some.t c.member_count.result c.built_in_member.result
+    part_shown c.args.definitions.now c.args.found.now n c.in-Some.t c.member_count-count.result c.built_in_member.result
     c.other_member.result (plain_inst c.args.inst.now) c.requires.found at (sym c.struct_of.ensures ∙ c.in-Some.is)
-    c.member_count.ensures.members c.built_in_member.ensures c.other_member.ensures
+    c.member_count-count.ensures.members c.built_in_member.ensures c.other_member.ensures
 
 pub struct_place-requires : goal.struct_place-requires
 struct_place-requires c = some_struct c.args.definitions.now c.args.found.now c.requires.broken.0 c.in-Some.t

@@ -1,4 +1,3 @@
-use Rattle.spv_declarations.proofs.Seconds.{both_first}
 use Rattle.spv_declarations.proofs.shown.other.Both.before.Goals as goal
 
 pub loop-number-preserved : goal.loop-number-preserved
