@@ -31,25 +31,25 @@ initialized_is G is n i at e =
     let v : nat_eq i.opcode opcode.VARIABLE ≡ true =
     eq-eqb i.opcode opcode.VARIABLE (subst (λ (j : PlainInst). j.opcode ≡ opcode.VARIABLE) q e.opcode) in
     let o : i.operands ≡ OfType e.type ∷ Result e.id ∷ Value e.kind e.class ∷ Id e.initializer ∷ e.rest =
-    subst (λ (j : PlainInst). j.operands ≡ OfType e.type ∷ Result e.id ∷ Value e.kind e.class ∷ Id e.initializer ∷ e.rest) q
-    e.operands in
+    subst (λ (j : PlainInst).
+        j.operands ≡ OfType e.type ∷ Result e.id ∷ Value e.kind e.class ∷ Id e.initializer ∷ e.rest) q e.operands in
     rw (v, o) refl
 
 pub not_initialized : (G : Table) (is : List PlainInst) (n : ℕ) (i : PlainInst) → slice_get is n ≡ Some i
     → IsInitialized G is n → initialized_by i ≡ None → ⊥
 not_initialized G is n i at e h = none-some (e.id, e.class) (sym h ∙ initialized_is G is n i at e)
 
-same_id : (x y c d : ℕ) → Some (x, c) ≡ Some (y, d) → x ≡ y
-same_id x y c d e = ap (λ (p : ℕ × ℕ). p.0) (same_Some (x, c) (y, d) e)
+same_id : (p q : ℕ × ℕ) → Some p ≡ Some q → p.0 ≡ q.0
+same_id p q e = ap (λ (z : ℕ × ℕ). z.0) (same_Some p q e)
 
-same_class : (x y c d : ℕ) → Some (x, c) ≡ Some (y, d) → c ≡ d
-same_class x y c d e = ap (λ (p : ℕ × ℕ). p.1) (same_Some (x, c) (y, d) e)
+same_class : (p q : ℕ × ℕ) → Some p ≡ Some q → p.1 ≡ q.1
+same_class p q e = ap (λ (z : ℕ × ℕ). z.1) (same_Some p q e)
 
 -- its class is Input
 pub by_class : (G : Table) (is : List PlainInst) (n x c : ℕ) (i : PlainInst) → slice_get is n ≡ Some i
     → IsInitialized G is n → initialized_by i ≡ Some (x, c) → c ≡ 1 → (e : IsInitialized G is n) × (e.class ≡ 1)
 by_class G is n x c i at e h one =
-    (e, same_class e.id x e.class c (sym (initialized_is G is n i at e) ∙ h) ∙ one)
+    (e, same_class (e.id, e.class) (x, c) (sym (initialized_is G is n i at e) ∙ h) ∙ one)
 
 -- or it is imported
 pub imported_some : (G : Table) (is : List PlainInst) (l : Option ℕ) (n x c : ℕ) (i : PlainInst)
@@ -58,8 +58,9 @@ pub imported_some : (G : Table) (is : List PlainInst) (l : Option ℕ) (n x c : 
 imported_some G is l n x c i k at e h other =
     let q = sym (initialized_is G is n i at e) ∙ h in
     elim e.outside [
-      | inl one ↦ absurd (other (sym (same_class e.id x e.class c q) ∙ one))
-      | inr m ↦ has_some is (ImportsBy l) x m.0 (subst (λ (y : ℕ). Has is (ImportsBy l) y m.0) (same_id e.id x e.class c q)
+      | inl one ↦ absurd (other (sym (same_class (e.id, e.class) (x, c) q) ∙ one))
+      | inr m ↦ has_some is (ImportsBy l) x m.0
+          (subst (λ (y : ℕ). Has is (ImportsBy l) y m.0) (same_id (e.id, e.class) (x, c) q)
           (subst (λ (j : Option ℕ). Has is (ImportsBy j) e.id m.0) (sym k) m.1))
     ]
 
@@ -70,5 +71,5 @@ pub by_import : (G : Table) (is : List PlainInst) (l : Option ℕ) (n m x c : �
 by_import G is l n m x c i k at e h a =
     let q = sym (initialized_is G is n i at e) ∙ h in
     let own : Has is (ImportsBy l) x m = at_has is (ImportsBy l) x m a.0 a.1 a.2 in
-    (e, subst (λ (y : ℕ). Has is (Imports G) y m) (sym (same_id e.id x e.class c q))
+    (e, subst (λ (y : ℕ). Has is (Imports G) y m) (sym (same_id (e.id, e.class) (x, c) q))
     (subst (λ (j : Option ℕ). Has is (ImportsBy j) x m) k own))

@@ -1,5 +1,5 @@
--- What shows that one of O7, O8 and O11 is broken at an instruction. Operands and members count from 0. [2.16.1, 2.18.2,
--- 3.20]
+-- What shows that one of O7, O8 and O11 is broken at an instruction. Operands and members count from 0. [2.16.1,
+-- 2.18.2, 3.20]
 use Rattle.std.specs.Prelude.{◌≡◌, ◌<◌, ◌≤◌, ◌⊎◌, ◌+◌, ℕ, List, ◌∷◌, Some, slice_get}
 use Rattle.spv_module.specs.declared.opcode.TheConstants as opcode
 use Rattle.spv_module.specs.Operand.{Plain, Result, Id, PlainInst}

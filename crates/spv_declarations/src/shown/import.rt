@@ -71,8 +71,8 @@ fn first_import(
 }
 
 /// What puts an OpVariable with an initializer outside at which O10 is broken: the first instruction by which it has
-/// LinkageAttributes with the LinkageType Import, or none where its storage class does. `total` is how many instructions
-/// there are.
+/// LinkageAttributes with the LinkageType Import, or none where its storage class does. `total` is how many
+/// instructions there are.
 ///
 /// Time is near-linear in their words. An `AllocError` comes only where a growth of memory was refused.
 pub fn outside_inst(

@@ -19,8 +19,8 @@ other_member-requires-clause-there c = one_other c.args.definitions.now c.args.f
 
 pub returns-then-is_in_part : goal.returns-then-is_in_part
 returns-then-is_in_part c = λ n at.
-    part_shown c.args.definitions.now c.args.found.now n c.in-Some.t c.member_count-count.result c.built_in_member.result
-    c.other_member.result (plain_inst c.args.inst.now) c.requires.found at (sym c.struct_of.ensures ∙ c.in-Some.is)
+    part_shown c.args.definitions.now c.args.found.now n c.in-Some.t c.member_count-count.result
+    c.built_in_member.result c.other_member.result (plain_inst c.args.inst.now) c.requires.found at (sym c.struct_of.ensures ∙ c.in-Some.is)
     c.member_count-count.ensures.members c.built_in_member.ensures c.other_member.ensures
 
 pub struct_place-requires : goal.struct_place-requires
