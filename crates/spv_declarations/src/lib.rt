@@ -22,9 +22,10 @@ mod shown;
 mod stands;
 mod table;
 
-pub use decorated::{given, group_of, has_id_behind, member_given};
+pub use decorated::{given, group_of, member_given};
 pub use entry::named;
 pub use found::Found;
 pub use misdeclared::first_misdeclared;
+pub use misplaced::decorates_with_id;
 pub use shown::{Mixture, Target, bad_target, half_built_in, linking_entry, other_inst, outside_inst};
 pub use stands::{is_never_on_members, stands_on};

@@ -119,7 +119,7 @@ fn misplaces_pair(alloc: Global, said: &Said, inst: &Inst<'_>) -> Result<bool, A
 }
 
 /// Whether an instruction has an id behind the decoration of an OpDecorate.
-fn has_id(inst: &Inst<'_>) -> bool
+pub fn decorates_with_id(inst: &Inst<'_>) -> bool
     ensures { IsTrue result ↔ (((plain_inst inst.now).opcode ≡ opcode.DECORATE)
         × HasIdBehind (plain_inst inst.now).operands) }
 {
@@ -137,7 +137,7 @@ fn misplaces(
     ensures { IfOk result (λ yes. (n : ℕ) → slice_get definitions.now n ≡ Some (plain_inst inst.now)
         → IsTrue yes ↔ IsMisplaced definitions.now n) }
 {
-    if has_id(inst) {
+    if decorates_with_id(inst) {
         return Ok(true);
     }
     if misplaces_own(definitions, inst) {

@@ -181,6 +181,33 @@ pair_shown is i g m p at =
     subst (λ (n : ℕ). Misplaces is i (Earlier n)) at.1
     (Misplaces.on_member_target g p.type p.member e.decoration e.place e.inst p.names e.there e.gives e.never)
 
+-- a member of a group with a decoration that is never one of members
+abbrev pub IsNeverPair : List PlainInst → PlainInst → Type 0
+IsNeverPair is i = (g t k : ℕ) × NamesMember i g t k × IsGivenNever is g
+
+pub never_pair : (is : List PlainInst) (i : PlainInst) → ¬ (IsWithId i) → given_by i ≡ None
+    → member_given_by i ≡ None → group_by opcode.GROUP_DECORATE i ≡ None → Way is i → IsNeverPair is i
+never_pair is i not none other group w =
+    let p = pair_of is i not none other group w in
+    (p.0, p.1.type, p.1.member, p.1.names, p.1.never)
+
+never_here : (is : List PlainInst) (i : PlainInst) (g : ℕ) → group_by opcode.GROUP_MEMBER_DECORATE i ≡ Some g
+    → IsNeverPair is i → IsPair is i g
+never_here is i g e p =
+    pair_same is i g p.0 e record { type = p.1; member = p.2; names = p.3; never = p.4 }
+
+pub never_given : (is : List PlainInst) (i : PlainInst) (g : ℕ) → group_by opcode.GROUP_MEMBER_DECORATE i ≡ Some g
+    → IsNeverPair is i → IsGivenNever is g
+never_given is i g e p = let q = never_here is i g e p in q.never
+
+pub never_shown : (is : List PlainInst) (i : PlainInst) (g m : ℕ) → group_by opcode.GROUP_MEMBER_DECORATE i ≡ Some g
+    → IsNeverPair is i → IsGivenNeverAt is g m → Misplaces is i (Earlier m)
+never_shown is i g m e p at = pair_shown is i g m (never_here is i g e p) at
+
+pub none_named : (is : List PlainInst) (i : PlainInst) → group_by opcode.GROUP_MEMBER_DECORATE i ≡ None
+    → IsNeverPair is i → ⊥
+none_named is i e p = none-some p.0 (sym e ∙ p.3.0)
+
 pub placed : (G : Table) (is : List PlainInst) (n : ℕ) (i : PlainInst) (e : Evidence) → slice_get is n ≡ Some i
     → Misplaces is i e → IsEvidence G is O7 n e
 placed G is n i e there h = IsEvidence.misplaced n i e there h

@@ -6,7 +6,7 @@ ghost use Rattle.spv_module.specs.declared.fault.Rule.TheVariants.{O7};
 ghost use Rattle.spv_module.specs.declared.opcode.TheConstants as opcodes;
 ghost use Rattle.spv_module.specs.Module.{plain_inst};
 ghost use Rattle.spv_declarations.specs.Decorated.{IsMisplaced};
-ghost use Rattle.spv_declarations.specs.Given.{Gives, group_by};
+ghost use Rattle.spv_declarations.specs.Given.{Gives, NamesMember, group_by};
 ghost use Rattle.spv_declarations.specs.Shown.{IsGivenBadly};
 ghost use Rattle.spv_declarations.specs.Table.{IsNeverOnMembers};
 ghost use Rattle.spv_standard_evidence.specs.Declarations.{IsEvidence, Misplaces};
@@ -14,7 +14,7 @@ ghost use Rattle.spv_standard_evidence.specs.inner.Placements as inner;
 
 use crate::declarations::id_behind;
 use spv_declarations::{
-    bad_target, given, group_of, has_id_behind, is_never_on_members, member_given,
+    bad_target, decorates_with_id, given, group_of, is_never_on_members, member_given,
 };
 use spv_evidence::Evidence;
 use spv_module::{Inst, opcode};
@@ -80,6 +80,21 @@ fn never_place(definitions: &Definitions, group: u32, total: u32) -> u32
     unreachable!()
 }
 
+/// The first instruction that gives the group of members that an instruction names a decoration that is never one of
+/// members.
+fn member_evidence(definitions: &Definitions, inst: &Inst<'_>, total: u32) -> Evidence
+    requires total { total ≡ length definitions.now }
+    requires broken { (g t k : ℕ) × NamesMember (plain_inst inst.now) g t k × inner.IsGivenNever definitions.now g }
+    ensures { Misplaces definitions.now (plain_inst inst.now) result }
+{
+    let Some(group) = group_of(inst, opcode::GROUP_MEMBER_DECORATE) else {
+        unreachable!();
+    };
+    Evidence::Earlier {
+        inst: never_place(definitions, group, total),
+    }
+}
+
 /// O7: the id behind the decoration, the id or the member that is decorated, or what gives the decoration to a group.
 /// `total` is how many instructions there are.
 ///
@@ -96,7 +111,7 @@ pub fn placement_evidence(
     ensures { IfOk result (λ e. (G : Table) → IsEvidence G definitions.now O7 inst e) }
 {
     let own = definitions.inst(inst);
-    if own.opcode == opcode::DECORATE && has_id_behind(own.operands.as_slice()) {
+    if decorates_with_id(own) {
         return Ok(Evidence::Operand {
             operand: id_behind(own),
         });
@@ -110,10 +125,5 @@ pub fn placement_evidence(
     if let Some(group) = group_of(own, opcode::GROUP_DECORATE) {
         return target_evidence(alloc, definitions, own, group, total);
     }
-    match group_of(own, opcode::GROUP_MEMBER_DECORATE) {
-        Some(group) => Ok(Evidence::Earlier {
-            inst: never_place(definitions, group, total),
-        }),
-        None => unreachable!(),
-    }
+    Ok(member_evidence(definitions, own, total))
 }

@@ -3,9 +3,9 @@ use Rattle.spv_module.specs.Module.{plain_inst}
 use Rattle.spv_declarations.proofs.Misplacing.{HasAnId, MisplacesOwn, MisplacesMember, MisplacesTarget, by_id, by_own, by_member, by_target, if_ok, not_so, last_tells}
 use Rattle.spv_declarations.proofs.misplaced.misplaces.Goals as goal
 
-pub returns-then-has_id : goal.returns-then-has_id
-returns-then-has_id c = λ n at. (
-  λ y. by_id c.args.definitions.now n (plain_inst c.args.inst.now) at (c.has_id.ensures.0 c.if-has_id.true),
+pub returns-then-decorates_with_id : goal.returns-then-decorates_with_id
+returns-then-decorates_with_id c = λ n at. (
+  λ y. by_id c.args.definitions.now n (plain_inst c.args.inst.now) at (c.decorates_with_id.ensures.0 c.if-decorates_with_id.true),
   λ m. refl,
 )
 
@@ -36,7 +36,7 @@ returns c =
     let s = c.args.said.now in
     let i = plain_inst c.args.inst.now in
     if_ok c.misplaces_pair.result _ _ (λ b t n at. last_tells c.requires.said.0 is s n i b c.requires.said.1 at
-    (not_so (HasAnId i) c.has_id.result c.has_id.ensures c.if-has_id.false)
+    (not_so (HasAnId i) c.decorates_with_id.result c.decorates_with_id.ensures c.if-decorates_with_id.false)
     (not_so (MisplacesOwn is i) c.misplaces_own.result c.misplaces_own.ensures c.if-misplaces_own.false)
     (not_so (MisplacesMember i) c.misplaces_member.result c.misplaces_member.ensures c.if-misplaces_member.false)
     (not_so (MisplacesTarget is s i) _ c.in_ok-misplaces_target.ensures c.if-branch.false) t)

@@ -18,11 +18,11 @@ pub gather-requires-clause-early : goal.gather-requires-clause-early
 gather-requires-clause-early c = early_all c.args.definitions.now c.args.total c.requires.total
 
 pub first_import-requires-clause-imported : goal.first_import-requires-clause-imported
-first_import-requires-clause-imported c = imported_some c.args.table.now c.args.definitions.now c.kind_named.result
-    c.args.inst _ _ _ c.kind_named.ensures c.inst.ensures c.requires.broken
+first_import-requires-clause-imported c = imported_some c.args.table.now c.args.definitions.now
+    c.kind_named-linkage.result c.args.inst _ _ _ c.kind_named-linkage.ensures c.inst.ensures c.requires.broken
     (sym c.initialized_by.ensures ∙ c.in-Some.is) c.if-class-eq-INPUT.false
 
 pub returns : goal.returns
-returns c = by_import c.args.table.now c.args.definitions.now c.kind_named.result c.args.inst c.first_import.result
-    _ _ _ c.kind_named.ensures c.inst.ensures c.requires.broken (sym c.initialized_by.ensures ∙ c.in-Some.is)
+returns c = by_import c.args.table.now c.args.definitions.now c.kind_named-linkage.result c.args.inst
+    c.first_import.result _ _ _ c.kind_named-linkage.ensures c.inst.ensures c.requires.broken (sym c.initialized_by.ensures ∙ c.in-Some.is)
     c.first_import.ensures
