@@ -1,5 +1,5 @@
 -- What shows that one of O8 to O11 is broken.
-use Rattle.std.proofs.Common.{◌≡◌, ◌≢◌, ◌⊎◌, ℕ, List, Option, Some, None, Result, Ok, Err, IfOk, sym, subst, inl, inr}
+use Rattle.std.proofs.Common.{◌≡◌, ◌≢◌, ◌⊎◌, ℕ, List, Option, Some, None, Result, IfOk, sym, subst, inl, inr}
 use Rattle.std.specs.Prelude.{MatchOption}
 use Rattle.spv_table.specs.Table.{Table}
 use Rattle.spv_module.specs.Operand.{PlainInst}
@@ -8,8 +8,11 @@ use Rattle.spv_module.specs.declared.fault.Rule.TheVariants.{O8, O9, O10, O11}
 use Rattle.spv_declarations.specs.Broken.{Broken}
 use Rattle.spv_declarations.specs.Decorated.{Has, HasBy, Imports, IsEntered, IsHalfBuiltIn, IsInitialized, IsLinkedEntry}
 use Rattle.spv_declarations.specs.Decorated.{IsSecond}
+use Rattle.spv_declarations.specs.Shown.{IsHalfBy}
+use Rattle.spv_declarations.specs.declared.shown.members.Mixture.{Mixture}
+use Rattle.spv_declarations.specs.declared.shown.members.Mixture.TheVariants.{Members, Within}
 use Rattle.spv_evidence.specs.declared.evidence.Evidence.{Evidence}
-use Rattle.spv_evidence.specs.declared.evidence.Evidence.TheVariants.{Earlier, Operand}
+use Rattle.spv_evidence.specs.declared.evidence.Evidence.TheVariants.{Earlier, Operand, Pair}
 use Rattle.spv_standard_evidence.specs.Declarations.{IsEvidence}
 use Rattle.spv_standard_evidence.specs.inner.Declarations.{IsDecorating}
 
@@ -45,10 +48,28 @@ pub entry_shown : (G : Table) (is : List PlainInst) (n m : ℕ)
 entry_shown G is n m h =
     subst (λ (k : ℕ). IsEvidence G is O9 n (Earlier k)) h.3 (IsEvidence.linked_entry n h.0 h.1 h.2)
 
-pub input_shown : (G : Table) (is : List PlainInst) (n : ℕ) → ((e : IsInitialized G is n) × (e.class ≡ 1))
-    → IsEvidence G is O10 n (Operand 2)
-input_shown G is n h = IsEvidence.input n h.0 h.1
+-- what puts a variable outside: what imports it, or its class
+abbrev pub IsOutsideBy : Table → List PlainInst → ℕ → Option ℕ → Type 0
+IsOutsideBy G is n o = MatchOption o ((e : IsInitialized G is n) × (e.class ≡ 1))
+    (λ m. (e : IsInitialized G is n) × Has is (Imports G) e.id m)
 
-pub import_shown : (G : Table) (is : List PlainInst) (n m : ℕ)
-    → ((e : IsInitialized G is n) × Has is (Imports G) e.id m) → IsEvidence G is O10 n (Earlier m)
-import_shown G is n m h = IsEvidence.imported n m h.0 h.1
+pub import_shown : (G : Table) (is : List PlainInst) (n m : ℕ) (o : Option ℕ) → o ≡ Some m → IsOutsideBy G is n o
+    → IsEvidence G is O10 n (Earlier m)
+import_shown G is n m o e h =
+    let p : IsOutsideBy G is n (Some m) = subst (λ (q : Option ℕ). IsOutsideBy G is n q) e h in
+    IsEvidence.imported n m p.0 p.1
+
+pub input_shown : (G : Table) (is : List PlainInst) (n : ℕ) (o : Option ℕ) → o ≡ None → IsOutsideBy G is n o
+    → IsEvidence G is O10 n (Operand 2)
+input_shown G is n o e h =
+    let p : IsOutsideBy G is n None = subst (λ (q : Option ℕ). IsOutsideBy G is n q) e h in
+    IsEvidence.input n p.0 p.1
+
+-- the members of a struct
+pub part_shown : (G : Table) (is : List PlainInst) (n j k : ℕ) (m : Mixture) → m ≡ Members j k → IsHalfBy is n m
+    → IsEvidence G is O11 n (Pair j k)
+part_shown G is n j k m e h = IsEvidence.in_part n j k (subst (λ (q : Mixture). IsHalfBy is n q) e h)
+
+pub within_shown : (G : Table) (is : List PlainInst) (n k : ℕ) (m : Mixture) → m ≡ Within k → IsHalfBy is n m
+    → IsEvidence G is O11 n (Operand k)
+within_shown G is n k m e h = IsEvidence.within n k (subst (λ (q : Mixture). IsHalfBy is n q) e h)
