@@ -32,7 +32,7 @@ initialized_is G is n i at e =
     eq-eqb i.opcode opcode.VARIABLE (subst (λ (j : PlainInst). j.opcode ≡ opcode.VARIABLE) q e.opcode) in
     let o : i.operands ≡ OfType e.type ∷ Result e.id ∷ Value e.kind e.class ∷ Id e.initializer ∷ e.rest =
     subst (λ (j : PlainInst).
-        j.operands ≡ OfType e.type ∷ Result e.id ∷ Value e.kind e.class ∷ Id e.initializer ∷ e.rest) q e.operands in
+    j.operands ≡ OfType e.type ∷ Result e.id ∷ Value e.kind e.class ∷ Id e.initializer ∷ e.rest) q e.operands in
     rw (v, o) refl
 
 pub not_initialized : (G : Table) (is : List PlainInst) (n : ℕ) (i : PlainInst) → slice_get is n ≡ Some i
@@ -70,6 +70,8 @@ pub by_import : (G : Table) (is : List PlainInst) (l : Option ℕ) (n m x c : �
     → (e : IsInitialized G is n) × Has is (Imports G) e.id m
 by_import G is l n m x c i k at e h a =
     let q = sym (initialized_is G is n i at e) ∙ h in
-    let own : Has is (ImportsBy l) x m = at_has is (ImportsBy l) x m a.0 a.1 a.2 in
-    (e, subst (λ (y : ℕ). Has is (Imports G) y m) (sym (same_id (e.id, e.class) (x, c) q))
-    (subst (λ (j : Option ℕ). Has is (ImportsBy j) x m) k own))
+    let own : Has is (ImportsBy l) x m = at_has is (ImportsBy l) x m a.0 a.1 a.2 in (
+      e,
+      subst (λ (y : ℕ). Has is (Imports G) y m) (sym (same_id (e.id, e.class) (x, c) q))
+          (subst (λ (j : Option ℕ). Has is (ImportsBy j) x m) k own),
+    )

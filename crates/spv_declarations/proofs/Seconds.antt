@@ -88,7 +88,7 @@ some_new is n i b p q at s before t u =
         λ v w.
             let l = was_least is 19 s.id n s.restricted b.restricted before.restricted v s.one in
             let k = was_least is 20 s.id n s.aliased b.aliased before.aliased w s.other in
-            elim g.2 [ | inl e ↦ omega (arith, e, l) | inr e ↦ omega (arith, e, k) ],
+            elim g.2 [ inl e ↦ omega (arith, e, l) | inr e ↦ omega (arith, e, k) ],
         was_or_is is 19 s.id n s.restricted i b.restricted p at before.restricted s.one g.0 t,
         was_or_is is 20 s.id n s.aliased i b.aliased q at before.aliased s.other g.1 u,
       ),
@@ -115,8 +115,7 @@ pub new_breaks : (is : List PlainInst) (n x : ℕ) (i : PlainInst) (b : Both) (p
 new_breaks is n x i b p q at before t u new =
     let l = least_or is 19 n x i b.restricted at before.restricted
     (told is 19 x i b.restricted p new.0 t new.1.1) in
-    let k = least_or is 20 n x i b.aliased at before.aliased (told is 20 x i b.aliased q new.0 u new.1.2) in
-    (
+    let k = least_or is 20 n x i b.aliased at before.aliased (told is 20 x i b.aliased q new.0 u new.1.2) in (
       record {
         id = x;
         restricted = l.0;

@@ -27,5 +27,7 @@ pub use entry::named;
 pub use found::Found;
 pub use misdeclared::first_misdeclared;
 pub use misplaced::decorates_with_id;
-pub use shown::{Mixture, Target, bad_target, half_built_in, linking_entry, other_inst, outside_inst};
+pub use shown::{
+    Mixture, Target, bad_target, half_built_in, linking_entry, other_inst, outside_inst,
+};
 pub use stands::{is_never_on_members, stands_on};

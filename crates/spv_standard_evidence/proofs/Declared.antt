@@ -119,7 +119,7 @@ shown_6 G is n r u a b c d h = elim u [
     | inr w ↦ elim w [
       | inl e ↦ subst (λ (q : Rule). IsEvidence G is q n (Operand 1)) (sym e)
           (six G is n (subst (λ (q : Rule). Broken G is q n) e h))
-      | inr x ↦ elim x [ | inl e ↦ absurd (c e) | inr e ↦ absurd (d e) ]
+      | inr x ↦ elim x [ inl e ↦ absurd (c e) | inr e ↦ absurd (d e) ]
     ]
   ]
 ]

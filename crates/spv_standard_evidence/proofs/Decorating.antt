@@ -40,7 +40,7 @@ shown_as G is n r q E o e h = subst (λ (p : Rule). IfOk o (IsEvidence G is p n)
 pub left_11 : (r : Rule) → IsDecorating r → r ≢ O8 → r ≢ O9 → r ≢ O10 → r ≡ O11
 left_11 r d a b c = elim d [
   | inl e ↦ absurd (a e)
-  | inr v ↦ elim v [ | inl e ↦ absurd (b e) | inr w ↦ elim w [ | inl e ↦ absurd (c e) | inr e ↦ e ] ]
+  | inr v ↦ elim v [ inl e ↦ absurd (b e) | inr w ↦ elim w [ inl e ↦ absurd (c e) | inr e ↦ e ] ]
 ]
 
 pub entry_shown : (G : Table) (is : List PlainInst) (n m : ℕ)

@@ -43,8 +43,14 @@ no_indexes : (c : ℕ) → c ≢ opcode.ACCESS_CHAIN → c ≢ opcode.IN_BOUNDS_
     → c ≢ opcode.PTR_ACCESS_CHAIN → c ≢ opcode.IN_BOUNDS_PTR_ACCESS_CHAIN → c ≢ opcode.COMPOSITE_INSERT
     → before_indexes c ≡ None
 no_indexes c a b d g h k =
-    rw (ne_eqb c opcode.ACCESS_CHAIN a, ne_eqb c opcode.IN_BOUNDS_ACCESS_CHAIN b, ne_eqb c opcode.COMPOSITE_EXTRACT d,
-    ne_eqb c opcode.PTR_ACCESS_CHAIN g, ne_eqb c opcode.IN_BOUNDS_PTR_ACCESS_CHAIN h, ne_eqb c opcode.COMPOSITE_INSERT k)
+    rw (
+      ne_eqb c opcode.ACCESS_CHAIN a,
+      ne_eqb c opcode.IN_BOUNDS_ACCESS_CHAIN b,
+      ne_eqb c opcode.COMPOSITE_EXTRACT d,
+      ne_eqb c opcode.PTR_ACCESS_CHAIN g,
+      ne_eqb c opcode.IN_BOUNDS_PTR_ACCESS_CHAIN h,
+      ne_eqb c opcode.COMPOSITE_INSERT k,
+    )
     refl
 
 no_mode : (c : ℕ) → c ≢ opcode.EXECUTION_MODE → c ≢ opcode.EXECUTION_MODE_ID

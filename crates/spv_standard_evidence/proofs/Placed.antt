@@ -102,12 +102,12 @@ member_code : (i : PlainInst) (p : ℕ × ℕ × ℕ) → member_given_by i ≡ 
     → (i.opcode ≡ opcode.MEMBER_DECORATE) ⊎ (i.opcode ≡ opcode.MEMBER_DECORATE_STRING)
 member_code i p e =
     by (nat_eq i.opcode opcode.MEMBER_DECORATE) refl (nat_eq i.opcode opcode.MEMBER_DECORATE_STRING) refl where
-  by : (a : Bool) → nat_eq i.opcode opcode.MEMBER_DECORATE ≡ a → (b : Bool)
-      → nat_eq i.opcode opcode.MEMBER_DECORATE_STRING ≡ b
-      → (i.opcode ≡ opcode.MEMBER_DECORATE) ⊎ (i.opcode ≡ opcode.MEMBER_DECORATE_STRING)
-  by true t b u = inl (eqb-true i.opcode opcode.MEMBER_DECORATE t)
-  by false t true u = inr (eqb-true i.opcode opcode.MEMBER_DECORATE_STRING u)
-  by false t false u = absurd (none-some p (rw (t, u) at e))
+      by : (a : Bool) → nat_eq i.opcode opcode.MEMBER_DECORATE ≡ a → (b : Bool)
+          → nat_eq i.opcode opcode.MEMBER_DECORATE_STRING ≡ b
+          → (i.opcode ≡ opcode.MEMBER_DECORATE) ⊎ (i.opcode ≡ opcode.MEMBER_DECORATE_STRING)
+      by true t b u = inl (eqb-true i.opcode opcode.MEMBER_DECORATE t)
+      by false t true u = inr (eqb-true i.opcode opcode.MEMBER_DECORATE_STRING u)
+      by false t false u = absurd (none-some p (rw (t, u) at e))
 
 member_no_given : (i : PlainInst) (p : ℕ × ℕ × ℕ) (q : ℕ × ℕ) → member_given_by i ≡ Some p
     → ¬ (given_by i ≡ Some q)

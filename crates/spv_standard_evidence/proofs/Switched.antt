@@ -263,6 +263,7 @@ firsts_new os k n old new e h puts = record {
       let there : new x ≡ old x = puts x ∙ ap (λ b. if b then k + 1 else old x) (ne_eqb n x other) in
       let b = h.before x p (sym there ∙ s) in
       (let l = b.0 in omega (arith, l), b.1)
+
   by_each : (p x : ℕ) → p < k + 1 → literal_at os p ≡ Some x → (n ≡ x) ⊎ (n ≢ x) → 0 < new x
   by_each p x l t (inl same) =
       let here : new x ≡ k + 1 = puts x ∙ ap (λ b. if b then k + 1 else old x) (eq-eqb n x same) in

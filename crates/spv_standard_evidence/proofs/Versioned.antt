@@ -110,7 +110,7 @@ select_shown minor is i c (IsForm.no_meaning x name os l o e h d) G =
 pub import_shown : (minor : ℕ) (is : List PlainInst) (i : PlainInst) → i.opcode ≢ opcode.COPY_MEMORY
     → i.opcode ≢ opcode.COPY_MEMORY_SIZED → i.opcode ≢ opcode.SELECT → IsForm minor is i → (G : Table)
     → Shows G minor is i (Operand 1)
-import_shown minor is i a b c (IsForm.two_masks l o m) G = absurd (elim o [ | inl e ↦ a e | inr e ↦ b e ])
+import_shown minor is i a b c (IsForm.two_masks l o m) G = absurd (elim o [ inl e ↦ a e | inr e ↦ b e ])
 import_shown minor is i a b c (IsForm.whole t x k os l o e h) G = absurd (c o)
 import_shown minor is i a b c (IsForm.no_meaning x name os l o e h d) G = Shows.no_meaning x name os l o e h d
 
@@ -153,7 +153,7 @@ none_hit flags ns os n all none h =
 
 pub inst_hit : (flags : List Bool) (ns : List (Option ℕ)) (i : PlainInst) → ¬ (IsListed lines flags kind.Opcode i.opcode)
     → ¬ (AreHit flags ns i.operands) → ¬ (IsInstHit flags ns i)
-inst_hit flags ns i a b h = elim h [ | inl x ↦ a x | inr y ↦ b y ]
+inst_hit flags ns i a b h = elim h [ inl x ↦ a x | inr y ↦ b y ]
 
 -- the instruction at which it is broken
 pub late_by : (G : Table) (minor : ℕ) (is : List PlainInst) (n : ℕ) (i : PlainInst) → slice_get is n ≡ Some i

@@ -41,12 +41,24 @@ fn limit_of(code: u16, has_many: bool, is_local: bool) -> Limit
     ensures { result ≡ inner.limit_of code has_many is_local }
 {
     match code {
-        opcode::TYPE_STRUCT => { if has_many { Limit::Members } else { Limit::Depth } }
+        opcode::TYPE_STRUCT => {
+            if has_many {
+                Limit::Members
+            } else {
+                Limit::Depth
+            }
+        }
         opcode::TYPE_FUNCTION => Limit::Parameters,
         opcode::SWITCH => Limit::Pairs,
         opcode::EXT_INST => Limit::Arguments,
         opcode::EXECUTION_MODE | opcode::EXECUTION_MODE_ID => Limit::Modes,
-        opcode::VARIABLE => { if is_local { Limit::Locals } else { Limit::Globals } }
+        opcode::VARIABLE => {
+            if is_local {
+                Limit::Locals
+            } else {
+                Limit::Globals
+            }
+        }
         _ => Limit::Indexes,
     }
 }

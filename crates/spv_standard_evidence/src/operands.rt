@@ -13,11 +13,11 @@ mod scopes;
 mod switch;
 
 use scopes::scope_evidence;
-use switch::switch_evidence;
 use spv_evidence::Evidence;
 use spv_module::{Inst, Rule, opcode};
 use spv_type_forms::Definitions;
 use std::alloc::{AllocError, Global};
+use switch::switch_evidence;
 
 /// The operand that is the pointer of an instruction which writes, or of an atomic.
 fn pointer_seat(code: u16) -> u32

@@ -38,13 +38,7 @@ fn value_lack(
 }
 
 /// The first set bit of a mask of a kind that is missing, in the same way.
-fn bit_lack(
-    missing: &Missing,
-    kinds: &Kinds,
-    kind: u32,
-    mask: u32,
-    k: u32,
-) -> Option<(Lister, u32)>
+fn bit_lack(missing: &Missing, kinds: &Kinds, kind: u32, mask: u32, k: u32) -> Option<(Lister, u32)>
     ensures { (i : PlainInst) → slice_get i.operands k ≡ Some (Mask kind mask)
         → MatchOption result (¬ (IsAnyHit missing.now.lines kinds.now.numbers kind true mask))
         (λ p. IsLackOf missing.now.lines kinds.now.numbers i p.0 p.1) }

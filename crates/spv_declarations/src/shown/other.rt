@@ -27,12 +27,7 @@ pub struct Both {
 
 impl Both {
     /// Adds what an instruction of the module gives.
-    fn add(
-        &mut self,
-        definitions: &Definitions,
-        said: &Said,
-        number: u32,
-    ) -> Result<(), AllocError>
+    fn add(&mut self, definitions: &Definitions, said: &Said, number: u32) -> Result<(), AllocError>
         requires within { number < length definitions.now }
         requires said { (l : Option ℕ) × AreSaid l definitions.now said.now }
         ensures { OnOk result (AreBothBefore definitions.now number self.old
@@ -132,13 +127,7 @@ fn second_id(
 }
 
 /// Whether an id has a decoration by an instruction of the module.
-fn has(
-    definitions: &Definitions,
-    said: &Said,
-    inst: &Inst<'_>,
-    x: u32,
-    decoration: u32,
-) -> bool
+fn has(definitions: &Definitions, said: &Said, inst: &Inst<'_>, x: u32, decoration: u32) -> bool
     requires known { IsKnown decoration }
     requires said { (l : Option ℕ) × AreSaid l definitions.now said.now }
     requires inst { IsOf definitions.now (plain_inst inst.now) }
@@ -148,13 +137,7 @@ fn has(
 }
 
 /// The first instruction by which an id has a decoration.
-fn first_by(
-    definitions: &Definitions,
-    said: &Said,
-    total: u32,
-    x: u32,
-    decoration: u32,
-) -> u32
+fn first_by(definitions: &Definitions, said: &Said, total: u32, x: u32, decoration: u32) -> u32
     requires total { total ≡ length definitions.now }
     requires known { IsKnown decoration }
     requires said { (l : Option ℕ) × AreSaid l definitions.now said.now }

@@ -67,11 +67,7 @@ fn misplaced_at(
 }
 
 /// The first target on which one of some decorations may not stand, and the first of these.
-fn first_misplaced_at(
-    definitions: &Definitions,
-    decorations: &[u32],
-    inst: &Inst<'_>,
-) -> (u32, u32)
+fn first_misplaced_at(definitions: &Definitions, decorations: &[u32], inst: &Inst<'_>) -> (u32, u32)
     requires { (k d : ℕ) × (0 < k) × IsBadAt definitions.now (plain_inst inst.now).operands decorations.now d k }
     ensures { (0 < result.0)
         × IsBadAt definitions.now (plain_inst inst.now).operands decorations.now result.1 result.0 }

@@ -29,7 +29,7 @@ loop-k-preserved c =
           let e : literal_at os k ≡ Some n = sym c.literal_of.ensures ∙ w.in-Some.is in
           let empty : kept c.loop-k.firsts n ≡ 0 = sym w.kept_at-first.ensures ∙ w.if-first-ne0.false in
           let puts : (x : ℕ) → kept c.match-literal_of.firsts x
-              ≡ (if nat_eq n x then k + 1 else kept c.loop-k.firsts x) =
+          ≡ (if nat_eq n x then k + 1 else kept c.loop-k.firsts x) =
           λ x. ap (λ (m : BTreeMap ℕ ℕ). kept m x) w.firsts-is ∙ w.in_ok-keep.ensures x in
           record {
             firsts = firsts_new os k n (kept c.loop-k.firsts) (kept c.match-literal_of.firsts) e
