@@ -18,8 +18,8 @@ use Rattle.spv_declarations.specs.Broken.{Broken}
 use Rattle.spv_declarations.specs.Declarations.{IsForwardElsewhere, IsIncapable, IsOfNoMember, NeedsAnother}
 use Rattle.spv_declarations.specs.Entry.{IsRepeated, TakesId, named_by}
 use Rattle.spv_declarations.specs.Given.{HasId, HasIdBehind}
-use Rattle.spv_standard_evidence.specs.Declarations.{HasIdAt, IsEvidence}
-use Rattle.spv_standard_evidence.specs.inner.Declarations.{AreNamesakes, IsIdAt, IsUndecorated}
+use Rattle.spv_standard_evidence.specs.Declarations.{HasIdAt, IsEvidence, IsUndecorated}
+use Rattle.spv_standard_evidence.specs.inner.Declarations.{AreNamesakes, IsIdAt}
 
 -- an id among operands stands at a place, and one at a place is among them
 pub place_of : (os : List Plain) (x : ℕ) → HasId os x → (k : ℕ) × (slice_get os k ≡ Some (Id x))

@@ -13,8 +13,7 @@ use Rattle.spv_declarations.specs.declared.shown.members.Mixture.{Mixture}
 use Rattle.spv_declarations.specs.declared.shown.members.Mixture.TheVariants.{Members, Within}
 use Rattle.spv_evidence.specs.declared.evidence.Evidence.{Evidence}
 use Rattle.spv_evidence.specs.declared.evidence.Evidence.TheVariants.{Earlier, Operand, Pair}
-use Rattle.spv_standard_evidence.specs.Declarations.{IsEvidence}
-use Rattle.spv_standard_evidence.specs.inner.Declarations.{IsDecorating}
+use Rattle.spv_standard_evidence.specs.Declarations.{IsDecorating, IsEvidence}
 
 pub by_8 : (G : Table) (is : List PlainInst) (n : ℕ) → Broken G is O8 n → IsSecond is n
 by_8 G is _ (Broken.second n h) = h

@@ -1,14 +1,14 @@
 -- What shows that O3 or one of O5 to O13 is broken. Operands count from 0. [2.16.1, 2.18.2, 3.20, 3.49.3, 3.49.5; own]
-use Rattle.std.specs.Prelude.{◌≡◌, ◌<◌, ◌≤◌, ◌+◌, ℕ, List, ◌∷◌, Some, slice_get, true}
+use Rattle.std.specs.Prelude.{◌≡◌, ◌<◌, ◌≤◌, ◌⊎◌, ℕ, List, Some, slice_get, true}
 use Rattle.spv_table.specs.Table.{Table}
 use Rattle.spv_module.specs.declared.opcode.TheConstants as opcode
-use Rattle.spv_module.specs.Operand.{Plain, Result, Id, PlainInst}
+use Rattle.spv_module.specs.Operand.{Id, PlainInst}
 use Rattle.spv_module.specs.declared.fault.Rule.{Rule}
 use Rattle.spv_module.specs.declared.fault.Rule.TheVariants.{O3, O5, O6, O7, O8, O9, O10, O11, O12, O13}
 use Rattle.spv_type_forms.specs.declared.form.Form.TheVariants as form
 use Rattle.spv_type_forms.specs.declared.form.Scalar.TheVariants as scalar
 use Rattle.spv_type_forms.specs.Form.{form_in}
-use Rattle.spv_conditions.specs.Further.{IsGroup, IsMember}
+use Rattle.spv_conditions.specs.Further.{IsGroup}
 use Rattle.spv_capabilities.specs.Capable.{Has as IsImplied}
 use Rattle.spv_declarations.specs.Declarations.{HasBytes, IsForwardElsewhere, IsOfNoMember}
 use Rattle.spv_declarations.specs.Decorated.{Has, HasBy, Imports, IsEntered, IsInitialized}
@@ -19,6 +19,14 @@ use Rattle.spv_declarations.specs.Table.{IsNeverOnMembers, StandsOn}
 use Rattle.spv_declarations.specs.declared.shown.members.Mixture.TheVariants.{Members, Within}
 use Rattle.spv_evidence.specs.declared.evidence.Evidence.{Evidence}
 use Rattle.spv_evidence.specs.declared.evidence.Evidence.TheVariants.{ByGroup, Capability, Earlier, Operand, Pair}
+
+-- the rules that look at no decorations
+abbrev pub IsUndecorated : Rule → Type 0
+IsUndecorated r = (r ≡ O3) ⊎ (r ≡ O5) ⊎ (r ≡ O6) ⊎ (r ≡ O12) ⊎ (r ≡ O13)
+
+-- those of decorations that look at several of them
+abbrev pub IsDecorating : Rule → Type 0
+IsDecorating r = (r ≡ O8) ⊎ (r ≡ O9) ⊎ (r ≡ O10) ⊎ (r ≡ O11)
 
 -- Instruction i has that opcode, and an id as the operand k behind the first two. [3.49.3, 3.49.5]
 pub record HasIdAt (i : PlainInst) (code k : ℕ) : Type 0 where

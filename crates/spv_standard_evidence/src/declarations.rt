@@ -9,9 +9,9 @@ ghost use Rattle.spv_declarations.specs.Broken.{Broken};
 ghost use Rattle.spv_declarations.specs.Declarations.{IsIncapable};
 ghost use Rattle.spv_declarations.specs.Entry.{IsRepeated};
 ghost use Rattle.spv_declarations.specs.Given.{HasIdBehind};
-ghost use Rattle.spv_standard_evidence.specs.Declarations.{IsEvidence};
+ghost use Rattle.spv_standard_evidence.specs.Declarations.{IsEvidence, IsUndecorated};
 ghost use Rattle.spv_standard_evidence.specs.inner.Declarations as inner;
-ghost use Rattle.spv_standard_evidence.specs.inner.Declarations.{AreNamesakes, IsUndecorated};
+ghost use Rattle.spv_standard_evidence.specs.inner.Declarations.{AreNamesakes};
 
 use spv_declarations::named;
 use spv_evidence::Evidence;

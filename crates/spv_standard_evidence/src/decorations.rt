@@ -5,8 +5,7 @@ ghost use Rattle.spv_table.specs.Table as tables;
 ghost use Rattle.spv_module.specs.declared.fault.Rule.TheVariants as rules;
 ghost use Rattle.spv_declarations.specs.Broken.{Broken};
 ghost use Rattle.spv_declarations.specs.Decorated.{IsHalfBuiltIn, IsInitialized, IsLinkedEntry, IsSecond};
-ghost use Rattle.spv_standard_evidence.specs.Declarations.{IsEvidence};
-ghost use Rattle.spv_standard_evidence.specs.inner.Declarations.{IsDecorating};
+ghost use Rattle.spv_standard_evidence.specs.Declarations.{IsDecorating, IsEvidence};
 
 use spv_declarations::{Mixture, half_built_in, linking_entry, other_inst, outside_inst};
 use spv_evidence::Evidence;
