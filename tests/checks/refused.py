@@ -80,12 +80,15 @@ class Stretch:
 
 def stretches(records):
     """The stretches that the library that refuses has written."""
-    while records:
-        first, last, refused, status, out, err, made = RECORD.unpack(records[: RECORD.size])
-        ends = RECORD.size + out, RECORD.size + out + err, RECORD.size + out + err + max(made, 1) - 1
-        got = Answer(records[RECORD.size : ends[0]], records[ends[0] : ends[1]], os.waitstatus_to_exitcode(status))
-        yield Stretch(first, last, bool(refused), got, records[ends[1] : ends[2]] if made else None)
-        records = records[ends[2] :]
+    at = 0
+    while at < len(records):
+        first, last, refused, status, *sizes = RECORD.unpack_from(records, at)
+        out = at + RECORD.size
+        err = out + sizes[0]
+        made = err + sizes[1]
+        at = made + max(sizes[2], 1) - 1
+        got = Answer(records[out:err], records[err:made], os.waitstatus_to_exitcode(status))
+        yield Stretch(first, last, bool(refused), got, records[made:at] if sizes[2] else None)
 
 
 def each_run(program, words, folder, environment, first=1, **how):
