@@ -235,17 +235,23 @@ def decorated_alike(module):
     closed(module)
 
 
+def put_group(module, group, decoration, opcode, given):
+    """Half of the words that are left are decorations of a group; the others give it, by an instruction of that opcode
+    after another, each of as many words as `given` makes of those that are free for it."""
+    half = module.room() // 2
+    while module.room() > half:
+        module.put(op.DECORATE, group, *decoration)
+    module.put(op.DECORATION_GROUP, group)
+    while module.room() > 256:
+        module.put(opcode, group, *given(min(NAMED, module.room() - 200)))
+
+
 def groups_of_many(module):
     """O7, O8: a group of very many decorations, which is given to one variable again and again."""
     group, variable = fresh(module, 2)
-    half = module.room() // 2
 
     def decorations(module):
-        while module.room() > half:
-            module.put(op.DECORATE, group, VOLATILE)
-        module.put(op.DECORATION_GROUP, group)
-        while module.room() > 256:
-            module.put(op.GROUP_DECORATE, group, *[variable] * min(NAMED, module.room() - 200))
+        put_group(module, group, (VOLATILE,), op.GROUP_DECORATE, lambda free: [variable] * free)
 
     opened(module, decorations)
     variables(module, [variable])
@@ -256,15 +262,12 @@ def groups_of_many(module):
 def groups_of_members(module):
     """O7, O11: a group of very many decorations, which is given to the members of a struct again and again."""
     group, struct = fresh(module, 2)
-    half = module.room() // 2
+
+    def members(free):
+        return [word for at in range(free // 2) for word in (struct, at % 2)]
 
     def decorations(module):
-        while module.room() > half:
-            module.put(op.DECORATE, group, BUILT_IN, WORK_DIM)
-        module.put(op.DECORATION_GROUP, group)
-        while module.room() > 256:
-            pairs = min(NAMED, module.room() - 200) // 2
-            module.put(op.GROUP_MEMBER_DECORATE, group, *(word for at in range(pairs) for word in (struct, at % 2)))
+        put_group(module, group, (BUILT_IN, WORK_DIM), op.GROUP_MEMBER_DECORATE, members)
 
     opened(module, decorations)
     module.put(op.TYPE_STRUCT, struct, INT, INT)
