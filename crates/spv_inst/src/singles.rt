@@ -2,7 +2,7 @@
 
 ghost use Rattle.std.specs.Prelude.{◌≡◌, ℕ, List, [], ◌≤◌, ◌<◌, ◌+◌, ◌-◌, length, map, take, drop};
 ghost use Rattle.std.specs.Prelude.{Some, IfSome, IfNone, vec_len, vec_capacity};
-ghost use Rattle.spv_table.specs.Table.{Item, kind_of};
+ghost use Rattle.spv_table.specs.Table.{Item, Table, kind_of};
 ghost use Rattle.spv_table.specs.declared.form.Form.TheVariants.{Leaf as LeafForm};
 ghost use Rattle.spv_table.specs.declared.form.Leaf.TheVariants as due_leaf;
 ghost use Rattle.spv_table.specs.inner.Form.{form_of, form_at};
@@ -10,6 +10,7 @@ ghost use Rattle.spv_module.specs.Operand.{Context, PlainInst, type_in};
 ghost use Rattle.spv_module.specs.Module.{plain_operand, plain_operands};
 ghost use Rattle.spv_module.specs.Shape.{alone, shape_of};
 ghost use Rattle.spv_module.specs.Spelling.{Takes};
+ghost use Rattle.spv_inst.specs.declared.definitions.Definitions.{Definitions as Known};
 ghost use Rattle.spv_inst.specs.inner.Known.{Knows};
 ghost use Rattle.spv_inst.specs.inner.Pending.{items_of, due_first};
 ghost use Rattle.spv_inst.specs.inner.Pushed.{IsPushed};
@@ -17,6 +18,7 @@ ghost use Rattle.spv_inst.specs.inner.Reading.{between};
 ghost use Rattle.spv_inst.specs.inner.Sofar.{SofarAt};
 ghost use Rattle.spv_inst.specs.Flat.{due};
 
+use crate::definitions::Definitions;
 use crate::enumerant::{mask_kinds, value_kinds};
 use crate::items::DueItems;
 use crate::number::take_number;
@@ -25,7 +27,7 @@ use crate::reader::{Place, Scene, Taken};
 use crate::text::{short_text, take_text};
 use spv_module::Operand;
 use spv_table::{Form, Leaf, form_in};
-use spv_words::word;
+use spv_words::{Image, word};
 
 /// An operand that was added to a list: how many words it takes, and the kinds of its parameters, which are due after
 /// it.
@@ -45,72 +47,86 @@ fn first_type(operands: &[Operand<'_>]) -> Option<u32>
     }
 }
 
-/// The text, or the number as wide as the result's type, at the front of the words from `at` up to `end`, of which
-/// there is one at least. None where `leaf` asks for neither or the words are refused, and for a number where the first
-/// of `operands`, those of the instruction before it, is not the result's type.
+/// The number as wide as the result's type, at the front of the words from `at` up to `end`, of which there is one at
+/// least. None where the words are refused, and where the first of `operands`, those of the instruction before it, is
+/// not the result's type.
 #[inline(always)]
-fn long_operand<'a>(
-    scene: &Scene<'_, '_, 'a>,
+fn context_number<'a>(
+    definitions: &Definitions,
+    image: &'a Image,
     operands: &[Operand<'a>],
-    leaf: Leaf,
     at: u32,
     end: u32,
 ) -> Option<Taken<'a>>
     requires order { at < end }
-    requires fits { end ≤ length scene.now.image.now }
-    ensures taken { (c : Context) (kind : ℕ) → Knows scene.now.definitions.now c.before
-        → plain_operands operands.now ≡ c.operands → form_at (kind_of scene.now.table.now kind) ≡ LeafForm leaf
-        → IfSome result
-        (λ t. Takes kind (shape_of scene.now.table.now c (alone kind)) (plain_operand t.operand)
-        (take t.words (between scene.now.image.now at end)) []) }
+    requires fits { end ≤ length image.now }
+    ensures taken { (G : Table) (c : Context) (kind : ℕ) → Knows definitions.now c.before
+        → plain_operands operands.now ≡ c.operands → form_at (kind_of G kind) ≡ LeafForm due_leaf.ContextNumber
+        → IfSome result (λ t. Takes kind (shape_of G c (alone kind)) (plain_operand t.operand)
+        (take t.words (between image.now at end)) []) }
     ensures within { IfSome result (λ t. (0 < t.words) × (t.words ≤ end - at)) }
 {
-    match leaf {
-        Leaf::Text => {
-            let Ok(taken) = take_text(scene.image, at, end) else {
-                return None;
-            };
-            Some(taken)
-        }
-        Leaf::ContextNumber => {
-            let Some(type_id) = first_type(operands) else {
-                return None;
-            };
-            let width = scene.definitions.width(type_id);
-            let Ok(taken) = take_number(scene.image, width, at, end) else {
-                return None;
-            };
-            Some(taken)
-        }
-        _ => None,
-    }
+    let Some(type_id) = first_type(operands) else {
+        return None;
+    };
+    let width = definitions.width(type_id);
+    let Ok(taken) = take_number(image, width, at, end) else {
+        return None;
+    };
+    Some(taken)
 }
 
-/// Adds the text or the number at the front of the words from `at` up to `end` to a list that has room for it, and
-/// answers how many words it takes. None where `long_operand` takes none. By a call: most operands are neither.
+/// Adds that number to a list that has room for it, and answers how many words it takes; `begin` is the place of the
+/// instruction's first operand in the list. None where it is refused. By a call: most operands are none.
 #[inline(never)]
-fn push_long<'a>(
-    scene: &Scene<'_, '_, 'a>,
+fn push_number<'a>(
+    definitions: &Definitions,
+    image: &'a Image,
     operands: &mut Vec<Operand<'a>>,
     begin: usize,
-    leaf: Leaf,
     at: u32,
     end: u32,
 ) -> Option<u32>
     requires order { at < end }
-    requires fits { end ≤ length scene.now.image.now }
+    requires fits { end ≤ length image.now }
     requires room { begin ≤ length operands.now.items }
     requires spare { vec_len operands.now < vec_capacity operands.now }
-    ensures pushed { (kind : ℕ) → form_at (kind_of scene.now.table.now kind) ≡ LeafForm leaf
+    ensures pushed { (G : Table) (kind : ℕ) → form_at (kind_of G kind) ≡ LeafForm due_leaf.ContextNumber
         → IfSome result
-        (λ n. IsPushed scene.now.table.now scene.now.definitions.now scene.now.image.now begin kind at end
-        operands.old.items operands.new.items n []) }
+        (λ n. IsPushed G definitions.now image.now begin kind at end operands.old.items operands.new.items n []) }
     ensures within { IfSome result (λ n. (0 < n) × (n ≤ end - at)) }
     ensures none { IfNone result (operands.new.items ≡ operands.old.items) }
     ensures len { IfSome result (λ _. vec_len operands.new ≡ vec_len operands.old + 1) }
     ensures capacity { vec_capacity operands.new ≡ vec_capacity operands.old }
 {
-    let Some(taken) = long_operand(scene, &operands[begin..], leaf, at, end) else {
+    let Some(taken) = context_number(definitions, image, &operands[begin..], at, end) else {
+        return None;
+    };
+    operands.push_reserved(taken.operand);
+    Some(taken.words)
+}
+
+/// Adds the text at the front of the words from `at` up to `end` to a list that has room for it, and answers how many
+/// words it takes. None where it is refused. By a call: most texts are short.
+#[inline(never)]
+fn push_long_text<'a>(
+    image: &'a Image,
+    operands: &mut Vec<Operand<'a>>,
+    at: u32,
+    end: u32,
+) -> Option<u32>
+    requires order { at < end }
+    requires fits { end ≤ length image.now }
+    requires spare { vec_len operands.now < vec_capacity operands.now }
+    ensures pushed { (G : Table) (known : Known) (begin kind : ℕ) → form_at (kind_of G kind) ≡ LeafForm due_leaf.Text
+        → IfSome result
+        (λ n. IsPushed G known image.now begin kind at end operands.old.items operands.new.items n []) }
+    ensures within { IfSome result (λ n. (0 < n) × (n ≤ end - at)) }
+    ensures none { IfNone result (operands.new.items ≡ operands.old.items) }
+    ensures len { IfSome result (λ _. vec_len operands.new ≡ vec_len operands.old + 1) }
+    ensures capacity { vec_capacity operands.new ≡ vec_capacity operands.old }
+{
+    let Ok(taken) = take_text(image, at, end) else {
         return None;
     };
     operands.push_reserved(taken.operand);
@@ -143,9 +159,7 @@ fn push_text<'a>(
         operands.push_reserved(Operand::Text(text));
         return Some(end - at);
     }
-    // What the call takes is put together here, since most texts are short.
-    let scene = *scene;
-    push_long(&scene, operands, begin, Leaf::Text, at, end)
+    push_long_text(scene.image, operands, at, end)
 }
 
 /// Adds the operand at the front of the words from `at` up to `end`, of which there is one at least, to a list that has
@@ -194,10 +208,14 @@ pub fn push_next<'t, 'a>(
             operands.push_reserved(Operand::Mask { kind, value: first });
         }
         Leaf::Text => words = push_text(scene, operands, begin, at, end)?,
-        Leaf::ContextNumber => {
-            let scene = *scene;
-            words = push_long(&scene, operands, begin, leaf, at, end)?;
-        }
+        Leaf::ContextNumber => words = push_number(
+            scene.definitions,
+            scene.image,
+            operands,
+            begin,
+            at,
+            end,
+        )?,
         Leaf::Nothing => return None,
     }
     Some(Pushed { words, kinds })

@@ -94,5 +94,5 @@ returns-clause-pushed c =
           rw (b.operands-is, b.words-is, b.kinds-is)
           (b.in_ok-words-in-Text.ensures.pushed kind (e ∙ ap LeafForm b.in-Text.is))
       | in-ContextNumber+in_ok-words-in-ContextNumber b ↦
-          rw (b.operands-is, b.words-is, b.kinds-is) (b.in_ok-words-in-ContextNumber.ensures.pushed kind e)
+          rw (b.operands-is, b.words-is, b.kinds-is) (b.in_ok-words-in-ContextNumber.ensures.pushed G kind (e ∙ ap LeafForm b.in-ContextNumber.is))
     ]
