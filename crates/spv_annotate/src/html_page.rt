@@ -37,7 +37,7 @@ use spv_table::Table;
 use std::alloc::{AllocError, Global};
 
 /// For how many bytes of an instruction's line and comment room is made at first: most have fewer.
-const LINE_ROOM: usize = 256;
+const LINE_ROOM: usize = 160;
 
 /// Adds what stands before the list of contents, `told` below the title.
 fn push_front(out: &mut String, title: &str, told: &str) -> Result<(), AllocError>

@@ -22,15 +22,12 @@ ghost use Rattle.spv_capabilities.specs.inner.Unkinded.{HasNoKinds};
 
 use crate::gather::{Gathered, gather};
 use spv_ids::Ids;
-use spv_layout::{Place, Plan, is_unkinded};
+use spv_layout::{DEFINITIONS, Place, Plan, is_unkinded};
 use spv_module::Inst;
 use spv_table::{Memory, Table};
 use std::alloc::Global;
 use std::collections::BTreeSet;
 use std::marker::Model;
-
-/// The number of section 11 among the sections.
-const DEFINITIONS: u8 = 13;
 
 /// A module and what is gathered of it. Contracts see the grammar table and the instructions.
 #[derive(Drop)]

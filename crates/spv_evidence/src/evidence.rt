@@ -115,7 +115,7 @@ pub enum Evidence {
     },
     /// E1: there is no entry point.
     NoEntry,
-    /// The rules O: nothing besides the rule and its instruction.
+    /// O4: nothing besides the rule and its instruction.
     Alone,
     /// E2: which part of the rule is broken.
     Entry {

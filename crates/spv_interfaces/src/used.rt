@@ -15,13 +15,10 @@ ghost use Rattle.spv_interfaces.specs.inner.Uses.{UsesBefore};
 
 use crate::classes::is_wanted;
 use spv_flow::walks::use_id;
-use spv_layout::{id_at, role};
+use spv_layout::{DEFINITIONS, id_at, role};
 use spv_module::{Inst, opcode};
 use spv_type_forms::{DECLARATIONS, Definitions};
 use std::alloc::{AllocError, Global};
-
-/// The number of section 11 among the sections.
-const DEFINITIONS: u8 = 13;
 
 /// A use of a variable in a definition.
 #[derive(Clone, Copy)]

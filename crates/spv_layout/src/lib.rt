@@ -18,7 +18,7 @@ mod unkinded;
 
 pub use class::Class;
 pub use form::{Ending, Form, Kinded, Named, Role, Row};
-pub use place::Place;
+pub use place::{DEFINITIONS, Place};
 pub use plan::{Plan, lay_out};
 pub use profile::{has_row, next_under};
 pub use roles::{id_at, id_of, role};

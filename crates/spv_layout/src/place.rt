@@ -9,6 +9,9 @@ use crate::form::Row;
 use crate::span::number;
 use spv_module::{Inst, Operand};
 
+/// The section of function definitions: 11 in the standard.
+pub const DEFINITIONS: u8 = 13;
+
 /// Where an instruction stands.
 #[derive(Clone, Copy, PartialEq, Eq)]
 pub struct Place {
@@ -62,7 +65,7 @@ impl Standing {
         } else if at < definitions {
             12
         } else {
-            13
+            DEFINITIONS
         };
         Place {
             section,

@@ -7,11 +7,8 @@ ghost use Rattle.spv_layout.specs.Place.{AreFew, IsDefinition};
 ghost use Rattle.spv_flow.specs.calls.inner.Found.{ArePlaces, IsLate, IsOfDefinition};
 ghost use Rattle.spv_check.specs.flow.Definitions.{CountsDefinitions};
 
-use spv_layout::Plan;
+use spv_layout::{DEFINITIONS, Plan};
 use spv_module::{Module, opcode};
-
-/// The number of section 11 among the sections.
-const DEFINITIONS: u8 = 13;
 
 /// The definition that an instruction is of, if it is of a class of sections 9 to 11.
 #[inline(always)]

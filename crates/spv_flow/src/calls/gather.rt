@@ -12,13 +12,10 @@ ghost use Rattle.spv_ids.specs.Outcome.{AreNumbered};
 
 use crate::calls::graph::Call;
 use spv_ids::{Ids, named_id};
-use spv_layout::Plan;
+use spv_layout::{DEFINITIONS, Plan};
 use spv_module::Inst;
 use spv_module::opcode::{ENTRY_POINT, FUNCTION_CALL};
 use std::alloc::{AllocError, Global};
-
-/// The number of section 11 among the sections.
-const DEFINITIONS: u8 = 13;
 
 /// The function that an OpFunctionCall calls.
 #[inline(always)]
