@@ -258,12 +258,11 @@ not_other : (c : Class) → is_among c (class.Function ∷ []) ≡ true → is_o
 not_other c a = rw a refl
 
 -- none of the classes stands at an OpFunction, or behind one
-pub never_behind : (is : List PlainInst) (m n : ℕ) (i : PlainInst) → IsLayout (classes is)
-    → IsAt is m (class.Function ∷ []) → m ≤ n → slice_get is n ≡ Some i → is_early i.opcode ≡ true → ⊥
-never_behind is m n i l a le at e =
+class_behind : (is : List PlainInst) (m n : ℕ) (i : PlainInst) → IsLayout (classes is)
+    → IsAt is m (class.Function ∷ []) → m ≤ n → slice_get is n ≡ Some i → is_late (class_of i.opcode) ≡ false → ⊥
+class_behind is m n i l a le at early =
     let f = is_function is m a in
     let d = class_at is n i at in
-    let early = early_class i.opcode e in
     elim (cases_lt m n) [
       | inl lt ↦
           let late = ordered_tells (classes is) m n f.0 (class_of i.opcode) (all_ordered (classes is) l) f.1
@@ -279,6 +278,10 @@ never_behind is m n i l a le at e =
           let late' : is_late (class_of i.opcode) ≡ true = subst (λ (c : Class). is_late c ≡ true) one late in
           let no : false ≡ true = sym early ∙ late' in cc
     ]
+
+pub never_behind : (is : List PlainInst) (m n : ℕ) (i : PlainInst) → IsLayout (classes is)
+    → IsAt is m (class.Function ∷ []) → m ≤ n → slice_get is n ≡ Some i → is_early i.opcode ≡ true → ⊥
+never_behind is m n i l a le at e = class_behind is m n i l a le at (early_class i.opcode e)
 
 -- Up to an instruction with an OpFunction at it or before it there is a last one.
 decided : (o : Option Class) (cs : List Class) → IsSomeAnd o (λ c. IsTrue (is_among c cs))
@@ -386,3 +389,29 @@ early_all is count e = record {
   each = λ n i at t. let w = slice_get_within is n i at in omega (arith, w, e);
   globals = λ n s. let w = (global_before is n 11 s refl).0 in omega (arith, w, e);
 }
+
+-- each instruction that declares a capability or an extension
+front_by : (G : Table) (is : List PlainInst) (places : List Place) (count : ℕ) → IsPlan G is places
+    → ((is : List PlainInst) → ArePlacesOf is places → count < length places → IsAt is count (class.Function ∷ []))
+    → (n : ℕ) (i : PlainInst) → slice_get is n ≡ Some i → is_late (class_of i.opcode) ≡ false → n < count
+front_by G is places count plan next n i at early = elim (cases_lt n count) [
+  | inl l ↦ l
+  | inr g ↦
+      let w = slice_get_within is n i at in
+      let q : count < length places = (let c = plan.count in omega (arith, g, w, c)) in
+      absurd (class_behind is count n i plan.layout (next is plan.place q) g at early)
+]
+
+pub capability_front : (G : Table) (is : List PlainInst) (places : List Place) (count : ℕ) → IsPlan G is places
+    → ((is : List PlainInst) → ArePlacesOf is places → count < length places → IsAt is count (class.Function ∷ []))
+    → (n : ℕ) (i : PlainInst) → slice_get is n ≡ Some i → i.opcode ≡ opcode.CAPABILITY → n < count
+unfolding rows
+capability_front G is places count plan next n i at e = front_by G is places count plan next n i at
+    (subst (λ (k : ℕ). is_late (class_of k) ≡ false) (sym e) refl)
+
+pub extension_front : (G : Table) (is : List PlainInst) (places : List Place) (count : ℕ) → IsPlan G is places
+    → ((is : List PlainInst) → ArePlacesOf is places → count < length places → IsAt is count (class.Function ∷ []))
+    → (n : ℕ) (i : PlainInst) → slice_get is n ≡ Some i → i.opcode ≡ opcode.EXTENSION → n < count
+unfolding rows
+extension_front G is places count plan next n i at e = front_by G is places count plan next n i at
+    (subst (λ (k : ℕ). is_late (class_of k) ≡ false) (sym e) refl)

@@ -5,7 +5,7 @@ use Rattle.std.proofs.lemmas.Bool.{cases_order}
 use Rattle.spv_table.specs.Table.{Table}
 use Rattle.spv_module.specs.Operand.{PlainInst}
 use Rattle.spv_module.specs.declared.fault.Rule.{Rule}
-use Rattle.spv_module.specs.declared.fault.Rule.TheVariants.{O4, O21, O22}
+use Rattle.spv_module.specs.declared.fault.Rule.TheVariants.{O4}
 use Rattle.spv_module.specs.declared.fault.Stop.{Stop}
 use Rattle.spv_module.specs.declared.fault.Stop.TheVariants.{Fault, Memory}
 use Rattle.spv_extended.specs.declared.reach.Reach.TheVariants.{OpenCl}
@@ -18,77 +18,58 @@ use Rattle.spv_declarations.specs.Broken as by_declarations
 use Rattle.spv_interfaces.specs.Broken as by_interfaces
 use Rattle.spv_interfaces.specs.Interface.{IsMisfaced}
 use Rattle.spv_interfaces.specs.inner.First as misfaced_first
-use Rattle.spv_kernel_operands.specs.Broken as by_operands
-use Rattle.spv_versions.specs.Broken as by_versions
-use Rattle.spv_versions.specs.Missing.{IsLateAt}
-use Rattle.spv_versions.specs.inner.First as late_first
-use Rattle.spv_limits.specs.Broken as by_limits
-use Rattle.spv_limits.specs.Past.{IsPast}
-use Rattle.spv_limits.specs.inner.First as past_first
 use Rattle.spv_standard.specs.Broken.{Broken, KernelBroken, IsRefusal}
 use Rattle.spv_standard.specs.declared.found.Found.{Found}
+use Rattle.spv_standard.specs.inner.Alone.{Alone}
 use Rattle.spv_standard.specs.inner.Earlier.{IsEarlier}
 use Rattle.spv_standard.specs.inner.First.{Either, IsFirstIn}
 use Rattle.spv_standard.specs.inner.Found.{found_by}
 use Rattle.spv_standard.proofs.Earlier.{earlier_first, first_same}
 
--- The rules of two crates, of three, of four, of five and of all, in the order in which the answers are put together.
+-- The rules on order and declarations, with those on interfaces, and all, in the order in which the answers are put
+-- together.
 abbrev Two : Table → List PlainInst → Rule → ℕ → Type 0
 Two G is = Either (by_order.Broken G is) (by_declarations.Broken G is)
 
 abbrev Three : Table → ℕ → List PlainInst → Rule → ℕ → Type 0
 Three G minor is = Either (Two G is) (by_interfaces.Broken G minor is)
 
-abbrev Four : Table → ℕ → List PlainInst → Rule → ℕ → Type 0
-Four G minor is = Either (Three G minor is) (by_operands.Broken G is)
-
-abbrev Five : Table → ℕ → List PlainInst → Rule → ℕ → Type 0
-Five G minor is = Either (Four G minor is) (by_versions.Broken G minor is)
-
 abbrev All : Table → ℕ → List PlainInst → Rule → ℕ → Type 0
-All G minor is = Either (Five G minor is) (by_limits.Broken is)
+All G minor is = Either (Three G minor is) (Alone G minor is)
 
 to_all : (G : Table) (minor : ℕ) (is : List PlainInst) (r : Rule) (n : ℕ) → All G minor is r n
     → KernelBroken G minor is r n
-to_all G minor is r n (inl (inl (inl (inl (inl b))))) = KernelBroken.of_order r n b
-to_all G minor is r n (inl (inl (inl (inl (inr b))))) = KernelBroken.of_declarations r n b
-to_all G minor is r n (inl (inl (inl (inr b)))) = KernelBroken.of_interfaces r n b
-to_all G minor is r n (inl (inl (inr b))) = KernelBroken.of_operands r n b
-to_all G minor is r n (inl (inr b)) = KernelBroken.of_versions r n b
-to_all G minor is r n (inr b) = KernelBroken.of_limits r n b
+to_all G minor is r n (inl (inl (inl b))) = KernelBroken.of_order r n b
+to_all G minor is r n (inl (inl (inr b))) = KernelBroken.of_declarations r n b
+to_all G minor is r n (inl (inr b)) = KernelBroken.of_interfaces r n b
+to_all G minor is r n (inr (inl (inl b))) = KernelBroken.of_operands r n b
+to_all G minor is r n (inr (inl (inr b))) = KernelBroken.of_versions r n b
+to_all G minor is r n (inr (inr b)) = KernelBroken.of_limits r n b
 
 of_all : (G : Table) (minor : ℕ) (is : List PlainInst) (r : Rule) (n : ℕ) → KernelBroken G minor is r n
     → All G minor is r n
-of_all G minor is _ _ (KernelBroken.of_order r n b) = inl (inl (inl (inl (inl b))))
-of_all G minor is _ _ (KernelBroken.of_declarations r n b) = inl (inl (inl (inl (inr b))))
-of_all G minor is _ _ (KernelBroken.of_interfaces r n b) = inl (inl (inl (inr b)))
-of_all G minor is _ _ (KernelBroken.of_operands r n b) = inl (inl (inr b))
-of_all G minor is _ _ (KernelBroken.of_versions r n b) = inl (inr b)
-of_all G minor is _ _ (KernelBroken.of_limits r n b) = inr b
+of_all G minor is _ _ (KernelBroken.of_order r n b) = inl (inl (inl b))
+of_all G minor is _ _ (KernelBroken.of_declarations r n b) = inl (inl (inr b))
+of_all G minor is _ _ (KernelBroken.of_interfaces r n b) = inl (inr b)
+of_all G minor is _ _ (KernelBroken.of_operands r n b) = inr (inl (inl b))
+of_all G minor is _ _ (KernelBroken.of_versions r n b) = inr (inl (inr b))
+of_all G minor is _ _ (KernelBroken.of_limits r n b) = inr (inr b)
 
--- what each crate answers, put together
+-- what is answered, put together
 pub record AreAnswers (G : Table) (minor : ℕ) (is : List PlainInst) (result : Option Found) : Type 0 where
   pub order : Option Found
   pub declarations : Option Found
   pub interfaces : Option Found
-  pub operands : Option Found
-  pub version : Option Found
-  pub limits : Option Found
+  pub alone : Option Found
   pub two : Option Found
   pub three : Option Found
-  pub four : Option Found
-  pub five : Option Found
   pub in_order : IsFirstIn (by_order.Broken G is) order
   pub in_declarations : IsFirstIn (by_declarations.Broken G is) declarations
   pub in_interfaces : IsFirstIn (by_interfaces.Broken G minor is) interfaces
-  pub in_operands : IsFirstIn (by_operands.Broken G is) operands
-  pub in_version : IsFirstIn (by_versions.Broken G minor is) version
-  pub in_limits : IsFirstIn (by_limits.Broken is) limits
+  pub in_insts : IsFirstIn (Alone G minor is) alone
   pub of_two : IsEarlier order declarations two
   pub of_three : IsEarlier two interfaces three
-  pub of_four : IsEarlier three operands four
-  pub of_five : IsEarlier four version five
-  pub of_all : IsEarlier five limits result
+  pub of_all : IsEarlier three alone result
 
 pub joined : (G : Table) (minor : ℕ) (is : List PlainInst) (result : Option Found) → AreAnswers G minor is result
     → IsFirstIn (KernelBroken G minor is) result
@@ -97,18 +78,14 @@ joined G minor is result a =
     a.in_order a.in_declarations a.of_two in
     let three = earlier_first (Two G is) (by_interfaces.Broken G minor is) a.two a.interfaces a.three two
     a.in_interfaces a.of_three in
-    let four = earlier_first (Three G minor is) (by_operands.Broken G is) a.three a.operands a.four three a.in_operands
-    a.of_four in
-    let five = earlier_first (Four G minor is) (by_versions.Broken G minor is) a.four a.version a.five four a.in_version
-    a.of_five in
-    let all = earlier_first (Five G minor is) (by_limits.Broken is) a.five a.limits result five a.in_limits a.of_all in
+    let all = earlier_first (Three G minor is) (Alone G minor is) a.three a.alone result three a.in_insts a.of_all in
     first_same (All G minor is) (KernelBroken G minor is) result (to_all G minor is) (of_all G minor is) all
 
--- the crates with one rule
+-- the crate with one rule
 abbrev OneBroken : Rule → (ℕ → Type 0) → Rule → ℕ → Type 0
 OneBroken r P q n = (q ≡ r) × P n
 
-one_first : (r : Rule) (P : ℕ → Type 0) (o : Option ℕ) → stage_of r ≡ of_standard → late_first.IsFirstOf P o
+one_first : (r : Rule) (P : ℕ → Type 0) (o : Option ℕ) → stage_of r ≡ of_standard → misfaced_first.IsFirstOf P o
     → IsFirstIn (OneBroken r P) (found_by r o)
 one_first r P None s none = λ q n t b. none n b.1
 one_first r P (Some n) s first = record {
@@ -119,21 +96,6 @@ one_first r P (Some n) s first = record {
     | inr apart ↦ elim apart [ inl less ↦ inl less | inr more ↦ absurd (first.1 m more b.1) ]
   ];
 }
-
-to_late : (G : Table) (minor : ℕ) (is : List PlainInst) (q : Rule) (n : ℕ) → OneBroken O21 (IsLateAt G minor is) q n
-    → by_versions.Broken G minor is q n
-to_late G minor is q n b =
-    subst (λ (r : Rule). by_versions.Broken G minor is r n) (sym b.0) (by_versions.late n b.1)
-
-of_late : (G : Table) (minor : ℕ) (is : List PlainInst) (q : Rule) (n : ℕ) → by_versions.Broken G minor is q n
-    → OneBroken O21 (IsLateAt G minor is) q n
-of_late G minor is _ _ (by_versions.late n h) = (refl, h)
-
-pub version_first : (G : Table) (minor : ℕ) (is : List PlainInst) (o : Option ℕ)
-    → late_first.IsFirstOf (IsLateAt G minor is) o → IsFirstIn (by_versions.Broken G minor is) (found_by O21 o)
-version_first G minor is o h =
-    first_same (OneBroken O21 (IsLateAt G minor is)) (by_versions.Broken G minor is) (found_by O21 o)
-    (to_late G minor is) (of_late G minor is) (one_first O21 (IsLateAt G minor is) o refl h)
 
 to_misfaced : (G : Table) (minor : ℕ) (is : List PlainInst) (q : Rule) (n : ℕ)
     → OneBroken O4 (IsMisfaced G minor is) q n → by_interfaces.Broken G minor is q n
@@ -149,18 +111,6 @@ pub interfaces_first : (G : Table) (minor : ℕ) (is : List PlainInst) (o : Opti
 interfaces_first G minor is o h =
     first_same (OneBroken O4 (IsMisfaced G minor is)) (by_interfaces.Broken G minor is) (found_by O4 o)
     (to_misfaced G minor is) (of_misfaced G minor is) (one_first O4 (IsMisfaced G minor is) o refl h)
-
-to_past : (is : List PlainInst) (q : Rule) (n : ℕ) → OneBroken O22 (IsPast is) q n → by_limits.Broken is q n
-to_past is q n b = subst (λ (r : Rule). by_limits.Broken is r n) (sym b.0) (by_limits.past n b.1)
-
-of_past : (is : List PlainInst) (q : Rule) (n : ℕ) → by_limits.Broken is q n → OneBroken O22 (IsPast is) q n
-of_past is _ _ (by_limits.past n h) = (refl, h)
-
-pub limits_first : (is : List PlainInst) (o : Option ℕ) → past_first.IsFirstOf (IsPast is) o
-    → IsFirstIn (by_limits.Broken is) (found_by O22 o)
-limits_first is o h =
-    first_same (OneBroken O22 (IsPast is)) (by_limits.Broken is) (found_by O22 o) (to_past is) (of_past is)
-    (one_first O22 (IsPast is) o refl h)
 
 -- what is told
 stage_by : (G : Table) (minor : ℕ) (is : List PlainInst) (o : Option Found) → o ≡ None

@@ -71,11 +71,11 @@ declarations_within G is _ _ (declarations.half_built_in n h) = half_within is n
 declarations_within G is _ _ (declarations.forward_elsewhere n h) = at_within is _ n h
 declarations_within G is _ _ (declarations.incapable n h) = at_within is _ n h
 
-versions_within : (G : Table) (minor : ℕ) (is : List PlainInst) (r : Rule) (n : ℕ) → versions.Broken G minor is r n
+pub versions_within : (G : Table) (minor : ℕ) (is : List PlainInst) (r : Rule) (n : ℕ) → versions.Broken G minor is r n
     → n < length is
 versions_within G minor is _ _ (versions.late n h) = slice_get_within is n h.0 h.1
 
-limits_within : (is : List PlainInst) (r : Rule) (n : ℕ) → limits.Broken is r n → n < length is
+pub limits_within : (is : List PlainInst) (r : Rule) (n : ℕ) → limits.Broken is r n → n < length is
 limits_within is _ _ (limits.past n h) = slice_get_within is n h.0 h.1
 
 pub kernel_within : (G : Table) (minor : ℕ) (is : List PlainInst) (r : Rule) (n : ℕ) → KernelBroken G minor is r n

@@ -6,7 +6,7 @@ ghost use Rattle.spv_module.specs.declared.fault.Rule.{Rule};
 ghost use Rattle.spv_layout.specs.First.{IsUnbroken};
 ghost use Rattle.spv_layout.specs.Place.{IsShort};
 ghost use Rattle.spv_layout.specs.Plan.{IsPlan};
-ghost use Rattle.spv_layout.specs.Stage.{of_branches};
+ghost use Rattle.spv_layout.specs.Stage.{of_branches, of_values};
 ghost use Rattle.spv_ids.specs.Outcome.{AreIds};
 ghost use Rattle.spv_flow.specs.branches.Broken as flow;
 ghost use Rattle.spv_flow.specs.declared.branches.fork.Fork.{Fork};
@@ -14,15 +14,17 @@ ghost use Rattle.spv_limits.specs.Depth.{AreLower};
 ghost use Rattle.spv_standard.specs.Broken.{Broken, KernelBroken, IsRefusal};
 ghost use Rattle.spv_standard.specs.inner.First.{IsFirstIn};
 
+use crate::alone::first_alone;
 use crate::found::{Found, earlier};
-use crate::passes::{in_declarations, in_interfaces, in_limits, in_operands, in_order, in_version};
-use spv_capabilities::Survey;
+use crate::passes::{in_declarations, in_interfaces, in_order};
+use spv_capabilities::Capabilities;
 use spv_extended::Reach;
 use spv_ids::Ids;
 use spv_layout::Plan;
 use spv_module::{Module, Stop};
 use spv_table::{Memory, Table};
 use spv_type_forms::Definitions;
+use spv_versions::Late;
 use std::alloc::Global;
 
 /// The first rule of stage O that a kernel of version 1.`minor` breaks: by instruction, and at one instruction by
@@ -38,26 +40,25 @@ fn first_broken(
     requires words { IsShort (plain_insts «module».now) }
     requires plan { IsPlan table.now (plain_insts «module».now) plan.now }
     requires ids { AreIds table.now «module».now.header.bound (plain_insts «module».now) ids.now }
-    requires branches { (fork : Fork)
-        × IsUnbroken (flow.Broken fork table.now (plain_insts «module».now)) of_branches }
+    requires flow { (fork : Fork)
+        × IsUnbroken (flow.Broken fork table.now (plain_insts «module».now)) of_branches
+        × IsUnbroken (flow.Broken fork table.now (plain_insts «module».now)) of_values }
     requires structs { AreLower (plain_insts «module».now) }
     ensures { IfOk result (IsFirstIn (KernelBroken table.now minor (plain_insts «module».now))) }
 {
     let insts = module.insts.as_slice();
     let count = insts.len() as u32;
-    let survey = Survey::new(alloc, table, insts, plan, ids)?;
+    let front = plan.before_functions();
+    let capabilities = Capabilities::new(alloc, table, insts, front)?;
     let definitions = Definitions::new(insts, plan, ids);
+    let late = Late::of(table, &definitions, minor, front);
     let order = in_order(alloc, module, plan, ids)?;
-    let declarations = in_declarations(alloc, &survey, insts, plan, ids)?;
+    let declarations = in_declarations(alloc, &capabilities, insts, plan, ids)?;
     let interfaces = in_interfaces(alloc, &definitions, insts, plan, ids, minor)?;
-    let operands = in_operands(alloc, &survey, &definitions, count)?;
-    let version = in_version(table, &definitions, minor, count);
-    let limits = in_limits(alloc, &definitions, count)?;
+    let alone = first_alone(alloc, &capabilities, &definitions, &late, count)?;
     let found = earlier(order, declarations);
     let found = earlier(found, interfaces);
-    let found = earlier(found, operands);
-    let found = earlier(found, version);
-    Ok(earlier(found, limits))
+    Ok(earlier(found, alone))
 }
 
 /// Looks at what the standard asks of a kernel of OpenCL besides (SPIR-V Specification 1.6), if a module is looked at
@@ -66,8 +67,7 @@ fn first_broken(
 ///
 /// A `Fault` tells the first rule of stage O that is broken, by instruction and at one instruction by number, with that
 /// instruction's first word (words and instructions from 0): O1 and O2 as `check_order` tells them, O3 and O5 to O13 as
-/// `first_misdeclared`, O4 as `first_misfaced`, O14 to O20 and O23 as `first_found`, O21 as `first_late`, and O22 as
-/// `first_past`.
+/// `first_misdeclared`, O4 as `first_misfaced`, O14 to O20 and O23 as `broken_at`, O21 as `Late`, and O22 as `Counts`.
 ///
 /// `Memory` comes only where a growth of memory was refused.
 pub fn standard_check(
@@ -78,13 +78,14 @@ pub fn standard_check(
     plan: &Plan,
     ids: &Ids,
 ) -> Result<(), Stop>
-    // What the stages before have found: of them O1 takes that branches lead to blocks, and O22 that the structs that
-    // are members of a struct stand before it.
+    // What the stages before have found: of them O1 takes that branches lead to blocks, O2 that values are defined on
+    // each walk to their uses, and O22 that the structs that are members of a struct stand before it.
     requires words { IsShort (plain_insts «module».now) }
     requires plan { IsPlan table.now (plain_insts «module».now) plan.now }
     requires ids { AreIds table.now «module».now.header.bound (plain_insts «module».now) ids.now }
-    requires branches { (fork : Fork)
-        × IsUnbroken (flow.Broken fork table.now (plain_insts «module».now)) of_branches }
+    requires flow { (fork : Fork)
+        × IsUnbroken (flow.Broken fork table.now (plain_insts «module».now)) of_branches
+        × IsUnbroken (flow.Broken fork table.now (plain_insts «module».now)) of_values }
     requires structs { AreLower (plain_insts «module».now) }
     ensures unbroken { IfOk result (λ _. (r : Rule) (n : ℕ)
         → ¬ (Broken table.now reach (plain_insts «module».now) r n)) }

@@ -2,9 +2,12 @@
 //! Specification 1.6, sections 2.4, 2.16, 2.17 and 3).
 #![tactic(auto)]
 
+mod alone;
+mod asked;
 mod check;
 mod found;
 pub mod laws;
 mod passes;
+mod textless;
 
 pub use check::standard_check;

@@ -6,32 +6,25 @@ ghost use Rattle.spv_module.specs.Module.{plain_inst, plain_insts};
 ghost use Rattle.spv_layout.specs.First.{IsUnbroken};
 ghost use Rattle.spv_layout.specs.Place.{AreFew, IsShort};
 ghost use Rattle.spv_layout.specs.Plan.{IsPlan};
-ghost use Rattle.spv_layout.specs.Stage.{of_branches};
+ghost use Rattle.spv_layout.specs.Stage.{of_branches, of_values};
 ghost use Rattle.spv_ids.specs.Outcome.{AreIds, IsDefinitionOf, definition_in};
 ghost use Rattle.spv_flow.specs.branches.Broken as flow;
 ghost use Rattle.spv_flow.specs.declared.branches.fork.Fork.{Fork};
 ghost use Rattle.spv_block_order.specs.Broken as order;
 ghost use Rattle.spv_interfaces.specs.Broken as interfaces;
 ghost use Rattle.spv_declarations.specs.Broken as declarations;
-ghost use Rattle.spv_kernel_operands.specs.Broken as operands;
-ghost use Rattle.spv_versions.specs.Broken as versions;
-ghost use Rattle.spv_limits.specs.Broken as limits;
-ghost use Rattle.spv_limits.specs.Depth.{AreLower};
 ghost use Rattle.spv_standard.specs.inner.First.{IsFirstIn};
 
 use crate::found::{Found, found_by};
 use spv_block_order::check_order;
-use spv_capabilities::Survey;
+use spv_capabilities::Capabilities;
 use spv_declarations::first_misdeclared;
 use spv_ids::Ids;
 use spv_interfaces::first_misfaced;
-use spv_kernel_operands::first_found;
 use spv_layout::Plan;
-use spv_limits::first_past;
 use spv_module::{Inst, Module, Rule, Stop};
-use spv_table::{Memory, Table};
+use spv_table::Memory;
 use spv_type_forms::Definitions;
-use spv_versions::first_late;
 use std::alloc::Global;
 
 /// The first of O1 and O2 that is broken.
@@ -44,10 +37,12 @@ pub fn in_order(
     requires words { IsShort (plain_insts «module».now) }
     requires known { (fork : Fork) × (G : Table) × IsPlan G (plain_insts «module».now) plan.now
         × AreIds G «module».now.header.bound (plain_insts «module».now) ids.now
-        × IsUnbroken (flow.Broken fork G (plain_insts «module».now)) of_branches }
+        × IsUnbroken (flow.Broken fork G (plain_insts «module».now)) of_branches
+        × IsUnbroken (flow.Broken fork G (plain_insts «module».now)) of_values }
     ensures { (fork : Fork) (G : Table) → IsPlan G (plain_insts «module».now) plan.now
         → AreIds G «module».now.header.bound (plain_insts «module».now) ids.now
         → IsUnbroken (flow.Broken fork G (plain_insts «module».now)) of_branches
+        → IsUnbroken (flow.Broken fork G (plain_insts «module».now)) of_values
         → IfOk result (IsFirstIn (order.Broken G (plain_insts «module».now))) }
 {
     match check_order(alloc, module, plan, ids) {
@@ -63,18 +58,18 @@ pub fn in_order(
 /// The first of O3 and O5 to O13 that is broken.
 pub fn in_declarations(
     alloc: Global,
-    survey: &Survey<'_, '_>,
+    capabilities: &Capabilities<'_, '_>,
     insts: &[Inst<'_>],
     plan: &Plan,
     ids: &Ids,
 ) -> Result<Option<Found>, Memory>
     requires few { AreFew insts.now }
-    requires plan { IsPlan survey.now.table (map plain_inst insts.now) plan.now }
+    requires plan { IsPlan capabilities.now.table (map plain_inst insts.now) plan.now }
     requires ids { (x : ℕ) → IsDefinitionOf (map plain_inst insts.now) x (definition_in ids.now x) }
-    requires survey { survey.now.insts ≡ map plain_inst insts.now }
-    ensures { IfOk result (IsFirstIn (declarations.Broken survey.now.table survey.now.insts)) }
+    requires survey { capabilities.now.insts ≡ map plain_inst insts.now }
+    ensures { IfOk result (IsFirstIn (declarations.Broken capabilities.now.table capabilities.now.insts)) }
 {
-    match first_misdeclared(alloc, survey, insts, plan, ids)? {
+    match first_misdeclared(alloc, capabilities, insts, plan, ids)? {
         Some(found) => Ok(Some(Found {
             rule: found.rule,
             inst: found.inst,
@@ -103,45 +98,4 @@ pub fn in_interfaces(
         Rule::O4,
         first_misfaced(alloc, definitions, insts, plan, ids, minor)?,
     ))
-}
-
-/// The first of O14 to O20 and O23 that is broken. `count` is how many instructions there are.
-pub fn in_operands(
-    alloc: Global,
-    survey: &Survey<'_, '_>,
-    definitions: &Definitions,
-    count: u32,
-) -> Result<Option<Found>, Memory>
-    requires same { survey.now.insts ≡ definitions.now }
-    requires count { count ≡ length definitions.now }
-    ensures { IfOk result (IsFirstIn (operands.Broken survey.now.table definitions.now)) }
-{
-    match first_found(alloc, survey, definitions, count)? {
-        Some(found) => Ok(Some(Found {
-            rule: found.rule,
-            inst: found.inst,
-        })),
-        None => Ok(None),
-    }
-}
-
-/// Where O21 is first broken in a module of version 1.`minor`. `count` is how many instructions there are.
-pub fn in_version(table: &Table, definitions: &Definitions, minor: u8, count: u32) -> Option<Found>
-    requires { count ≡ length definitions.now }
-    ensures { IsFirstIn (versions.Broken table.now minor definitions.now) result }
-{
-    found_by(Rule::O21, first_late(table, definitions, minor, count))
-}
-
-/// Where O22 is first broken. `count` is how many instructions there are.
-pub fn in_limits(
-    alloc: Global,
-    definitions: &Definitions,
-    count: u32,
-) -> Result<Option<Found>, Memory>
-    requires count { count ≡ length definitions.now }
-    requires lower { AreLower definitions.now }
-    ensures { IfOk result (IsFirstIn (limits.Broken definitions.now)) }
-{
-    Ok(found_by(Rule::O22, first_past(alloc, definitions, count)?))
 }

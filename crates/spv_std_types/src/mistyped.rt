@@ -106,6 +106,7 @@ fn failing_inst(definitions: &Definitions, inst: &Inst<'_>) -> Option<Condition>
 /// line of the table that does not hold. None where it does not break it. `number` is that of the instruction, from 0.
 ///
 /// It takes no memory, and its time does not depend on the module.
+#[inline(always)]
 pub fn mistyping_at(definitions: &Definitions, number: u32) -> Option<Condition>
     requires { number < length definitions.now }
     ensures { MatchOption result (¬ (IsMistyped definitions.now number)) (IsMistypedBy definitions.now number) }
