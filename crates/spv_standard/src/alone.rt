@@ -142,7 +142,15 @@ fn found_at(
     if asked.is_nothing() {
         return Ok(None);
     }
-    found_by_all(alloc, capabilities, definitions, late, counts, number, asked)
+    found_by_all(
+        alloc,
+        capabilities,
+        definitions,
+        late,
+        counts,
+        number,
+        asked,
+    )
 }
 
 /// The first of the rules O14 to O23 that is broken, by instruction and then by number. `late` is what the module has too

@@ -47,6 +47,7 @@ fn asked_of(late: &Late, opcode: u16) -> Asked
 const NOTED: usize = 512;
 
 /// What is noted of the opcodes below that number.
+#[derive(Drop)]
 pub struct Notes {
     notes: [Option<Asked>; NOTED],
 }

@@ -8,7 +8,7 @@ use Rattle.spv_kernel_operands.specs.Broken as operands
 use Rattle.spv_versions.specs.Missing.{IsLateAt}
 use Rattle.spv_limits.specs.Past.{IsPast}
 use Rattle.spv_limits.specs.inner.Counting.{IsUpTo}
-use Rattle.spv_limits.specs.declared.counts.Counts.{Counts}
+use Rattle.spv_limits.specs.declared.past.Counts.{Counts}
 use Rattle.spv_standard.specs.declared.asked.Asked.{Asked}
 
 -- each instruction fits its row

@@ -64,11 +64,12 @@ standard_check-requires-clause-plan c = c.in-Ok.ensures.plan
 pub standard_check-requires-clause-ids : goal.standard_check-requires-clause-ids
 standard_check-requires-clause-ids c = c.in-Ok-number.ensures.ids c.args.table.now c.in-Ok.ensures.plan
 
-pub standard_check-requires-clause-branches : goal.standard_check-requires-clause-branches
-standard_check-requires-clause-branches c =
+pub standard_check-requires-clause-flow : goal.standard_check-requires-clause-flow
+standard_check-requires-clause-flow c =
     let G = c.args.table.now in
     let plan = c.in-Ok.ensures.plan in
-    (c.fork_of.result, (c.in-Ok-flow_check.ensures.flow G plan (c.in-Ok-number.ensures.ids G plan)).branches)
+    let flow = c.in-Ok-flow_check.ensures.flow G plan (c.in-Ok-number.ensures.ids G plan) in
+    (c.fork_of.result, flow.branches, flow.values)
 
 pub standard_check-requires-clause-structs : goal.standard_check-requires-clause-structs
 standard_check-requires-clause-structs c =
