@@ -1,7 +1,7 @@
 -- The first broken rule, of the first block that stands early and the first use that does.
-use Rattle.std.proofs.Common.{◌≡◌, ◌<◌, ◌≤◌, ◌⊎◌, ◌∙◌, ℕ, List, Some, None, length, refl, sym, ap, subst, inl, inr}
+use Rattle.std.proofs.Common.{◌≡◌, ◌<◌, ◌≤◌, ◌⊎◌, ◌∙◌, ℕ, List, Some, None, sym, ap, subst, inl, inr}
 use Rattle.std.proofs.Common.{arith}
-use Rattle.std.proofs.lemmas.Bool.{cases_order}
+use Rattle.std.proofs.lemmas.Bool.{cases_lt}
 use Rattle.spv_table.specs.Table.{Table}
 use Rattle.spv_module.specs.Operand.{PlainInst}
 use Rattle.spv_module.specs.declared.fault.Rule.{Rule}
@@ -9,93 +9,119 @@ use Rattle.spv_module.specs.declared.fault.Rule.TheVariants.{O1, O2}
 use Rattle.spv_module.specs.declared.fault.Stop.{Stop}
 use Rattle.spv_module.specs.declared.fault.Stop.TheVariants.{Fault, Memory}
 use Rattle.spv_layout.specs.Stage.{of_standard}
-use Rattle.spv_layout.specs.First.{rank_of, IsFirst, IsUnbroken}
-use Rattle.spv_layout.specs.Place.{first_word_of}
+use Rattle.spv_layout.specs.First.{rank_of, IsFirst}
+use Rattle.spv_layout.specs.Place.{first_word_of, IsOfFunction}
 use Rattle.spv_layout.specs.inner.Outcome.{IsStopAt}
-use Rattle.spv_block_order.specs.Early.{IsEarlyUse}
+use Rattle.spv_flow.specs.walks.inner.Starts.{IsExtent}
+use Rattle.spv_block_order.specs.Early.{IsEarlyIn, IsEarlyBlock, IsEarlyUse}
 use Rattle.spv_block_order.specs.Broken.{Broken, IsRefusal}
-use Rattle.spv_block_order.specs.inner.First.{IsFirstBlock, IsFirstUse}
+use Rattle.spv_block_order.specs.inner.First.{IsFirstIn, IsFirstUse, IsFoundIn, IsFoundFirst}
+use Rattle.spv_block_order.proofs.Bridging.{early_function, of_function}
 
--- an instruction that uses a value early is there
-pub use_there : (G : Table) (is : List PlainInst) (n : ℕ) → IsEarlyUse G is n → n < length is
-use_there G is n early = early.of.begun.within
+-- a block that stands early, of the function
+early_in : (G : Table) (is : List PlainInst) (f n : ℕ) → IsOfFunction is n f → IsEarlyBlock G is n → IsEarlyIn G is f n
+early_in G is f n of (g, e) =
+    subst (λ (k : ℕ). IsEarlyIn G is k n) (early_function G is g f n e of) e
 
--- what is broken at no instruction before n, and at n is no less than r
-least_by : (G : Table) (is : List PlainInst) (r : Rule) (n : ℕ) → ((q : Rule) (m : ℕ) → m < n → ¬ (Broken G is q m))
-    → ((q : Rule) → Broken G is q n → rank_of r ≤ rank_of q) → (q : Rule) (m : ℕ) → Broken G is q m
-    → (n < m) ⊎ ((n ≡ m) × (rank_of r ≤ rank_of q))
-least_by G is r n before here q m b = elim (cases_order n m) [
-  | inl same ↦ inr (same, here q (subst (λ (k : ℕ). Broken G is q k) (sym same) b))
-  | inr apart ↦ elim apart [
-    | inl less ↦ inl less
-    | inr more ↦ absurd (before q m more b)
-  ]
+-- the first block that stands early is before the function's end
+pub label_before : (G : Table) (is : List PlainInst) (f end n : ℕ) → IsExtent is f end → IsFirstIn G is f (Some n)
+    → n < end
+label_before G is f end n x first = (x.all n (of_function G is f n first.0)).1
+
+-- this number is lower than another, or the same, where a rank is no greater
+or_same : (n m a b : ℕ) → n ≤ m → (n ≡ m → a ≤ b) → (n < m) ⊎ ((n ≡ m) × (a ≤ b))
+or_same n m a b le ranks = elim (cases_lt n m) [
+  | inl less ↦ inl less
+  | inr more ↦ (let same : n ≡ m = omega (arith, le, more) in inr (same, ranks same))
 ]
 
-rank_of_block : (G : Table) (is : List PlainInst) (n : ℕ) (q : Rule) → Broken G is q n → rank_of O1 ≤ rank_of q
-rank_of_block G is _ _ (Broken.early_block n e) = omega arith
-rank_of_block G is _ _ (Broken.early_use n u) = omega arith
+-- a use is no lower than the first
+use_from : (G : Table) (is : List PlainInst) (f limit n m : ℕ) → IsFirstUse G is f limit (Some n) → f ≤ m
+    → IsEarlyUse G is m → n ≤ m
+use_from G is f limit n m first from u = elim (cases_lt m n) [
+  | inl less ↦ (let lt = first.0.1 in absurd (first.1 m less (from, omega (arith, less, lt), u)))
+  | inr more ↦ more
+]
 
-rank_of_use : (G : Table) (is : List PlainInst) (n : ℕ) → ¬ (Broken G is O1 n) → (q : Rule) → Broken G is q n
-    → rank_of O2 ≤ rank_of q
-rank_of_use G is _ none _ (Broken.early_block n e) = absurd (none (Broken.early_block n e))
-rank_of_use G is _ none _ (Broken.early_use n u) = omega arith
+use_past : (G : Table) (is : List PlainInst) (f limit m : ℕ) → IsFirstUse G is f limit None → f ≤ m
+    → IsEarlyUse G is m → limit ≤ m
+use_past G is f limit m none from u = elim (cases_lt m limit) [
+  | inl less ↦ absurd (none m (from, less, u))
+  | inr more ↦ more
+]
 
-none_before : (G : Table) (is : List PlainInst) (n : ℕ) → ((m : ℕ) → m < n → ¬ (Broken G is O1 m))
-    → ((m : ℕ) → m < n → ¬ (IsEarlyUse G is m)) → (q : Rule) (m : ℕ) → m < n → ¬ (Broken G is q m)
-none_before G is n blocks uses _ _ lt (Broken.early_block m e) = blocks m lt (Broken.early_block m e)
-none_before G is n blocks uses _ _ lt (Broken.early_use m u) = uses m lt u
+block_from : (G : Table) (is : List PlainInst) (f n m : ℕ) → IsFirstIn G is f (Some n) → IsOfFunction is m f
+    → IsEarlyBlock G is m → n ≤ m
+block_from G is f n m first of e = elim (cases_lt m n) [
+  | inl less ↦ absurd (first.1 m less (early_in G is f m of e))
+  | inr more ↦ more
+]
 
-block_only : (G : Table) (is : List PlainInst) (m n : ℕ) → IsFirstBlock G is (Some n) → m < n → ¬ (Broken G is O1 m)
-block_only G is _ n first lt (Broken.early_block m e) = first.1 m lt e
+-- What is found in a function, by rule.
 
-block_none : (G : Table) (is : List PlainInst) (m : ℕ) → IsFirstBlock G is None → ¬ (Broken G is O1 m)
-block_none G is _ none (Broken.early_block m e) = none m e
+use_least : (G : Table) (is : List PlainInst) (f end limit n : ℕ) → IsExtent is f end
+    → IsFirstUse G is f limit (Some n)
+    → ((m : ℕ) → IsOfFunction is m f → IsEarlyBlock G is m → limit ≤ m) → (q : Rule) (m : ℕ) → IsOfFunction is m f
+    → Broken G is q m → (n < m) ⊎ ((n ≡ m) × (rank_of O2 ≤ rank_of q))
+use_least G is f end limit n x first blocks _ _ of (Broken.early_block m e) =
+    let le = blocks m of e in
+    let lt = first.0.1 in
+    inl (omega (arith, le, lt))
+use_least G is f end limit n x first blocks _ _ of (Broken.early_use m u) =
+    or_same n m (rank_of O2) (rank_of O2) (use_from G is f limit n m first (x.all m of).0 u) (λ same. omega arith)
 
--- the block comes first, where no use before it is early
-pub first_of_block : (G : Table) (is : List PlainInst) (n : ℕ) → IsFirstBlock G is (Some n) → IsFirstUse G is n None
-    → IsFirst (Broken G is) of_standard O1 n
-first_of_block G is n first none = record {
-  of_stage = refl;
-  broken = Broken.early_block n first.0;
-  least = λ q m s b. least_by G is O1 n
-      (none_before G is n (λ k lt. block_only G is k n first lt) (λ k lt u. none k (lt, u)))
-      (rank_of_block G is n) q m b;
-}
-
--- the use comes first, where no block up to it is early
-pub first_of_use : (G : Table) (is : List PlainInst) (limit n : ℕ) → IsFirstUse G is limit (Some n)
-    → ((m : ℕ) → m < limit → ¬ (Broken G is O1 m)) → IsFirst (Broken G is) of_standard O2 n
-first_of_use G is limit n first none =
-    let lt = first.0.0 in
+-- the use comes first, where no block below the limit is early
+found_use : (G : Table) (is : List PlainInst) (f end limit n : ℕ) → IsExtent is f end → limit ≤ end
+    → IsFirstUse G is f limit (Some n) → ((m : ℕ) → IsOfFunction is m f → IsEarlyBlock G is m → limit ≤ m)
+    → IsFoundIn G is f (record { rule = O2; inst = n })
+found_use G is f end limit n x within first blocks =
+    let lt = first.0.1 in
     record {
-      of_stage = refl;
-      broken = Broken.early_use n first.0.1;
-      least = λ q m s b. least_by G is O2 n
-          (none_before G is n (λ k less. none k (omega (arith, less, lt)))
-          (λ k less u. first.1 k less (omega (arith, less, lt), u)))
-          (rank_of_use G is n (none n lt)) q m b;
+      broken = Broken.early_use n first.0.2;
+      of = x.of n first.0.0 (omega (arith, lt, within));
+      least = use_least G is f end limit n x first blocks;
     }
 
-pub before_block : (G : Table) (is : List PlainInst) (n : ℕ) → IsFirstBlock G is (Some n) → (m : ℕ) → m < n
-    → ¬ (Broken G is O1 m)
-before_block G is n first m lt = block_only G is m n first lt
+pub found_use_below : (G : Table) (is : List PlainInst) (f end limit n : ℕ) → IsExtent is f end
+    → IsFirstIn G is f (Some limit) → IsFirstUse G is f limit (Some n)
+    → IsFoundFirst G is f (Some (record { rule = O2; inst = n }))
+found_use_below G is f end limit n x label first =
+    let lt = label_before G is f end limit x label in
+    found_use G is f end limit n x (omega (arith, lt)) first
+    (λ m of e. block_from G is f limit m label of e)
 
-pub before_none : (G : Table) (is : List PlainInst) (n : ℕ) → IsFirstBlock G is None → (m : ℕ) → m < n
-    → ¬ (Broken G is O1 m)
-before_none G is n none m lt = block_none G is m none
+pub found_use_alone : (G : Table) (is : List PlainInst) (f end n : ℕ) → IsExtent is f end → IsFirstIn G is f None
+    → IsFirstUse G is f end (Some n) → IsFoundFirst G is f (Some (record { rule = O2; inst = n }))
+found_use_alone G is f end n x none first =
+    found_use G is f end end n x (omega arith) first (λ m of e. absurd (none m (early_in G is f m of e)))
+
+block_least : (G : Table) (is : List PlainInst) (f end n : ℕ) → IsExtent is f end → IsFirstIn G is f (Some n)
+    → IsFirstUse G is f n None → (q : Rule) (m : ℕ) → IsOfFunction is m f → Broken G is q m
+    → (n < m) ⊎ ((n ≡ m) × (rank_of O1 ≤ rank_of q))
+block_least G is f end n x first none _ _ of (Broken.early_block m e) =
+    or_same n m (rank_of O1) (rank_of O1) (block_from G is f n m first of e) (λ same. omega arith)
+block_least G is f end n x first none _ _ of (Broken.early_use m u) =
+    or_same n m (rank_of O1) (rank_of O2) (use_past G is f n m none (x.all m of).0 u) (λ same. omega arith)
+
+-- the block comes first, where no use before it is early
+pub found_block : (G : Table) (is : List PlainInst) (f end n : ℕ) → IsExtent is f end → IsFirstIn G is f (Some n)
+    → IsFirstUse G is f n None → IsFoundFirst G is f (Some (record { rule = O1; inst = n }))
+found_block G is f end n x first none = record {
+  broken = Broken.early_block n (f, first.0);
+  of = of_function G is f n first.0;
+  least = block_least G is f end n x first none;
+}
 
 -- where neither is, no rule is broken
-neither : (G : Table) (is : List PlainInst) (limit : ℕ) → length is ≤ limit → IsFirstBlock G is None
-    → IsFirstUse G is limit None → (q : Rule) (m : ℕ) → ¬ (Broken G is q m)
-neither G is limit all blocks uses _ _ (Broken.early_block m e) = blocks m e
-neither G is limit all blocks uses _ _ (Broken.early_use m u) =
-    let lt = use_there G is m u in
-    uses m (omega (arith, lt, all), u)
+neither : (G : Table) (is : List PlainInst) (f end : ℕ) → IsExtent is f end → IsFirstIn G is f None
+    → IsFirstUse G is f end None → (q : Rule) (m : ℕ) → IsOfFunction is m f → ¬ (Broken G is q m)
+neither G is f end x blocks uses _ _ of (Broken.early_block m e) = blocks m (early_in G is f m of e)
+neither G is f end x blocks uses _ _ of (Broken.early_use m u) =
+    let r = x.all m of in uses m (r.0, r.1, u)
 
-pub unbroken_by : (G : Table) (is : List PlainInst) (limit : ℕ) → length is ≤ limit → IsFirstBlock G is None
-    → IsFirstUse G is limit None → IsUnbroken (Broken G is) of_standard
-unbroken_by G is limit all blocks uses = λ r n s b. neither G is limit all blocks uses r n b
+pub found_none : (G : Table) (is : List PlainInst) (f end : ℕ) → IsExtent is f end → IsFirstIn G is f None
+    → IsFirstUse G is f end None → IsFoundFirst G is f None
+found_none G is f end x blocks uses = neither G is f end x blocks uses
 
 -- what is told of the first
 pub told : (G : Table) (is : List PlainInst) (r : Rule) (n : ℕ) (stop : Stop)

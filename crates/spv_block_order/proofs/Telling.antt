@@ -1,98 +1,112 @@
 -- From function to function.
-use Rattle.std.proofs.Common.{◌≡◌, ◌<◌, ◌≤◌, ◌+◌, ℕ, List, Some, None, length, subst, inl, inr, arith}
+use Rattle.std.proofs.Common.{◌≡◌, ◌<◌, ◌≤◌, ◌+◌, ℕ, List, Some, None, length, refl, subst, inl, inr, arith}
 use Rattle.std.specs.Prelude.{slice_get}
 use Rattle.std.proofs.lemmas.Bool.{cases_lt, cases_order, eqb-true}
-use Rattle.std.proofs.lemmas.Option.{slice_get_within}
 use Rattle.spv_module.specs.declared.opcode.TheConstants as opcode
+use Rattle.spv_module.specs.declared.fault.Rule.{Rule}
 use Rattle.spv_table.specs.Table.{Table}
 use Rattle.spv_module.specs.Operand.{PlainInst}
+use Rattle.spv_layout.specs.Stage.{of_standard}
+use Rattle.spv_layout.specs.First.{stage_of}
 use Rattle.spv_layout.specs.Place.{IsOfFunction}
 use Rattle.spv_flow.specs.branches.Target.{IsOp}
 use Rattle.spv_flow.specs.branches.inner.Target.{is_function}
-use Rattle.spv_flow.specs.branches.Walk.{IsWalk}
 use Rattle.spv_flow.specs.declared.walks.code.Code.{Code}
 use Rattle.spv_flow.specs.walks.inner.Code.{insts_of, IsCode}
 use Rattle.spv_flow.specs.walks.inner.Starts.{IsExtent}
-use Rattle.spv_flow.proofs.lemmas.branches.Firsts.{holds}
 use Rattle.spv_flow.proofs.lemmas.branches.Labelled.{op_tells}
-use Rattle.spv_flow.proofs.lemmas.walks.Places.{function_at}
+use Rattle.spv_flow.proofs.lemmas.walks.Alone.{function_op}
 use Rattle.spv_flow.proofs.lemmas.walks.Deciding.{walk_within}
-use Rattle.spv_block_order.specs.Early.{IsEarlyIn, IsEarlyBlock}
-use Rattle.spv_block_order.specs.inner.First.{IsFirstIn, IsFirstBlock}
+use Rattle.spv_block_order.specs.declared.faults.Found.{Found}
+use Rattle.spv_block_order.specs.Broken.{Broken}
+use Rattle.spv_block_order.specs.inner.First.{IsFoundIn, IsFoundFirst, IsFirstFound}
+use Rattle.spv_block_order.specs.inner.Rising.{IsSound, IsLate}
+use Rattle.spv_block_order.proofs.Standing.{block_function}
 
--- No block stands early of the functions whose OpFunction is before instruction n.
-pub record AreInOrder (c : Code) (n : ℕ) : Type 0 where
-  pub none : (G : Table) → IsCode G c → (f m : ℕ) → f < n → ¬ (IsEarlyIn G (insts_of c) f m)
+-- a rule is broken at instructions of functions alone
+broken_function : (G : Table) (c : Code) → IsCode G c → (q : Rule) (n : ℕ) → Broken G (insts_of c) q n
+    → (f : ℕ) × IsOfFunction (insts_of c) n f
+broken_function G c is _ _ (Broken.early_block n e) =
+    (e.0, walk_within G (insts_of c) e.0 e.1.way.past n e.1.way.walk)
+broken_function G c is _ _ (Broken.early_use n u) = block_function (insts_of c) n u.block is.plan.layout u.of
 
-pub walk_function : (G : Table) (is : List PlainInst) (f : ℕ) (past : List ℕ) (n : ℕ) → IsWalk G is f past n
-    → IsOp is f is_function
-walk_function G is f _ _ (IsWalk.begins op) = op
-walk_function G is f _ _ (IsWalk.goes past n m walk next of) = walk_function G is f past n walk
+broken_stage : (G : Table) (is : List PlainInst) (q : Rule) (n : ℕ) → Broken G is q n → stage_of q ≡ of_standard
+broken_stage G is _ _ (Broken.early_block n e) = refl
+broken_stage G is _ _ (Broken.early_use n u) = refl
 
-early_function : (G : Table) (is : List PlainInst) (f n : ℕ) → IsEarlyIn G is f n → IsOp is f is_function
-early_function G is f n early = walk_function G is f early.way.past n early.way.walk
+pub broken_there : (G : Table) (is : List PlainInst) (q : Rule) (n : ℕ) → Broken G is q n → n < length is
+broken_there G is _ _ (Broken.early_block n e) =
+    (walk_within G is e.0 e.1.way.past n e.1.way.walk).begun.within
+broken_there G is _ _ (Broken.early_use n u) = u.of.begun.within
 
-early_of : (G : Table) (is : List PlainInst) (f n : ℕ) → IsEarlyIn G is f n → IsOfFunction is n f
-early_of G is f n early = walk_within G is f early.way.past n early.way.walk
+-- No rule is broken in the functions whose OpFunction is before instruction n.
+pub record AreUnbroken (c : Code) (n : ℕ) : Type 0 where
+  pub none : (G : Table) → IsSound G c → (f m : ℕ) (q : Rule) → f < n → IsOfFunction (insts_of c) m f
+      → ¬ (Broken G (insts_of c) q m)
 
-pub order_start : (c : Code) → AreInOrder c c.globals
-order_start c = record {
-  none = λ G is f m lt early. is.global f lt (early_function G (insts_of c) f m early);
+pub unbroken_start : (c : Code) → AreUnbroken c c.globals
+unbroken_start c = record {
+  none = λ G s f m q lt of b. s.code.global f lt (function_op (insts_of c) f of.begun.there);
 }
 
-pub order_other : (c : Code) (n : ℕ) (i : PlainInst) → slice_get (insts_of c) n ≡ Some i
-    → (i.opcode ≡ opcode.FUNCTION → ⊥) → AreInOrder c n → AreInOrder c (n + 1)
-order_other c n i there isnt before = record {
-  none = λ G is f m lt early. elim (cases_lt f n) [
-    | inl less ↦ before.none G is f m less early
+pub unbroken_other : (c : Code) (n : ℕ) (i : PlainInst) → slice_get (insts_of c) n ≡ Some i
+    → (i.opcode ≡ opcode.FUNCTION → ⊥) → AreUnbroken c n → AreUnbroken c (n + 1)
+unbroken_other c n i there isnt before = record {
+  none = λ G s f m q lt of. elim (cases_lt f n) [
+    | inl less ↦ before.none G s f m q less of
     | inr more ↦ (
         let e : f ≡ n = omega (arith, lt, more) in
         let op : IsOp (insts_of c) n is_function = subst (λ (k : ℕ). IsOp (insts_of c) k is_function) e
-        (early_function G (insts_of c) f m early) in
-        isnt (eqb-true i.opcode opcode.FUNCTION (op_tells (insts_of c) n i is_function there op)))
+        (function_op (insts_of c) f of.begun.there) in
+        absurd (isnt (eqb-true i.opcode opcode.FUNCTION (op_tells (insts_of c) n i is_function there op))))
   ];
 }
 
-pub order_more : (c : Code) (n end : ℕ) → IsExtent (insts_of c) n end
-    → ((G : Table) → IsCode G c → (m : ℕ) → ¬ (IsEarlyIn G (insts_of c) n m)) → AreInOrder c n → AreInOrder c end
-order_more c n end x here before = record {
-  none = λ G is f m lt early. elim (cases_order f n) [
-    | inl same ↦ here G is m (subst (λ (k : ℕ). IsEarlyIn G (insts_of c) k m) same early)
+pub unbroken_more : (c : Code) (n end : ℕ) → IsExtent (insts_of c) n end
+    → ((G : Table) → IsSound G c → IsFoundFirst G (insts_of c) n None) → AreUnbroken c n → AreUnbroken c end
+unbroken_more c n end x here before = record {
+  none = λ G s f m q lt of. elim (cases_order f n) [
+    | inl same ↦ here G s q m (subst (λ (k : ℕ). IsOfFunction (insts_of c) m k) same of)
     | inr apart ↦ elim apart [
-      | inl less ↦ before.none G is f m less early
-      | inr more ↦ (x.of f (omega (arith, more)) lt).begun.last f more (omega arith)
-          (function_at (insts_of c) f (early_function G (insts_of c) f m early))
+      | inl less ↦ before.none G s f m q less of
+      | inr more ↦ absurd ((x.of f (omega (arith, more)) lt).begun.last f more (omega arith) of.begun.there)
     ]
   ];
 }
 
-pub order_all : (c : Code) (n : ℕ) → length (insts_of c) ≤ n → AreInOrder c n → (G : Table) → IsCode G c
-    → IsFirstBlock G (insts_of c) None
-order_all c n all before G is = λ m early.
-    let h = holds (insts_of c) early.0 is_function (early_function G (insts_of c) early.0 m early.1) in
-    let lt = slice_get_within (insts_of c) early.0 h.inst h.there in
-    before.none G is early.0 m (omega (arith, lt, all)) early.1
+-- a function in which neither rule is broken at any instruction
+pub none_late : (G : Table) (c : Code) (f end : ℕ) → IsExtent (insts_of c) f end
+    → ((n : ℕ) → f ≤ n → n < end → IsLate G (insts_of c) n) → IsFoundFirst G (insts_of c) f None
+none_late G c f end x late q m of = let r = x.all m of in late m r.0 r.1 q
 
-pub first_here : (c : Code) (f n : ℕ) → AreInOrder c f
-    → ((G : Table) → IsCode G c → IsFirstIn G (insts_of c) f (Some n)) → (G : Table) → IsCode G c
-    → IsFirstBlock G (insts_of c) (Some n)
-first_here c f n before first G is = (
-  (f, (first G is).0),
-  λ m lt early. (
-      let g : ℕ = early.0 in
-      let here = early_of G (insts_of c) f n (first G is).0 in
-      elim (cases_order g f) [
-        | inl same ↦ (first G is).1 m lt (subst (λ (k : ℕ). IsEarlyIn G (insts_of c) k m) same early.1)
-        | inr other ↦ elim other [
-          | inl less ↦ before.none G is g m less early.1
-          | inr more ↦ (
-              let up = (early_of G (insts_of c) g m early.1).begun.up_to in
-              here.begun.last g more (omega (arith, up, lt))
-              (function_at (insts_of c) g (early_function G (insts_of c) g m early.1)))
-        ]
-      ]),
-)
+pub unbroken_all : (c : Code) (n : ℕ) → length (insts_of c) ≤ n → AreUnbroken c n → (G : Table) → IsSound G c
+    → IsFirstFound G (insts_of c) None
+unbroken_all c n all before G s q m stage b =
+    let g = broken_function G c s.code q m b in
+    let up = g.1.begun.up_to in
+    let within = g.1.begun.within in
+    before.none G s g.0 m q (omega (arith, up, within, all)) g.1 b
 
--- a block that stands early is there
-pub early_there : (G : Table) (is : List PlainInst) (n : ℕ) → IsEarlyBlock G is n → n < length is
-early_there G is n early = (early_of G is early.0 n early.1).begun.within
+pub found_first : (c : Code) (f : ℕ) (x : Found) → AreUnbroken c f
+    → ((G : Table) → IsSound G c → IsFoundIn G (insts_of c) f x) → (G : Table) → IsSound G c
+    → IsFirstFound G (insts_of c) (Some x)
+found_first c f x before found G s =
+    let here = found G s in
+    record {
+      of_stage = broken_stage G (insts_of c) x.rule x.inst here.broken;
+      broken = here.broken;
+      least = λ q m stage b.
+          let g = broken_function G c s.code q m b in
+          elim (cases_order g.0 f) [
+            | inl same ↦ here.least q m (subst (λ (k : ℕ). IsOfFunction (insts_of c) m k) same g.1) b
+            | inr apart ↦ elim apart [
+              | inl less ↦ absurd (before.none G s g.0 m q less g.1 b)
+              | inr more ↦ elim (cases_lt x.inst m) [
+                | inl lower ↦ inl lower
+                | inr higher ↦ (
+                    let up = g.1.begun.up_to in
+                    absurd (here.of.begun.last g.0 more (omega (arith, up, higher)) g.1.begun.there))
+              ]
+            ]
+          ];
+    }

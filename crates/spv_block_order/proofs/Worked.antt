@@ -27,8 +27,7 @@ use Rattle.spv_flow.proofs.lemmas.branches.Laid.{not_at, within_by}
 use Rattle.spv_flow.proofs.lemmas.walks.Used.{used_all, one_used}
 use Rattle.spv_block_order.specs.Early.{IsEarlyBlock, IsEarlyUse}
 use Rattle.spv_block_order.specs.Example.{turned, in_order, unreached}
-use Rattle.spv_block_order.proofs.Bridging.{in_none, in_first, in_later, in_cases}
-use Rattle.spv_block_order.proofs.Telling.{walk_function}
+use Rattle.spv_block_order.proofs.Bridging.{in_none, in_first, in_later, in_cases, walk_function}
 
 -- OpBranch %x uses %x.
 

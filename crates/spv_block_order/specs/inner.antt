@@ -1,3 +1,4 @@
 -- Definitions that serve the code alone.
 pub mod First
 pub mod Uses
+pub mod Rising

@@ -6,14 +6,13 @@ ghost use Rattle.spv_layout.specs.Place.{AreFew};
 ghost use Rattle.spv_flow.specs.walks.inner.Code.{insts_of, IsCode};
 ghost use Rattle.spv_flow.specs.walks.inner.Leading.{AreBlocks};
 ghost use Rattle.spv_flow.specs.walks.inner.Starts.{IsExtent};
-ghost use Rattle.spv_block_order.specs.inner.First.{IsFirstIn, IsFirstBlock};
+ghost use Rattle.spv_block_order.specs.inner.First.{IsFirstIn};
 
 use spv_flow::walks::code::Code;
-use spv_flow::walks::divide::{divide, function_extent};
+use spv_flow::walks::divide::divide;
 use spv_flow::walks::edges::{Blocks, build};
 use spv_graph_order::first_early;
 use spv_graphs::Graph;
-use spv_module::opcode::FUNCTION;
 use std::alloc::{AllocError, Global};
 
 /// Lists that are used for one function after the other.
@@ -26,6 +25,28 @@ pub struct Buffers {
 }
 
 impl Buffers {
+    /// Empty lists, in which no module has room yet.
+    pub fn empty(alloc: Global) -> Buffers {
+        Buffers {
+            starts: Vec::new(alloc),
+            numbers: Vec::new(alloc),
+            graph: Graph {
+                blocks: Vec::new(alloc),
+                targets: Vec::new(alloc),
+            },
+        }
+    }
+
+    /// Makes room for a module of so many instructions, if there is none yet.
+    pub fn make_room(&mut self, alloc: Global, count: usize) -> Result<(), AllocError>
+        ensures { OnOk result (length self.new.numbers.items ≡ count) }
+    {
+        if self.numbers.len() != count {
+            self.numbers = vec![in alloc; 0u32; count]?;
+        }
+        Ok(())
+    }
+
     /// Empty lists, for a module of so many instructions.
     pub fn new(alloc: Global, count: usize) -> Result<Buffers, AllocError>
         ensures { IfOk result (λ b. length b.numbers.items ≡ count) }
@@ -62,8 +83,11 @@ fn first_in_blocks(
     }
 }
 
-/// The OpLabel of the first block of a function that stands before one that dominates it.
-fn first_in_function(
+/// The OpLabel of the first block of a function that stands before one that dominates it: some walk ends there, and each
+/// walk that does comes by a certain higher block.
+///
+/// An `AllocError` comes only where a growth of memory was refused.
+pub fn first_in_function(
     alloc: Global,
     code: &Code<'_, '_>,
     function: u32,
@@ -91,30 +115,4 @@ fn first_in_function(
         numbers: buffers.numbers.as_slice(),
     };
     first_in_blocks(alloc, code, &blocks, &mut buffers.graph)
-}
-
-/// The OpLabel of the first block that stands before one that dominates it: some walk ends there, and each walk that
-/// does comes by a certain higher block.
-///
-/// An `AllocError` comes only where a growth of memory was refused.
-pub fn first_early_block(alloc: Global, code: &Code<'_, '_>) -> Result<Option<u32>, AllocError>
-    requires code { (G : Table) × IsCode G code.now }
-    requires most { AreFew code.now.insts.now }
-    ensures { IfOk result (λ o. (G : Table) → IsCode G code.now → IsFirstBlock G (insts_of code.now) o) }
-{
-    let mut buffers = Buffers::new(alloc, code.insts.len())?;
-    let count = code.insts.len() as u32;
-    let mut at = code.globals;
-    while at < count {
-        if code.insts[at as usize].opcode == FUNCTION {
-            let end = function_extent(code, at).end;
-            if let Some(inst) = first_in_function(alloc, code, at, end, &mut buffers)? {
-                return Ok(Some(inst));
-            }
-            at = end;
-        } else {
-            at += 1;
-        }
-    }
-    Ok(None)
 }

@@ -4,9 +4,11 @@
 
 mod blocks;
 mod check;
+mod faults;
 mod higher;
 pub mod laws;
 mod operand;
+mod rise;
 mod uses;
 
 pub use check::check_order;

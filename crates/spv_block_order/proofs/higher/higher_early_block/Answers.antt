@@ -1,10 +1,9 @@
-use Rattle.std.proofs.Common.{◌≡◌, ◌<◌, ℕ, length, subst, arith}
+use Rattle.std.proofs.Common.{ℕ, subst, arith}
 use Rattle.std.proofs.lemmas.List.{length-map}
-use Rattle.spv_table.specs.Table.{Table}
 use Rattle.spv_module.specs.Module.{plain_inst}
 use Rattle.spv_flow.specs.branches.Target.{IsOp}
 use Rattle.spv_flow.specs.branches.inner.Target.{is_function}
-use Rattle.spv_flow.specs.walks.inner.Code.{insts_of, IsCode}
+use Rattle.spv_flow.specs.walks.inner.Code.{insts_of}
 use Rattle.spv_block_order.specs.Early.{IsEarlyIn}
 use Rattle.spv_block_order.proofs.Bridging.{early_at_within, early_function, of_function, walk_function}
 use Rattle.spv_block_order.proofs.higher.higher_early_block.Goals as goal
