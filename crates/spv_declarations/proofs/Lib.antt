@@ -17,6 +17,7 @@ pub mod Names
 pub mod Needing
 pub mod Worked
 pub mod Lines
+pub mod Without
 pub mod Showing
 pub mod Seconds
 pub mod Outside

@@ -3,6 +3,7 @@ pub mod BuiltIn
 pub mod Early
 pub mod First
 pub mod Initialized
+pub mod Kinds
 pub mod Misplaced
 pub mod Named
 pub mod Said

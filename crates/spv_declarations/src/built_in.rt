@@ -9,10 +9,13 @@ ghost use Rattle.spv_declarations.specs.inner.BuiltIn as inner;
 ghost use Rattle.spv_declarations.specs.inner.BuiltIn.{AreBuiltIn, AreTheirs};
 ghost use Rattle.spv_declarations.specs.inner.Early.{AreEarly};
 ghost use Rattle.spv_declarations.specs.inner.First.{IsFirstBelow};
+ghost use Rattle.spv_declarations.specs.inner.Kinds.{AreKinds};
 ghost use Rattle.spv_declarations.specs.inner.Said.{AreSaid, BuildsIn};
 ghost use Rattle.spv_declarations.specs.inner.Sets.{AddsBoth, AnyId, HasBoth, IsIn, IsOf};
 
 use crate::decorated::{behind_first, behind_two, group_of, member_given, member_in};
+use crate::either::either;
+use crate::kinds::Kinds;
 use crate::said::Said;
 use crate::sets::{put, put_member};
 use spv_module::{Inst, Operand, opcode};
@@ -215,18 +218,24 @@ pub fn built_ins(
 
 /// The first of the first `count` instructions that breaks O11 (SPIR-V Specification 1.6, section 2.16.1).
 ///
-/// Time is near-linear in the words of these instructions.
+/// Time is near-linear in the words of these instructions. Where none of them names a group or a member, it looks at
+/// none.
 pub fn first_half_built_in(
     alloc: Global,
     definitions: &Definitions,
+    kinds: &Kinds,
     said: &Said,
     count: u32,
 ) -> Result<Option<u32>, AllocError>
     requires count { count ≤ length definitions.now }
     requires early { AreEarly definitions.now count }
+    requires kinds { AreKinds definitions.now count kinds.now }
     requires said { (l : Option ℕ) × AreSaid l definitions.now said.now }
     ensures { IfOk result (IsFirstBelow count (IsHalfBuiltIn definitions.now)) }
 {
+    if !either(kinds.groups, kinds.members) {
+        return Ok(None);
+    }
     let found = built_ins(alloc, definitions, said, count)?;
     for number in 0..count {
         if found.is_half(definitions, definitions.inst(number)) {

@@ -7,8 +7,10 @@ ghost use Rattle.spv_type_forms.specs.declared.form.Scalar.TheVariants as scalar
 ghost use Rattle.spv_type_forms.specs.Form.{form_in};
 ghost use Rattle.spv_declarations.specs.Declarations.{HasBytes, IsIncapable, NeedsAnother};
 ghost use Rattle.spv_declarations.specs.inner.First.{IsFirstBelow};
+ghost use Rattle.spv_declarations.specs.inner.Kinds.{AreKinds, IsCapable};
 
-use spv_capabilities::Survey;
+use crate::kinds::Kinds;
+use spv_capabilities::Capabilities;
 use spv_module::{Inst, opcode};
 use spv_type_forms::{Form, Scalar, form_in};
 
@@ -16,14 +18,17 @@ use spv_type_forms::{Form, Scalar, form_in};
 const VULKAN_MEMORY_MODEL: u32 = 5345;
 
 /// Whether ints of 8 bits may be declared.
-fn has_bytes(survey: &Survey<'_, '_>) -> bool
-    ensures { IsTrue result ↔ HasBytes survey.now.table survey.now.insts }
+fn has_bytes(capabilities: &Capabilities<'_, '_>) -> bool
+    ensures { IsTrue result ↔ HasBytes capabilities.now.table capabilities.now.insts }
 {
-    survey.has(39) || survey.has(4448) || survey.has(4449) || survey.has(4450)
+    capabilities.has(39)
+        || capabilities.has(4448)
+        || capabilities.has(4449)
+        || capabilities.has(4450)
 }
 
 /// Whether an instruction declares an int of 8 bits.
-fn declares_bytes(inst: &Inst<'_>) -> bool
+pub fn declares_bytes(inst: &Inst<'_>) -> bool
     ensures { IsTrue result ↔ (form_in (plain_inst inst.now) ≡ Some (form.Scalar (scalar.Int 8))) }
 {
     match form_in(inst) {
@@ -33,23 +38,41 @@ fn declares_bytes(inst: &Inst<'_>) -> bool
 }
 
 /// Whether an instruction breaks O13.
-fn is_incapable(survey: &Survey<'_, '_>, inst: &Inst<'_>) -> bool
-    ensures { IsTrue result ↔ NeedsAnother survey.now.table survey.now.insts (plain_inst inst.now) }
+fn is_incapable(capabilities: &Capabilities<'_, '_>, inst: &Inst<'_>) -> bool
+    ensures { IsTrue result ↔ NeedsAnother capabilities.now.table capabilities.now.insts (plain_inst inst.now) }
 {
     if inst.opcode == opcode::MEMORY_MODEL {
-        return survey.has(VULKAN_MEMORY_MODEL);
+        return capabilities.has(VULKAN_MEMORY_MODEL);
     }
-    declares_bytes(inst) && !has_bytes(survey)
+    declares_bytes(inst) && !has_bytes(capabilities)
+}
+
+/// Whether no instruction breaks O13, by the capabilities and by which kinds of instructions there are.
+fn is_capable(capabilities: &Capabilities<'_, '_>, kinds: &Kinds) -> bool
+    ensures { IsTrue result → IsCapable capabilities.now.table capabilities.now.insts kinds.now.bytes }
+{
+    if capabilities.has(VULKAN_MEMORY_MODEL) {
+        return false;
+    }
+    !kinds.bytes || has_bytes(capabilities)
 }
 
 /// The first of the first `count` instructions that breaks O13 (SPIR-V Specification 1.6, sections 2.16.1 and 3.31). It
 /// takes no memory.
-pub fn first_incapable(survey: &Survey<'_, '_>, count: u32) -> Option<u32>
-    requires { count ≤ length survey.now.insts }
-    ensures { IsFirstBelow count (IsIncapable survey.now.table survey.now.insts) result }
+pub fn first_incapable(
+    capabilities: &Capabilities<'_, '_>,
+    kinds: &Kinds,
+    count: u32,
+) -> Option<u32>
+    requires count { count ≤ length capabilities.now.insts }
+    requires kinds { AreKinds capabilities.now.insts count kinds.now }
+    ensures { IsFirstBelow count (IsIncapable capabilities.now.table capabilities.now.insts) result }
 {
+    if is_capable(capabilities, kinds) {
+        return None;
+    }
     for number in 0..count {
-        if is_incapable(survey, survey.inst(number)) {
+        if is_incapable(capabilities, capabilities.inst(number)) {
             return Some(number);
         }
     }

@@ -4,14 +4,16 @@ ghost use Rattle.std.specs.Prelude.{◌≡◌, ◌↔◌, IsTrue, drop};
 ghost use Rattle.spv_module.specs.Module.{plain_inst, plain_operands};
 ghost use Rattle.spv_conditions.specs.Further.{IsGroup};
 ghost use Rattle.spv_declarations.specs.Given as spec;
+ghost use Rattle.spv_declarations.specs.inner.Early as inner;
 ghost use Rattle.spv_declarations.specs.inner.Sets.{AnyId};
 
+use crate::either::either;
 use spv_module::{Inst, Operand, opcode};
 use spv_type_forms::Definitions;
 
 /// Whether an opcode is that of OpDecorate, OpDecorateId or OpDecorateString.
 #[inline(always)]
-fn is_decorate(number: u16) -> bool
+pub fn is_decorate(number: u16) -> bool
     ensures { result ≡ spec.is_decorate number }
 {
     number == opcode::DECORATE || number == opcode::DECORATE_ID || number == opcode::DECORATE_STRING
@@ -26,13 +28,32 @@ fn is_member_decorate(number: u16) -> bool
 }
 
 /// Whether an opcode is that of an instruction that names or decorates a member.
-fn is_of_member(number: u16) -> bool
+#[inline(always)]
+pub fn is_of_member(number: u16) -> bool
     ensures { result ≡ spec.is_of_member number }
 {
     number == opcode::MEMBER_NAME || is_member_decorate(number)
 }
 
+/// Whether an opcode is that of an instruction that says something of ids or members.
+#[inline(always)]
+pub fn is_saying(number: u16) -> bool
+    ensures { result ≡ inner.is_saying number }
+{
+    either(
+        is_decorate(number),
+        either(
+            is_of_member(number),
+            either(
+                number == opcode::GROUP_DECORATE,
+                number == opcode::GROUP_MEMBER_DECORATE,
+            ),
+        ),
+    )
+}
+
 /// The id and the decoration that operands give it.
+#[inline(always)]
 fn given_in(operands: &[Operand<'_>]) -> Option<(u32, u32)>
     ensures { result ≡ spec.given_in (plain_operands operands.now) }
 {
@@ -43,6 +64,7 @@ fn given_in(operands: &[Operand<'_>]) -> Option<(u32, u32)>
 }
 
 /// The id and the decoration that an instruction gives it, if it decorates one.
+#[inline(always)]
 pub fn given(inst: &Inst<'_>) -> Option<(u32, u32)>
     ensures { result ≡ spec.given_by (plain_inst inst.now) }
 {
@@ -54,6 +76,7 @@ pub fn given(inst: &Inst<'_>) -> Option<(u32, u32)>
 }
 
 /// The struct, the member and the decoration that operands give it.
+#[inline(always)]
 fn member_given_in(operands: &[Operand<'_>]) -> Option<(u32, u32, u32)>
     ensures { result ≡ spec.member_given_in (plain_operands operands.now) }
 {
@@ -69,6 +92,7 @@ fn member_given_in(operands: &[Operand<'_>]) -> Option<(u32, u32, u32)>
 }
 
 /// The struct, the member and the decoration that an instruction gives it, if it decorates one.
+#[inline(always)]
 pub fn member_given(inst: &Inst<'_>) -> Option<(u32, u32, u32)>
     ensures { result ≡ spec.member_given_by (plain_inst inst.now) }
 {
@@ -80,6 +104,7 @@ pub fn member_given(inst: &Inst<'_>) -> Option<(u32, u32, u32)>
 }
 
 /// The struct and the member that operands name.
+#[inline(always)]
 pub fn member_in(operands: &[Operand<'_>]) -> Option<(u32, u32)>
     ensures { result ≡ spec.member_in (plain_operands operands.now) }
 {
@@ -90,6 +115,7 @@ pub fn member_in(operands: &[Operand<'_>]) -> Option<(u32, u32)>
 }
 
 /// The struct and the member that an instruction names or decorates.
+#[inline(always)]
 pub fn member_of(inst: &Inst<'_>) -> Option<(u32, u32)>
     ensures { result ≡ spec.member_by (plain_inst inst.now) }
 {
@@ -101,6 +127,7 @@ pub fn member_of(inst: &Inst<'_>) -> Option<(u32, u32)>
 }
 
 /// The first operand, if it is an id.
+#[inline(always)]
 pub fn first_in(operands: &[Operand<'_>]) -> Option<u32>
     ensures { result ≡ spec.first_in (plain_operands operands.now) }
 {
@@ -111,6 +138,7 @@ pub fn first_in(operands: &[Operand<'_>]) -> Option<u32>
 }
 
 /// The group that an instruction of that opcode names.
+#[inline(always)]
 pub fn group_of(inst: &Inst<'_>, number: u16) -> Option<u32>
     ensures { result ≡ spec.group_by number (plain_inst inst.now) }
 {

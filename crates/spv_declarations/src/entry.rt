@@ -6,9 +6,11 @@ ghost use Rattle.spv_module.specs.Module.{plain_inst, plain_operands};
 ghost use Rattle.spv_declarations.specs.Entry as spec;
 ghost use Rattle.spv_declarations.specs.Entry.{IsRepeated, SetsById, TakesId};
 ghost use Rattle.spv_declarations.specs.inner.First.{IsFirstBelow};
+ghost use Rattle.spv_declarations.specs.inner.Kinds.{AreKinds};
 ghost use Rattle.spv_declarations.specs.inner.Named.{AreSeen};
 
 use crate::decorated::has_id_behind;
+use crate::kinds::Kinds;
 use spv_module::{Inst, Operand, opcode};
 use spv_type_forms::Definitions;
 use std::alloc::{AllocError, Global};
@@ -53,15 +55,20 @@ fn repeats<'a>(seen: &mut BTreeSet<(u32, &'a str)>, inst: &Inst<'a>) -> Result<b
 
 /// The first of the first `count` instructions that breaks O3 (SPIR-V Specification 1.6, OpEntryPoint).
 ///
-/// Time is near-linear in the words of these instructions.
+/// Time is near-linear in the words of these instructions. Where no two of them are OpEntryPoints, it looks at none.
 pub fn first_repeated(
     alloc: Global,
     definitions: &Definitions,
+    kinds: &Kinds,
     count: u32,
 ) -> Result<Option<u32>, AllocError>
-    requires { count ≤ length definitions.now }
+    requires count { count ≤ length definitions.now }
+    requires kinds { AreKinds definitions.now count kinds.now }
     ensures { IfOk result (IsFirstBelow count (IsRepeated definitions.now)) }
 {
+    if !kinds.entries {
+        return Ok(None);
+    }
     let mut seen = BTreeSet::new(alloc);
     for number in 0..count {
         if repeats(&mut seen, definitions.inst(number))? {
@@ -72,7 +79,8 @@ pub fn first_repeated(
 }
 
 /// Whether an instruction is an OpExecutionMode with an id behind its mode.
-fn takes_id(inst: &Inst<'_>) -> bool
+#[inline(always)]
+pub fn takes_id(inst: &Inst<'_>) -> bool
     ensures { IsTrue result ↔ SetsById (plain_inst inst.now) }
 {
     inst.opcode == opcode::EXECUTION_MODE && has_id_behind(inst.operands.as_slice())
@@ -80,10 +88,14 @@ fn takes_id(inst: &Inst<'_>) -> bool
 
 /// The first of the first `count` instructions that breaks O5 (SPIR-V Specification 1.6, OpExecutionMode). It takes no
 /// memory.
-pub fn first_with_id(definitions: &Definitions, count: u32) -> Option<u32>
-    requires { count ≤ length definitions.now }
+pub fn first_with_id(definitions: &Definitions, kinds: &Kinds, count: u32) -> Option<u32>
+    requires count { count ≤ length definitions.now }
+    requires kinds { AreKinds definitions.now count kinds.now }
     ensures { IsFirstBelow count (TakesId definitions.now) result }
 {
+    if !kinds.by_id {
+        return None;
+    }
     for number in 0..count {
         if takes_id(definitions.inst(number)) {
             return Some(number);

@@ -1,6 +1,6 @@
 //! O10: variables with initializers.
 
-ghost use Rattle.std.specs.Prelude.{◌≡◌, ◌↔◌, ◌<◌, ◌≤◌, ℕ, IfOk, IsTrue, OnOk, Some, codes, length, slice_get};
+ghost use Rattle.std.specs.Prelude.{◌≡◌, ◌↔◌, ◌<◌, ◌≤◌, ℕ, IfOk, IsTrue, OnOk, Some, codes, length, slice_get, true};
 ghost use Rattle.spv_table.specs.Table.{Table};
 ghost use Rattle.spv_table.specs.Lookups.{number_named};
 ghost use Rattle.spv_module.specs.Module.{plain_inst, plain_operands};
@@ -11,10 +11,13 @@ ghost use Rattle.spv_declarations.specs.Given.{NamesTarget};
 ghost use Rattle.spv_declarations.specs.inner.Early.{AreEarly};
 ghost use Rattle.spv_declarations.specs.inner.First.{IsFirstBelow};
 ghost use Rattle.spv_declarations.specs.inner.Initialized as spec;
+ghost use Rattle.spv_declarations.specs.inner.Kinds.{AreKinds};
 ghost use Rattle.spv_declarations.specs.inner.Said.{AreSaid, HasAt, ImportsBy};
 ghost use Rattle.spv_declarations.specs.inner.Sets.{Adds, HasAll, IsIn, IsOf};
 
 use crate::decorated::{behind_first, group_of, is_group};
+use crate::either::either;
+use crate::kinds::Kinds;
 use crate::said::{Said, imported_by};
 use crate::sets::{put, put_all};
 use spv_module::{Inst, Operand, opcode};
@@ -92,16 +95,21 @@ fn add_imported(
 fn imported(
     alloc: Global,
     definitions: &Definitions,
+    kinds: &Kinds,
     linkage: Option<u32>,
     said: &Said,
     count: u32,
 ) -> Result<BTreeSet<u32>, AllocError>
     requires count { count ≤ length definitions.now }
     requires early { AreEarly definitions.now count }
+    requires kinds { AreKinds definitions.now count kinds.now }
     requires said { AreSaid linkage definitions.now said.now }
     ensures { IfOk result (HasAll definitions.now (λ i x. HasAt definitions.now (ImportsBy linkage) x i)) }
 {
     let mut imported = BTreeSet::new(alloc);
+    if !either(kinds.groups, kinds.linked) {
+        return Ok(imported);
+    }
     for number in 0..count {
         add_imported(
             &mut imported,
@@ -130,28 +138,36 @@ fn is_initialized(definitions: &Definitions, imported: &BTreeSet<u32>, number: u
     ensures { (i : PlainInst) → slice_get definitions.now number ≡ Some i
         → IsTrue result ↔ (spec.IsOutside imported.now i × IsOfSection definitions.now number 11) }
 {
-    let section = definitions.place(number).section;
-    is_outside(imported, definitions.inst(number)) && section == DECLARATIONS
+    if !is_outside(imported, definitions.inst(number)) {
+        return false;
+    }
+    definitions.place(number).section == DECLARATIONS
 }
 
 /// The first of the first `count` instructions, which are those of sections 1 to 9, that breaks O10 (SPIR-V
 /// Specification 1.6, sections 2.16.1 and 3.7), where the kind LinkageType has that number.
 ///
-/// Time is near-linear in the words of these instructions.
+/// Time is near-linear in the words of these instructions. Where none of them is an OpVariable with an initializer, it
+/// looks at none, and the number of the kind does not matter.
 pub fn first_initialized(
     alloc: Global,
     definitions: &Definitions,
+    kinds: &Kinds,
     linkage: Option<u32>,
     said: &Said,
     count: u32,
 ) -> Result<Option<u32>, AllocError>
     requires count { count ≤ length definitions.now }
     requires early { AreEarly definitions.now count }
+    requires kinds { AreKinds definitions.now count kinds.now }
     requires said { AreSaid linkage definitions.now said.now }
-    ensures { (G : Table) → linkage ≡ number_named G (codes "LinkageType")
+    ensures { (G : Table) → (kinds.now.initialized ≡ true → linkage ≡ number_named G (codes "LinkageType"))
         → IfOk result (IsFirstBelow count (IsInitialized G definitions.now)) }
 {
-    let imported = imported(alloc, definitions, linkage, said, count)?;
+    if !kinds.initialized {
+        return Ok(None);
+    }
+    let imported = imported(alloc, definitions, kinds, linkage, said, count)?;
     for number in 0..count {
         if is_initialized(definitions, &imported, number) {
             return Ok(Some(number));

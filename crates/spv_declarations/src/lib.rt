@@ -5,9 +5,11 @@
 mod built_in;
 mod capable;
 mod decorated;
+mod either;
 mod entry;
 mod found;
 mod initialized;
+mod kinds;
 pub mod laws;
 mod linked;
 mod member;

@@ -7,10 +7,13 @@ ghost use Rattle.spv_declarations.specs.Decorated.{IsLinkedEntry};
 ghost use Rattle.spv_declarations.specs.Given.{Gives, NamesTarget};
 ghost use Rattle.spv_declarations.specs.inner.Early.{AreEarly};
 ghost use Rattle.spv_declarations.specs.inner.First.{IsFirstBelow};
+ghost use Rattle.spv_declarations.specs.inner.Kinds.{AreKinds};
 ghost use Rattle.spv_declarations.specs.inner.Said.{AreSaid, HasAt};
 ghost use Rattle.spv_declarations.specs.inner.Sets.{Adds, AnyId, HasAll, HasBoth, IsIn, IsOf};
 
 use crate::decorated::{behind_first, given, group_of, is_group};
+use crate::either::either;
+use crate::kinds::Kinds;
 use crate::said::{LINKAGE_ATTRIBUTES, Said};
 use crate::sets::put;
 use spv_module::{Inst, Operand, opcode};
@@ -110,18 +113,24 @@ fn links(definitions: &Definitions, said: &Said, entered: &BTreeSet<u32>, inst: 
 
 /// The first of the first `count` instructions that breaks O9 (SPIR-V Specification 1.6, section 2.16.1).
 ///
-/// Time is near-linear in the words of these instructions.
+/// Time is near-linear in the words of these instructions. Where none of them names a group or gives LinkageAttributes,
+/// it looks at none.
 pub fn first_linked(
     alloc: Global,
     definitions: &Definitions,
+    kinds: &Kinds,
     said: &Said,
     count: u32,
 ) -> Result<Option<u32>, AllocError>
     requires count { count ≤ length definitions.now }
+    requires kinds { AreKinds definitions.now count kinds.now }
     requires early { AreEarly definitions.now count }
     requires said { (l : Option ℕ) × AreSaid l definitions.now said.now }
     ensures { IfOk result (IsFirstBelow count (IsLinkedEntry definitions.now)) }
 {
+    if !either(kinds.groups, kinds.linked) {
+        return Ok(None);
+    }
     let entered = entered(alloc, definitions, count)?;
     for number in 0..count {
         if links(definitions, said, &entered, definitions.inst(number)) {

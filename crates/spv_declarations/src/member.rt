@@ -4,9 +4,11 @@ ghost use Rattle.std.specs.Prelude.{◌↔◌, ◌≤◌, IsTrue, length};
 ghost use Rattle.spv_module.specs.Module.{plain_inst};
 ghost use Rattle.spv_declarations.specs.Declarations.{IsOfNoMember, NamesNoMember};
 ghost use Rattle.spv_declarations.specs.inner.First.{IsFirstBelow};
+ghost use Rattle.spv_declarations.specs.inner.Kinds.{AreKinds};
 
 use crate::built_in::member_count;
 use crate::decorated::member_of;
+use crate::kinds::Kinds;
 use spv_module::Inst;
 use spv_type_forms::Definitions;
 
@@ -22,10 +24,14 @@ fn is_of_no_member(definitions: &Definitions, inst: &Inst<'_>) -> bool
 
 /// The first of the first `count` instructions that breaks O6 (SPIR-V Specification 1.6, sections 3.49.2 and 3.49.3).
 /// It takes no memory.
-pub fn first_of_no_member(definitions: &Definitions, count: u32) -> Option<u32>
-    requires { count ≤ length definitions.now }
+pub fn first_of_no_member(definitions: &Definitions, kinds: &Kinds, count: u32) -> Option<u32>
+    requires count { count ≤ length definitions.now }
+    requires kinds { AreKinds definitions.now count kinds.now }
     ensures { IsFirstBelow count (IsOfNoMember definitions.now) result }
 {
+    if !kinds.members {
+        return None;
+    }
     for number in 0..count {
         if is_of_no_member(definitions, definitions.inst(number)) {
             return Some(number);

@@ -1,6 +1,6 @@
 //! The first of the rules O3 and O5 to O13 that is broken.
 
-ghost use Rattle.std.specs.Prelude.{◌≡◌, ◌≤◌, ◌∷◌, [], ℕ, IfOk, MatchOption, codes, length, map};
+ghost use Rattle.std.specs.Prelude.{◌≡◌, ◌≤◌, ◌∷◌, [], ℕ, IfOk, MatchOption, codes, length, map, true};
 ghost use Rattle.spv_table.specs.Table.{Table};
 ghost use Rattle.spv_table.specs.Lookups.{number_named};
 ghost use Rattle.spv_module.specs.Module.{plain_inst};
@@ -13,19 +13,21 @@ ghost use Rattle.spv_ids.specs.Outcome.{IsDefinitionOf, definition_in};
 ghost use Rattle.spv_declarations.specs.Broken.{Broken};
 ghost use Rattle.spv_declarations.specs.inner.Early.{AreEarly};
 ghost use Rattle.spv_declarations.specs.inner.First.{IsFirstAmong};
+ghost use Rattle.spv_declarations.specs.inner.Kinds.{AreKinds};
 
 use crate::built_in::first_half_built_in;
 use crate::capable::first_incapable;
 use crate::entry::{first_repeated, first_with_id};
 use crate::found::{Found, earlier};
 use crate::initialized::first_initialized;
+use crate::kinds::{Kinds, kinds_among};
 use crate::linked::first_linked;
 use crate::member::first_of_no_member;
 use crate::misplaced::first_misplaced;
 use crate::pointer::first_elsewhere;
 use crate::said::Said;
 use crate::second::first_second;
-use spv_capabilities::Survey;
+use spv_capabilities::Capabilities;
 use spv_ids::Ids;
 use spv_layout::Plan;
 use spv_module::{Inst, Rule};
@@ -37,24 +39,26 @@ use std::alloc::{AllocError, Global};
 fn first_decorated(
     alloc: Global,
     definitions: &Definitions,
+    kinds: &Kinds,
     linkage: Option<u32>,
     count: u32,
     before: Option<Found>,
 ) -> Result<Option<Found>, AllocError>
     requires count { count ≤ length definitions.now }
     requires early { AreEarly definitions.now count }
-    ensures { (G : Table) → linkage ≡ number_named G (codes "LinkageType")
+    requires kinds { AreKinds definitions.now count kinds.now }
+    ensures { (G : Table) → (kinds.now.initialized ≡ true → linkage ≡ number_named G (codes "LinkageType"))
         → IsFirstAmong G definitions.now (rule.O5 ∷ rule.O3 ∷ []) before
         → IfOk result (IsFirstAmong G definitions.now
         (rule.O11 ∷ rule.O10 ∷ rule.O9 ∷ rule.O8 ∷ rule.O7 ∷ rule.O6 ∷ rule.O5 ∷ rule.O3 ∷ [])) }
 {
-    let said = Said::gather(alloc, definitions, linkage, count)?;
-    let of_no_member = first_of_no_member(definitions, count);
+    let said = Said::among(alloc, definitions, kinds, linkage, count)?;
+    let of_no_member = first_of_no_member(definitions, kinds, count);
     let misplaced = first_misplaced(alloc, definitions, &said, count)?;
-    let second = first_second(alloc, definitions, &said, count)?;
-    let linked = first_linked(alloc, definitions, &said, count)?;
-    let initialized = first_initialized(alloc, definitions, linkage, &said, count)?;
-    let half = first_half_built_in(alloc, definitions, &said, count)?;
+    let second = first_second(alloc, definitions, kinds, &said, count)?;
+    let linked = first_linked(alloc, definitions, kinds, &said, count)?;
+    let initialized = first_initialized(alloc, definitions, kinds, linkage, &said, count)?;
+    let half = first_half_built_in(alloc, definitions, kinds, &said, count)?;
     let found = earlier(before, Rule::O6, of_no_member);
     let found = earlier(found, Rule::O7, misplaced);
     let found = earlier(found, Rule::O8, second);
@@ -63,37 +67,51 @@ fn first_decorated(
     Ok(earlier(found, Rule::O11, half))
 }
 
+/// The number of the kind LinkageType in the grammar table. It is looked up only where there is an OpVariable with an
+/// initializer.
+fn linkage_type(capabilities: &Capabilities<'_, '_>, kinds: &Kinds) -> Option<u32>
+    ensures { kinds.now.initialized ≡ true → result ≡ number_named capabilities.now.table (codes "LinkageType") }
+{
+    if kinds.initialized {
+        capabilities.table().kind_named("LinkageType")
+    } else {
+        None
+    }
+}
+
 /// The first of the rules O3 and O5 to O13 that is broken in a module: the lowest instruction at which one is, and
-/// there the first of them. `survey` is of the module, and `plan` and `ids` are what `lay_out` and `number` answered of
-/// it.
+/// there the first of them. `capabilities` are those of the module, and `plan` and `ids` are what `lay_out` and `number`
+/// answered of it.
 ///
-/// Each rule has a pass over the sections before the functions. Time is near-linear in the words of these sections. An
+/// One pass over the sections before the functions finds which kinds of instructions stand there, and each rule that
+/// speaks of a kind that does has a pass of its own. Time is near-linear in the words of these sections. An
 /// `AllocError` comes only where a growth of memory was refused.
 pub fn first_misdeclared(
     alloc: Global,
-    survey: &Survey<'_, '_>,
+    capabilities: &Capabilities<'_, '_>,
     insts: &[Inst<'_>],
     plan: &Plan,
     ids: &Ids,
 ) -> Result<Option<Found>, AllocError>
     requires few { AreFew insts.now }
-    requires plan { IsPlan survey.now.table (map plain_inst insts.now) plan.now }
+    requires plan { IsPlan capabilities.now.table (map plain_inst insts.now) plan.now }
     requires ids { (x : ℕ) → IsDefinitionOf (map plain_inst insts.now) x (definition_in ids.now x) }
-    requires survey { survey.now.insts ≡ map plain_inst insts.now }
+    requires capabilities { capabilities.now.insts ≡ map plain_inst insts.now }
     ensures { IfOk result (λ found. MatchOption found
-        (IsUnbroken (Broken survey.now.table survey.now.insts) of_standard)
-        (λ f. IsFirst (Broken survey.now.table survey.now.insts) of_standard f.rule f.inst)) }
+        (IsUnbroken (Broken capabilities.now.table capabilities.now.insts) of_standard)
+        (λ f. IsFirst (Broken capabilities.now.table capabilities.now.insts) of_standard f.rule f.inst)) }
 {
     let definitions = Definitions::new(insts, plan, ids);
     let count = plan.before_functions();
-    let linkage = survey.table().kind_named("LinkageType");
-    let repeated = first_repeated(alloc, &definitions, count)?;
-    let with_id = first_with_id(&definitions, count);
+    let kinds = kinds_among(&definitions, count);
+    let linkage = linkage_type(capabilities, &kinds);
+    let repeated = first_repeated(alloc, &definitions, &kinds, count)?;
+    let with_id = first_with_id(&definitions, &kinds, count);
     let found = earlier(None, Rule::O3, repeated);
     let found = earlier(found, Rule::O5, with_id);
-    let decorated = first_decorated(alloc, &definitions, linkage, count, found)?;
-    let elsewhere = first_elsewhere(&definitions, count);
-    let incapable = first_incapable(survey, count);
+    let decorated = first_decorated(alloc, &definitions, &kinds, linkage, count, found)?;
+    let elsewhere = first_elsewhere(&definitions, &kinds, count);
+    let incapable = first_incapable(capabilities, &kinds, count);
     let found = earlier(decorated, Rule::O12, elsewhere);
     Ok(earlier(found, Rule::O13, incapable))
 }

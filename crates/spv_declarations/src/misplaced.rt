@@ -12,7 +12,9 @@ ghost use Rattle.spv_declarations.specs.inner.Misplaced.{IsAnyMisplaced, IsAnyNe
 ghost use Rattle.spv_declarations.specs.inner.Said.{AreSaid};
 ghost use Rattle.spv_declarations.specs.inner.Sets.{AnyId, HasBoth};
 
-use crate::decorated::{behind_first, given, group_of, has_id_behind, is_group, member_given};
+use crate::decorated::{
+    behind_first, given, group_of, has_id_behind, is_group, is_saying, member_given,
+};
 use crate::pairs::has_pair;
 use crate::said::Said;
 use crate::stands::{is_never_on_members, stands_on};
@@ -137,6 +139,9 @@ fn misplaces(
     ensures { IfOk result (λ yes. (n : ℕ) → slice_get definitions.now n ≡ Some (plain_inst inst.now)
         → IsTrue yes ↔ IsMisplaced definitions.now n) }
 {
+    if !is_saying(inst.opcode) {
+        return Ok(false);
+    }
     if decorates_with_id(inst) {
         return Ok(true);
     }

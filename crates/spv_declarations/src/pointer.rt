@@ -6,8 +6,10 @@ ghost use Rattle.spv_type_forms.specs.declared.form.Form.TheVariants as form;
 ghost use Rattle.spv_type_forms.specs.Form.{form_of};
 ghost use Rattle.spv_declarations.specs.Declarations.{AnnouncesElsewhere, IsForwardElsewhere, announced_by};
 ghost use Rattle.spv_declarations.specs.inner.First.{IsFirstBelow};
+ghost use Rattle.spv_declarations.specs.inner.Kinds.{AreKinds};
 
 use crate::decorated::first_in;
+use crate::kinds::Kinds;
 use spv_module::{Inst, opcode};
 use spv_type_forms::{Definitions, Form};
 
@@ -47,10 +49,14 @@ fn is_elsewhere(definitions: &Definitions, inst: &Inst<'_>) -> bool
 
 /// The first of the first `count` instructions that breaks O12 (SPIR-V Specification 1.6, section 3.49.6). It takes no
 /// memory.
-pub fn first_elsewhere(definitions: &Definitions, count: u32) -> Option<u32>
-    requires { count ≤ length definitions.now }
+pub fn first_elsewhere(definitions: &Definitions, kinds: &Kinds, count: u32) -> Option<u32>
+    requires count { count ≤ length definitions.now }
+    requires kinds { AreKinds definitions.now count kinds.now }
     ensures { IsFirstBelow count (IsForwardElsewhere definitions.now) result }
 {
+    if !kinds.forward {
+        return None;
+    }
     for number in 0..count {
         if is_elsewhere(definitions, definitions.inst(number)) {
             return Some(number);

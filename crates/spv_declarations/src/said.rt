@@ -4,10 +4,12 @@ ghost use Rattle.std.specs.Prelude.{◌≡◌, ◌↔◌, ◌≤◌, ◌<◌, �
 ghost use Rattle.spv_module.specs.Module.{plain_inst};
 ghost use Rattle.spv_capabilities.specs.Entry as entry;
 ghost use Rattle.spv_declarations.specs.inner.Early.{AreEarly};
+ghost use Rattle.spv_declarations.specs.inner.Kinds.{AreKinds};
 ghost use Rattle.spv_declarations.specs.inner.Said.{AreSaid, GivesGroup, ImportsGroup, NamesGroup};
 ghost use Rattle.spv_declarations.specs.inner.Sets.{Adds, AddsBoth, HasAll, HasBoth, IsIn};
 
 use crate::decorated::{given, group_of};
+use crate::kinds::Kinds;
 use crate::sets::{put, put_pair};
 use crate::stands::is_known;
 use spv_capabilities::linked_id;
@@ -126,6 +128,28 @@ impl Said {
             add_given(&mut pairs, &groups, inst)?;
             add_imported(&mut importing, &groups, linkage, inst)?;
         }
+        Ok(Said { pairs, importing })
+    }
+
+    /// The same, where it is known which kinds of instructions there are. Where none of them names a group, it looks at
+    /// none.
+    pub fn among(
+        alloc: Global,
+        definitions: &Definitions,
+        kinds: &Kinds,
+        linkage: Option<u32>,
+        count: u32,
+    ) -> Result<Said, AllocError>
+        requires count { count ≤ length definitions.now }
+        requires early { AreEarly definitions.now count }
+        requires kinds { AreKinds definitions.now count kinds.now }
+        ensures { IfOk result (AreSaid linkage definitions.now) }
+    {
+        if kinds.groups {
+            return Said::gather(alloc, definitions, linkage, count);
+        }
+        let pairs = BTreeSet::new(alloc);
+        let importing = BTreeSet::new(alloc);
         Ok(Said { pairs, importing })
     }
 

@@ -6,10 +6,13 @@ ghost use Rattle.spv_module.specs.Operand.{PlainInst};
 ghost use Rattle.spv_declarations.specs.Decorated.{IsSecond};
 ghost use Rattle.spv_declarations.specs.Given.{Gives, NamesTarget};
 ghost use Rattle.spv_declarations.specs.inner.First.{IsFirstBelow};
+ghost use Rattle.spv_declarations.specs.inner.Kinds.{AreKinds};
 ghost use Rattle.spv_declarations.specs.inner.Said.{AreSaid, HasAt, IsKnown};
 ghost use Rattle.spv_declarations.specs.inner.Sets.{Adds, AnyId, HasBoth, IsIn, IsOf};
 
 use crate::decorated::{behind_first, given, group_of, is_group};
+use crate::either::{both, either};
+use crate::kinds::Kinds;
 use crate::said::Said;
 use crate::sets::{put, put_all};
 use spv_module::{Inst, Operand, opcode};
@@ -102,17 +105,23 @@ fn has_both(one: &BTreeSet<u32>, other: &BTreeSet<u32>, inst: &Inst<'_>) -> bool
 
 /// The first of the first `count` instructions that breaks O8 (SPIR-V Specification 1.6, section 2.18.2).
 ///
-/// Time is near-linear in the words of these instructions.
+/// Time is near-linear in the words of these instructions. Where none of them names a group, and not both decorations
+/// are given, it looks at none.
 pub fn first_second(
     alloc: Global,
     definitions: &Definitions,
+    kinds: &Kinds,
     said: &Said,
     count: u32,
 ) -> Result<Option<u32>, AllocError>
     requires count { count ≤ length definitions.now }
+    requires kinds { AreKinds definitions.now count kinds.now }
     requires said { (l : Option ℕ) × AreSaid l definitions.now said.now }
     ensures { IfOk result (IsFirstBelow count (IsSecond definitions.now)) }
 {
+    if !either(kinds.groups, both(kinds.restricted, kinds.aliased)) {
+        return Ok(None);
+    }
     let mut restricted = BTreeSet::new(alloc);
     let mut aliased = BTreeSet::new(alloc);
     for number in 0..count {

@@ -6,7 +6,8 @@ ghost use Rattle.spv_declarations.specs.declared.table.Further.TheVariants as fu
 ghost use Rattle.spv_declarations.specs.inner.Said.{IsKnown};
 ghost use Rattle.spv_declarations.specs.inner.Table as inner;
 
-use crate::table::{Further, Line, NEVER_ON_MEMBERS, TABLE, is_among, is_opcode_among};
+use crate::either::either;
+use crate::table::{Further, Line, NEVER_ON_MEMBERS, TABLE, is_among, is_opcode_among, is_within};
 use spv_type_forms::{Definitions, Form, Sort, has_sort};
 
 /// Whether the type of an id is a pointer type.
@@ -45,29 +46,27 @@ fn is_asked(definitions: &Definitions, further: Further, x: u32) -> bool
 }
 
 /// Whether an id whose definition has that opcode is such a one as a line says.
+#[inline(always)]
 fn is_such(definitions: &Definitions, line: &Line, opcode: u16, x: u32) -> bool
     ensures { IsTrue result ↔ inner.IsOfLine definitions.now (inner.line line.now) opcode x }
 {
     is_opcode_among(line.1, opcode) && is_asked(definitions, line.2, x)
 }
 
-/// Whether a decoration is on one of some lines.
-fn is_listed_in(lines: &[Line], d: u32) -> bool
-    ensures { result ≡ spec.is_listed (map inner.line lines.now) d }
-{
-    for line in lines {
-        if is_among(line.0, d) {
-            return true;
-        }
-    }
-    false
-}
-
-/// Whether a decoration is on some line.
+/// Whether a decoration is on some line: whether it is among all of them.
+#[inline(always)]
 fn is_listed(d: u32) -> bool
     ensures { result ≡ spec.is_listed spec.lines d }
 {
-    is_listed_in(&TABLE, d)
+    let of_values = either(is_within((44, 47), d), is_within((22, 22), d));
+    let of_names = either(is_within((41, 41), d), is_within((11, 11), d));
+    let of_memory = either(is_within((19, 21), d), is_within((23, 25), d));
+    let of_types = either(is_within((1, 1), d), is_within((10, 10), d));
+    let of_sums = either(is_within((28, 28), d), is_within((4469, 4470), d));
+    either(
+        either(of_values, of_names),
+        either(of_memory, either(of_types, of_sums)),
+    )
 }
 
 /// Whether a decoration is never one of members.

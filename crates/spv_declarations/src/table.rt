@@ -23,18 +23,20 @@ pub enum Further {
 pub type Line = (&'static [(u32, u32)], &'static [(u16, u16)], Further);
 
 /// The table, a line for those that stand on the same (SPIR-V Specification 1.6, section 3.20). A decoration on several
-/// lines stands on what one of them says, and one on no line on anything.
+/// lines stands on what one of them says, and one on no line on anything. Those that most kernels have come first.
 pub static TABLE: [Line; 10] = [
-    // SpecId
+    // Alignment, MaxByteOffset, AlignmentId, MaxByteOffsetId
+    (&[(44, 47)], &[(0, 65535)], Further::Pointer),
+    // Constant, LinkageAttributes
     (
-        &[(1, 1)],
-        &[(opcode::SPEC_CONSTANT_TRUE, opcode::SPEC_CONSTANT)],
-        Further::Nothing,
+        &[(22, 22), (41, 41)],
+        &[(opcode::VARIABLE, opcode::VARIABLE)],
+        Further::Global,
     ),
-    // CPacked
+    // LinkageAttributes
     (
-        &[(10, 10)],
-        &[(opcode::TYPE_STRUCT, opcode::TYPE_STRUCT)],
+        &[(41, 41)],
+        &[(opcode::FUNCTION, opcode::FUNCTION)],
         Further::Nothing,
     ),
     // BuiltIn
@@ -54,11 +56,17 @@ pub static TABLE: [Line; 10] = [
         &[(opcode::FUNCTION_PARAMETER, opcode::FUNCTION_PARAMETER)],
         Further::Pointer,
     ),
-    // Constant, LinkageAttributes
+    // SpecId
     (
-        &[(22, 22), (41, 41)],
-        &[(opcode::VARIABLE, opcode::VARIABLE)],
-        Further::Global,
+        &[(1, 1)],
+        &[(opcode::SPEC_CONSTANT_TRUE, opcode::SPEC_CONSTANT)],
+        Further::Nothing,
+    ),
+    // CPacked
+    (
+        &[(10, 10)],
+        &[(opcode::TYPE_STRUCT, opcode::TYPE_STRUCT)],
+        Further::Nothing,
     ),
     // SaturatedConversion
     (
@@ -71,14 +79,6 @@ pub static TABLE: [Line; 10] = [
         ],
         Further::Ints,
     ),
-    // LinkageAttributes
-    (
-        &[(41, 41)],
-        &[(opcode::FUNCTION, opcode::FUNCTION)],
-        Further::Nothing,
-    ),
-    // Alignment, MaxByteOffset, AlignmentId, MaxByteOffsetId
-    (&[(44, 47)], &[(0, 65535)], Further::Pointer),
     // NoSignedWrap, NoUnsignedWrap
     (
         &[(4469, 4470)],
@@ -111,13 +111,14 @@ pub static NEVER_ON_MEMBERS: &[(u32, u32)] = &[
 
 /// Whether a number is one of those from one to another.
 #[inline(always)]
-fn is_within(range: (u32, u32), number: u32) -> bool
+pub fn is_within(range: (u32, u32), number: u32) -> bool
     ensures { result ≡ spec.is_within range number }
 {
     range.0 <= number && number <= range.1
 }
 
 /// Whether a number is among some, each from one to another.
+#[inline(always)]
 pub fn is_among(ranges: &[(u32, u32)], number: u32) -> bool
     ensures { result ≡ spec.is_among ranges.now number }
 {
@@ -130,6 +131,7 @@ pub fn is_among(ranges: &[(u32, u32)], number: u32) -> bool
 }
 
 /// Whether an opcode is among some, each from one to another.
+#[inline(always)]
 pub fn is_opcode_among(ranges: &[(u16, u16)], number: u16) -> bool
     ensures { result ≡ spec.is_among ranges.now number }
 {

@@ -32,7 +32,7 @@ no_id_there os i o h e x g =
     let f : face_id o ≡ Some x = ap face_id s in
     cc
 
-one_there : (os : List Plain) (i x y : ℕ) → slice_get os i ≡ Some (Id x) → slice_get os i ≡ Some (Id y) → x ≡ y
+pub one_there : (os : List Plain) (i x y : ℕ) → slice_get os i ≡ Some (Id x) → slice_get os i ≡ Some (Id y) → x ≡ y
 one_there os i x y h g = cc
 
 -- An id among the first operands.
@@ -53,6 +53,10 @@ before_keeps os i x b = let l = b.1 in (b.0, omega (arith, l), b.2)
 
 before_here : (os : List Plain) (i x : ℕ) → slice_get os i ≡ Some (Id x) → IsBefore os (i + 1) x
 before_here os i x h = (i, omega arith, h)
+
+pub not_before_more : (os : List Plain) (i x : ℕ) → ¬ (slice_get os i ≡ Some (Id x)) → ¬ (IsBefore os i x)
+    → ¬ (IsBefore os (i + 1) x)
+not_before_more os i x here none b = elim (before_cases os i x b) [ inl o ↦ none o | inr h ↦ here h ]
 
 -- the set has the ids among the first operands; none of these is there twice
 abbrev pub AreSeen : List Plain → ℕ → BTreeSet ℕ → Type 0

@@ -1,10 +1,12 @@
 pub mod Bits
 pub mod Marking
 pub mod Placing
+pub mod Early
 pub mod Using
 pub mod Interfaces
 pub mod Entering
 pub mod Naming
 pub mod Clearing
 pub mod Unused
+pub mod Counting
 pub mod Worked

@@ -9,7 +9,6 @@ use Rattle.spv_table.specs.Table.{Table}
 use Rattle.spv_module.specs.Operand.{Id, Plain, PlainInst, result_in}
 use Rattle.spv_ids.specs.Definition.{IsDefinedAt}
 use Rattle.spv_ids.specs.Outcome.{IsOnly}
-use Rattle.spv_type_forms.specs.Definitions.{IsGlobal}
 use Rattle.spv_flow.specs.declared.calls.graph.Call.{Call}
 use Rattle.spv_flow.specs.calls.Calls.{Calls, IsCall}
 use Rattle.spv_flow.specs.calls.inner.Found.{AreCalls}
@@ -22,10 +21,10 @@ use Rattle.spv_interfaces.specs.Interface.{IsNamedIn, faced_by}
 use Rattle.spv_interfaces.specs.inner.Entries.{Begins, IsEntered, IsFirstAmong, IsUnnamed, Names, NamesBefore, NamesIn}
 use Rattle.spv_interfaces.specs.inner.Marks.{Adds, Grows, HasBit, IsClosed, IsMarked, IsMissing}
 use Rattle.spv_interfaces.specs.inner.Uses.{AreUses, HasUse}
-use Rattle.spv_interfaces.specs.inner.Wanted.{IsWanted}
 use Rattle.spv_interfaces.proofs.Bits.{pow_bit, pow_told}
 use Rattle.spv_interfaces.proofs.Entering.{entry_here, no_entry, same_entry}
 use Rattle.spv_interfaces.proofs.Marking.{closed_chain}
+use Rattle.spv_interfaces.proofs.Using.{wanted_global}
 
 -- Bits that are added, by other words.
 pub adds_same : (bits : ℕ) (P Q : ℕ → Type 0) (old new : List ℕ) → ((f : ℕ) → P f → Q f) → ((f : ℕ) → Q f → P f)
@@ -241,10 +240,15 @@ result_same is n x y a b =
     let e = same_inst is n a.inst b.inst a.there b.there in
     same_Some x y (sym (subst (λ (i : PlainInst). result_in i.operands ≡ Some x) e a.result) ∙ b.result)
 
-wanted_global : (minor : ℕ) (is : List PlainInst) (x : ℕ) → IsWanted minor is x → IsGlobal is x
-wanted_global minor is x (IsWanted.any l g) = g
-wanted_global minor is x (IsWanted.outside l (inl o)) = o.global
-wanted_global minor is x (IsWanted.outside l (inr o)) = o.global
+-- what an entry point does not name is not among what it names
+pub not_named : (G : Table) (minor : ℕ) (is : List PlainInst) (n v : ℕ) (w : IsUnnamed G minor is n)
+    → IsDefinedAt is w.id v → Names is n v → ⊥
+not_named G minor is n v w d h =
+    let q = (same_entry is n h.function w.function h.interface w.interface h.entry w.entry).1 in
+    let one = result_same is v h.names.id w.id h.names.defined d in
+    let named_there : IsNamedIn w.interface h.names.id =
+    subst (λ (os : List Plain). IsNamedIn os h.names.id) q h.names.named in
+    w.unnamed (subst (λ (x : ℕ). IsNamedIn w.interface x) one named_there)
 
 module _ (G : Table) (minor : ℕ) (is : List PlainInst) (few : List ℕ) (calls : List Call) (uses : List Use)
     (first reached named : List ℕ)
@@ -329,20 +333,15 @@ module _ (G : Table) (minor : ℕ) (is : List PlainInst) (few : List ℕ) (calls
         use_there = u.use_there;
         there = u.there;
         has = subst (λ (f : ℕ). IsMarked reached f k) (sym u.function) there;
-        lacks = λ m. not_named v k n w at t.variable.defined
+        lacks = λ m. never v k n w at t.variable.defined
             ((names v k).0 (subst (λ (x : ℕ). IsMarked named x k) u.variable m));
       }
     where
-      not_named : (v k n : ℕ) (w : IsUnnamed G minor is n) → slice_get few k ≡ Some n → IsDefinedAt is w.id v
+      never : (v k n : ℕ) (w : IsUnnamed G minor is n) → slice_get few k ≡ Some n → IsDefinedAt is w.id v
           → IsEntered (Names is) few (length few) v k → ⊥
-      not_named v k n w at d e =
+      never v k n w at d e =
           let same = same_Some e.entry n (sym e.there ∙ at) in
-          let h : Names is n v = subst (λ (j : ℕ). Names is j v) same e.so in
-          let q = (same_entry is n h.function w.function h.interface w.interface h.entry w.entry).1 in
-          let one = result_same is v h.names.id w.id h.names.defined d in
-          let named_there : IsNamedIn w.interface h.names.id =
-          subst (λ (os : List Plain). IsNamedIn os h.names.id) q h.names.named in
-          w.unnamed (subst (λ (x : ℕ). IsNamedIn w.interface x) one named_there)
+          not_named G minor is n v w d (subst (λ (j : ℕ). Names is j v) same e.so)
 
   pub bit_tells : (k n : ℕ) → slice_get few k ≡ Some n
       → IsMissing reached named uses (length uses) k ↔ IsUnnamed G minor is n

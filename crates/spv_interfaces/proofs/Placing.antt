@@ -15,7 +15,7 @@ use Rattle.spv_type_forms.specs.Definitions.{IsGlobal}
 use Rattle.spv_flow.proofs.lemmas.calls.Insts.{same_inst}
 use Rattle.spv_interfaces.specs.inner.Uses.{IsInDefinition}
 
--- An instruction that is no variable: by its opcode, by its section.
+-- An instruction that is no variable, by its opcode.
 pub no_variable : (is : List PlainInst) (n : ℕ) (i : PlainInst) → slice_get is n ≡ Some i
     → (i.opcode ≡ opcode.VARIABLE → ⊥) → (x : ℕ) (g : IsGlobal is x) → ¬ (g.place ≡ n)
 no_variable is n i there other x g e =
@@ -23,15 +23,6 @@ no_variable is n i there other x g e =
     subst (λ (m : ℕ). slice_get is m ≡ Some g.defined.inst) e g.defined.there in
     let same = same_inst is n g.defined.inst i at there in
     other (subst (λ (j : PlainInst). j.opcode ≡ opcode.VARIABLE) same g.variable)
-
-pub not_global : (is : List PlainInst) (n s : ℕ) → IsOfSection is n s → nat_eq s 11 ≡ false → (x : ℕ)
-    (g : IsGlobal is x) → ¬ (g.place ≡ n)
-not_global is n s of f x g e =
-    let at : IsOfSection is n 11 = subst (λ (m : ℕ). IsOfSection is m 11) e g.section in
-    let same = section_same is n s 11 of at in
-    let t : nat_eq s 11 ≡ true = eq-eqb s 11 same in
-    let no : false ≡ true = sym f ∙ t in
-    absurd (cc)
 
 -- The section of a class, by the number of the class.
 early_low : (b : Bool) (k s : ℕ) → nat_lt k 10 ≡ b → (if b then Some (1 + k) else None) ≡ Some s → s ≤ 10
@@ -41,7 +32,7 @@ early_low true k s t e =
     omega (arith, l, q)
 early_low false k s t e = absurd cc
 
-low_section : (c : Class) (s : ℕ) → section_of c ≡ Some s → s ≤ 10
+pub low_section : (c : Class) (s : ℕ) → section_of c ≡ Some s → s ≤ 10
 low_section c s e = early_low (nat_lt (class_number c) 10) (class_number c) s refl e
 
 definition_moved : (is : List PlainInst) (f g : ℕ) → f ≡ g → IsDefinition is f → IsDefinition is g

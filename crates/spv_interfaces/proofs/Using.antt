@@ -1,25 +1,32 @@
 -- Uses of variables, as they are gathered.
 use Rattle.std.proofs.Common.{◌≡◌, ◌<◌, ◌≤◌, ◌+◌, ◌++◌, ◌∙◌, ◌⊎◌, inl, inr, ℕ, zero, suc, List, [], ◌∷◌, Option}
-use Rattle.std.proofs.Common.{Some, None, refl, sym, ap, subst, arith, length}
-use Rattle.std.specs.Prelude.{slice_get, slice_set}
+use Rattle.std.proofs.Common.{Some, refl, sym, ap, subst, arith, length}
+use Rattle.std.proofs.Common.{get_or}
+use Rattle.std.specs.Prelude.{slice_get, slice_set, replicate, option_and_then, MatchOption}
 use Rattle.std.proofs.lemmas.Bool.{cases_lt}
-use Rattle.std.proofs.lemmas.Option.{none-some}
 use Rattle.spv_table.specs.Table.{Table}
-use Rattle.spv_module.specs.Operand.{PlainInst}
+use Rattle.spv_module.specs.declared.opcode.TheConstants as opcode
+use Rattle.spv_module.specs.declared.operand.Operand.{Operand}
+use Rattle.spv_module.specs.Module.{plain_operand, plain_operands}
+use Rattle.spv_module.specs.Operand.{Plain, PlainInst}
 use Rattle.spv_layout.specs.declared.class.Class.TheVariants.{Function}
 use Rattle.spv_layout.specs.declared.form.Role.{Role}
 use Rattle.spv_layout.specs.Place.{IsAt}
-use Rattle.spv_layout.specs.Shape.{IsUse}
+use Rattle.spv_layout.specs.Shape.{FitsShape, IsUse}
 use Rattle.spv_layout.proofs.Places.{function_same}
 use Rattle.spv_layout.proofs.Shapes.{use_same}
 use Rattle.spv_ids.specs.Definition.{IsDefinedAt}
 use Rattle.spv_ids.specs.Outcome.{IsOnly}
+use Rattle.spv_ids.specs.inner.Uses.{seen_id}
+use Rattle.spv_type_forms.specs.Definitions.{IsGlobal}
 use Rattle.spv_flow.proofs.lemmas.branches.Labelled.{use_in, use_at, use_within}
+use Rattle.spv_flow.proofs.lemmas.walks.Used.{used_all as plain_used}
 use Rattle.spv_flow.proofs.lemmas.calls.Lists.{pushed_cases, pushed_keeps, pushed_last}
 use Rattle.spv_interfaces.specs.declared.used.Use.{Use}
 use Rattle.spv_interfaces.specs.inner.Uses.{AddsUses, AreNoted, AreUses, HasUse, IsInDefinition, IsUsedIn}
 use Rattle.spv_interfaces.specs.inner.Uses.{IsVariable, UsesBefore}
 use Rattle.spv_interfaces.specs.inner.Wanted.{IsWanted}
+use Rattle.spv_interfaces.proofs.Interfaces.{operand_there}
 
 -- A list with one use more.
 pub has_last : (uses : List Use) (u : Use) → HasUse (uses ++ u ∷ []) u.function u.variable
@@ -78,19 +85,19 @@ use_again uses g w h f v = (
 )
 
 -- What is noted, with one use more.
-pub noted_more : (old new : List (Option ℕ)) (uses : List Use) (u : Use) → AreNoted old uses
-    → ((v f : ℕ) → slice_get new v ≡ Some (Some f)
-    → (slice_get old v ≡ Some (Some f)) ⊎ ((v ≡ u.variable) × (f ≡ u.function)))
+pub noted_more : (old new : List ℕ) (uses : List Use) (u : Use) → AreNoted old uses
+    → ((v f : ℕ) → slice_get new v ≡ Some f
+    → (slice_get old v ≡ Some f) ⊎ ((v ≡ u.variable) × (f ≡ u.function)))
     → AreNoted new (uses ++ u ∷ [])
 noted_more old new uses u noted put = record {
-  each = λ v f h. elim (put v f h) [
-    | inl o ↦ has_kept uses u f v (noted.each v f o)
+  each = λ v f h some. elim (put v f h) [
+    | inl o ↦ has_kept uses u f v (noted.each v f o some)
     | inr e ↦ use_moved (uses ++ u ∷ []) u.function u.variable f v (sym e.1) (sym e.0) (has_last uses u)
   ];
 }
 
-pub put_set : (old : List (Option ℕ)) (g w v f : ℕ) → slice_get (slice_set old w (Some g)) v ≡ Some (Some f)
-    → (slice_get old v ≡ Some (Some f)) ⊎ ((v ≡ w) × (f ≡ g))
+pub put_set : (old : List ℕ) (g w v f : ℕ) → slice_get (slice_set old w g) v ≡ Some f
+    → (slice_get old v ≡ Some f) ⊎ ((v ≡ w) × (f ≡ g))
 put_set [] g w v f h = cc
 put_set (o ∷ os) g zero zero f h = inr (refl, (let e : g ≡ f = cc in sym e))
 put_set (o ∷ os) g zero (suc v) f h = inl h
@@ -101,15 +108,16 @@ put_set (o ∷ os) g (suc w) (suc v) f h = elim (put_set os g w v f h) [
 ]
 
 -- at first nothing is noted
-pub none_noted : (uses : List Use) → AreNoted [] uses
-none_noted uses = record { each = λ v f h. cc }
+pub all_same : (n x v y : ℕ) → slice_get (replicate n x) v ≡ Some y → y ≡ x
+all_same zero x v y h = cc
+all_same (suc n) x zero y h = (let e : x ≡ y = cc in sym e)
+all_same (suc n) x (suc v) y h = all_same n x v y h
 
-pub none_more : (last : List (Option ℕ)) (uses : List Use) → AreNoted last uses → AreNoted (last ++ None ∷ []) uses
-none_more last uses noted = record {
-  each = λ v f h. elim (pushed_cases last None v (Some f) h) [
-    | inl o ↦ noted.each v f o
-    | inr e ↦ absurd (none-some f e.1)
-  ];
+pub none_noted : (last : List ℕ) (n : ℕ) (uses : List Use) → last ≡ replicate n 0 → AreNoted last uses
+none_noted last n uses e = record {
+  each = λ v f h some.
+      let g : slice_get (replicate n 0) v ≡ Some f = subst (λ (xs : List ℕ). slice_get xs v ≡ Some f) e h in
+      absurd (some (all_same n 0 v f g));
 }
 
 -- Nothing is added, or by other words.
@@ -124,30 +132,49 @@ adds_same P Q old new to back a f v = (
 )
 
 -- A use of an id.
-pub id_undefined : (minor : ℕ) (is : List PlainInst) (g x : ℕ) (uses : List Use)
-    → ((k : ℕ) → ¬ (IsDefinedAt is x k)) → AddsUses (λ f v. (f ≡ g) × IsVariable minor is x v) uses uses
-id_undefined minor is g x uses none =
-    adds_none (λ f v. (f ≡ g) × IsVariable minor is x v) uses (λ f v p. none v p.1.defined)
+pub wanted_global : (minor : ℕ) (is : List PlainInst) (x : ℕ) → IsWanted minor is x → IsGlobal is x
+wanted_global minor is x (IsWanted.any l g) = g
+wanted_global minor is x (IsWanted.outside l (inl o)) = o.global
+wanted_global minor is x (IsWanted.outside l (inr o)) = o.global
 
-pub id_other : (minor : ℕ) (is : List PlainInst) (g x : ℕ) (uses : List Use) → ¬ (IsWanted minor is x)
-    → AddsUses (λ f v. (f ≡ g) × IsVariable minor is x v) uses uses
-id_other minor is g x uses never =
-    adds_none (λ f v. (f ≡ g) × IsVariable minor is x v) uses (λ f v p. never p.1.wanted)
+pub none_wanted : (minor : ℕ) (is : List PlainInst) (x n : ℕ) → IsOnly is x n
+    → ((g : IsGlobal is x) → IsWanted minor is x → ¬ (g.place ≡ n)) → (v : ℕ) → ¬ (IsVariable minor is x v)
+none_wanted minor is x n only never v h =
+    let g = wanted_global minor is x h.wanted in
+    never g h.wanted (only.only g.place g.defined)
 
-pub id_wanted : (minor : ℕ) (is : List PlainInst) (g x w : ℕ) (old new : List Use) → IsOnly is x w
-    → IsWanted minor is x → AddsUses (λ f v. (f ≡ g) × (v ≡ w)) old new
-    → AddsUses (λ f v. (f ≡ g) × IsVariable minor is x v) old new
-id_wanted minor is g x w old new only wanted a =
-    adds_same (λ f v. (f ≡ g) × (v ≡ w)) (λ f v. (f ≡ g) × IsVariable minor is x v) old new
+pub id_other : (minor : ℕ) (is : List PlainInst) (n x : ℕ) (uses : List Use)
+    → ((v : ℕ) → ¬ (IsVariable minor is x v))
+    → AddsUses (λ f v. IsInDefinition is n f × IsVariable minor is x v) uses uses
+id_other minor is n x uses never =
+    adds_none (λ f v. IsInDefinition is n f × IsVariable minor is x v) uses (λ f v p. never v p.1)
+
+pub id_wanted : (minor : ℕ) (is : List PlainInst) (n x w : ℕ) (old new : List Use) → IsOnly is x w
+    → IsWanted minor is x → AddsUses (λ f v. IsInDefinition is n f × (v ≡ w)) old new
+    → AddsUses (λ f v. IsInDefinition is n f × IsVariable minor is x v) old new
+id_wanted minor is n x w old new only wanted a =
+    adds_same (λ f v. IsInDefinition is n f × (v ≡ w)) (λ f v. IsInDefinition is n f × IsVariable minor is x v) old new
     (λ f v p. (
       p.0,
       record { defined = subst (λ (k : ℕ). IsDefinedAt is x k) (sym p.1) only.there; wanted = wanted },
     ))
     (λ f v q. (q.0, only.only v q.1.defined)) a
 
+-- in a definition, and in none
+pub in_one : (is : List PlainInst) (n g w : ℕ) (old new : List Use) → IsInDefinition is n g
+    → AddsUses (λ f v. (f ≡ g) × (v ≡ w)) old new → AddsUses (λ f v. IsInDefinition is n f × (v ≡ w)) old new
+in_one is n g w old new within a =
+    adds_same (λ f v. (f ≡ g) × (v ≡ w)) (λ f v. IsInDefinition is n f × (v ≡ w)) old new
+    (λ f v p. (subst (λ (k : ℕ). IsInDefinition is n k) (sym p.0) within, p.1))
+    (λ f v q. (function_same is n f g q.0.of within.of, q.1)) a
+
+pub in_none : (is : List PlainInst) (n w : ℕ) (uses : List Use) → ((g : ℕ) → ¬ (IsInDefinition is n g))
+    → AddsUses (λ f v. IsInDefinition is n f × (v ≡ w)) uses uses
+in_none is n w uses never = adds_none (λ f v. IsInDefinition is n f × (v ≡ w)) uses (λ f v p. never f p.0)
+
 -- The operands of an instruction, one after another.
 abbrev pub Used : Table → ℕ → List PlainInst → PlainInst → ℕ → ℕ → ℕ → ℕ → Type 0
-Used G minor is inst g to f v = (f ≡ g) × UsesBefore G minor is inst to v
+Used G minor is inst n to f v = IsInDefinition is n f × UsesBefore G minor is inst to v
 
 pub none_used : (G : Table) (minor : ℕ) (is : List PlainInst) (inst : PlainInst) (g : ℕ) (uses : List Use)
     → AddsUses (Used G minor is inst g 0) uses uses
@@ -167,10 +194,21 @@ later G minor is inst m n v l u =
       variable = u.variable;
     }
 
+-- the id that an operand of an instruction other than an OpExtInst uses
+pub operand_used : (G : Table) (i : PlainInst) (os : List Operand) (k : ℕ) (d : Operand) (o : Option ℕ)
+    → plain_operands os ≡ i.operands → k < length os → o ≡ seen_id (plain_operand (get_or os k d))
+    → (i.opcode ≡ opcode.EXT_INST → ⊥) → FitsShape G i
+    → MatchOption o ((x : ℕ) (r : Role) → ¬ (IsUse G i k x r)) (λ x. (r : Role) × IsUse G i k x r)
+operand_used G i os k d o same l e plain fits =
+    let t : slice_get i.operands k ≡ Some (plain_operand (get_or os k d)) =
+    subst (λ (ps : List Plain). slice_get ps k ≡ Some (plain_operand (get_or os k d))) same
+    (operand_there os k d l) in
+    plain_used G i k o fits plain (e ∙ sym (ap (option_and_then seen_id) t))
+
 -- one operand more
 pub used_more : (G : Table) (minor : ℕ) (is : List PlainInst) (inst : PlainInst) (g i x : ℕ) (first old new : List Use)
     → (r : Role) × IsUse G inst i x r → AddsUses (Used G minor is inst g i) first old
-    → AddsUses (λ f v. (f ≡ g) × IsVariable minor is x v) old new
+    → AddsUses (λ f v. IsInDefinition is g f × IsVariable minor is x v) old new
     → AddsUses (Used G minor is inst g (i + 1)) first new
 used_more G minor is inst g i x first old new (r, u) a b f v = (
   λ h. elim ((b f v).0 h) [
@@ -280,17 +318,17 @@ below G minor is n m f v u l = record {
   variable = u.variable;
 }
 
-pub uses_more : (G : Table) (minor : ℕ) (is : List PlainInst) (n g : ℕ) (i : PlainInst) (old new : List Use)
-    → slice_get is n ≡ Some i → IsInDefinition is n g → AreUses G minor is n old
-    → AddsUses (Used G minor is i g (length i.operands)) old new → AreUses G minor is (n + 1) new
-uses_more G minor is n g i old new there within a b = record {
+pub uses_more : (G : Table) (minor : ℕ) (is : List PlainInst) (n : ℕ) (i : PlainInst) (old new : List Use)
+    → slice_get is n ≡ Some i → AreUses G minor is n old
+    → AddsUses (Used G minor is i n (length i.operands)) old new → AreUses G minor is (n + 1) new
+uses_more G minor is n i old new there a b = record {
   each = λ f v. (
     λ h. elim ((b f v).0 h) [
       | inl o ↦ lower G minor is n (n + 1) f v (omega arith) ((a.each f v).0 o)
       | inr p ↦ record {
         inst = n;
         below = omega arith;
-        within = subst (λ (k : ℕ). IsInDefinition is n k) (sym p.0) within;
+        within = p.0;
         operand = p.1.operand;
         id = p.1.id;
         role = p.1.role;
@@ -303,11 +341,10 @@ uses_more G minor is n g i old new there within a b = record {
       | inr last ↦
           let l = u.below in
           let here : u.inst ≡ n = omega (arith, l, last) in
-          let at = subst (λ (k : ℕ). IsInDefinition is k f) here u.within in
           let w = use_in G is u.inst u.operand u.id u.role i
           (subst (λ (k : ℕ). slice_get is k ≡ Some i) (sym here) there) u.used in
           inr (
-            function_same is n f g at.of within.of,
+            subst (λ (k : ℕ). IsInDefinition is k f) here u.within,
             record {
               operand = u.operand;
               below = use_within G i u.operand u.id u.role w;
@@ -317,21 +354,6 @@ uses_more G minor is n g i old new there within a b = record {
               variable = u.variable;
             },
           )
-    ]),
-  );
-}
-
-pub uses_past : (G : Table) (minor : ℕ) (is : List PlainInst) (n : ℕ) (uses : List Use)
-    → ((g : ℕ) → ¬ (IsInDefinition is n g)) → AreUses G minor is n uses → AreUses G minor is (n + 1) uses
-uses_past G minor is n uses none a = record {
-  each = λ f v. (
-    λ h. lower G minor is n (n + 1) f v (omega arith) ((a.each f v).0 h),
-    λ u. (a.each f v).1 (elim (cases_lt u.inst n) [
-      | inl less ↦ below G minor is n (n + 1) f v u less
-      | inr last ↦
-          let l = u.below in
-          let here : u.inst ≡ n = omega (arith, l, last) in
-          absurd (none f (subst (λ (k : ℕ). IsInDefinition is k f) here u.within))
     ]),
   );
 }

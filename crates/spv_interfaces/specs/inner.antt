@@ -4,4 +4,6 @@ pub mod Wanted
 pub mod Uses
 pub mod Marks
 pub mod Entries
+pub mod Early
+pub mod Counted
 pub mod Cleared

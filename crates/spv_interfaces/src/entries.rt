@@ -1,12 +1,13 @@
 //! Entry points, and what is wrong with an interface by what is in it.
 
 ghost use Rattle.std.specs.Prelude.{◌≡◌, ◌↔◌, ◌⊎◌, ◌≤◌, ◌<◌, ℕ, List, IfOk, IsTrue, MatchOption, OnOk, length, not};
-ghost use Rattle.std.specs.Prelude.{option_map};
+ghost use Rattle.std.specs.Prelude.{option_map, slice_get, Some};
 ghost use Rattle.std.specs.BTreeSet.{contains};
 ghost use Rattle.std.specs.Ordering.{nat_cmp};
 ghost use Rattle.spv_module.specs.Module.{plain_inst, plain_operand, plain_operands};
-ghost use Rattle.spv_module.specs.Operand.{Plain};
+ghost use Rattle.spv_module.specs.Operand.{Id, Plain};
 ghost use Rattle.spv_interfaces.specs.Interface.{IsTwiceIn, faced_by};
+ghost use Rattle.spv_interfaces.specs.inner.Early.{AreEarly};
 ghost use Rattle.spv_interfaces.specs.inner.Entries.{AreUpTo, HasInner, IsEntry, IsUnsound, IsUnsoundAt, face_id};
 
 use crate::classes::{OF_ALL, is_inner};
@@ -15,7 +16,11 @@ use spv_type_forms::Definitions;
 use std::alloc::{AllocError, Global};
 use std::collections::BTreeSet;
 
+/// The ids of an interface of at most so many are compared with one another.
+const FEW: usize = 8;
+
 /// The function and the interface of an OpEntryPoint.
+#[inline(always)]
 pub fn entry<'m, 'a>(inst: &'m Inst<'a>) -> Option<(u32, &'m [Operand<'a>])>
     ensures { option_map (λ p. (p.0, plain_operands p.1.now)) result ≡ faced_by (plain_inst inst.now) }
 {
@@ -53,8 +58,37 @@ fn put(seen: &mut BTreeSet<u32>, x: u32) -> Result<bool, AllocError>
     Ok(seen.insert(x)?)
 }
 
-/// Whether an id stands twice in an interface.
-fn has_twice(alloc: Global, interface: &[Operand<'_>]) -> Result<bool, AllocError>
+/// Whether an id is one of the first operands of an interface.
+fn is_before(interface: &[Operand<'_>], to: usize, x: u32) -> bool
+    requires { to ≤ length interface.now }
+    ensures { IsTrue result ↔ ((k : ℕ) × (k < to) × (slice_get (plain_operands interface.now) k ≡ Some (Id x))) }
+{
+    for at in 0..to {
+        if let Some(y) = id_of(interface[at]) {
+            if y == x {
+                return true;
+            }
+        }
+    }
+    false
+}
+
+/// Whether an id stands twice in a short interface, each compared with those before it. It takes no memory.
+fn has_twice_of_few(interface: &[Operand<'_>]) -> bool
+    ensures { IsTrue result ↔ ((x : ℕ) × IsTwiceIn (plain_operands interface.now) x) }
+{
+    for at in 0..interface.len() {
+        if let Some(x) = id_of(interface[at]) {
+            if is_before(interface, at, x) {
+                return true;
+            }
+        }
+    }
+    false
+}
+
+/// Whether an id stands twice in a long interface.
+fn has_twice_of_many(alloc: Global, interface: &[Operand<'_>]) -> Result<bool, AllocError>
     ensures { IfOk result (λ yes. IsTrue yes ↔ ((x : ℕ) × IsTwiceIn (plain_operands interface.now) x)) }
 {
     let mut seen = BTreeSet::new(alloc);
@@ -67,6 +101,17 @@ fn has_twice(alloc: Global, interface: &[Operand<'_>]) -> Result<bool, AllocErro
         }
     }
     Ok(false)
+}
+
+/// Whether an id stands twice in an interface.
+fn has_twice(alloc: Global, interface: &[Operand<'_>]) -> Result<bool, AllocError>
+    ensures { IfOk result (λ yes. IsTrue yes ↔ ((x : ℕ) × IsTwiceIn (plain_operands interface.now) x)) }
+{
+    if interface.len() <= FEW {
+        Ok(has_twice_of_few(interface))
+    } else {
+        Ok(has_twice_of_many(alloc, interface)?)
+    }
 }
 
 /// Whether a variable in an interface is neither of Input nor of Output.
@@ -101,6 +146,7 @@ fn is_unsound(
 }
 
 /// Whether an OpEntryPoint breaks O4 by what is in its interface; None of another instruction.
+#[inline(always)]
 fn judged(
     alloc: Global,
     definitions: &Definitions,
@@ -128,19 +174,19 @@ pub struct EntryPoints {
     pub unsound: Option<u32>,
 }
 
-/// The OpEntryPoints, in order, up to the first that breaks O4 by what is in its interface; and that one. There are
-/// `total` instructions.
+/// The OpEntryPoints, in order, up to the first that breaks O4 by what is in its interface; and that one. `before`
+/// instructions stand before the functions: no other is looked at.
 pub fn entry_points(
     alloc: Global,
     definitions: &Definitions,
     minor: u8,
-    total: u32,
+    before: u32,
 ) -> Result<EntryPoints, AllocError>
-    requires { total ≡ length definitions.now }
+    requires { AreEarly definitions.now before }
     ensures { IfOk result (λ found. AreUpTo minor definitions.now found.sound.items found.unsound) }
 {
     let mut sound = Vec::new(alloc);
-    for number in 0..total {
+    for number in 0..before {
         if let Some(unsound) = judged(alloc, definitions, minor, number)? {
             if unsound {
                 return Ok(EntryPoints {

@@ -3,6 +3,7 @@
 
 mod classes;
 mod cleared;
+mod counted;
 mod entries;
 pub mod laws;
 mod marks;

@@ -21,8 +21,9 @@ use std::alloc::{AllocError, Global};
 /// 1.6, OpEntryPoint). `plan` and `ids` are what `lay_out` and `number` answered of the module, and `definitions` is of
 /// them.
 ///
-/// The entry points are looked at in the order in which they stand, 64 at a time: a pass over the calls and the uses of
-/// variables, of each definition once, serves so many.
+/// Where each entry point has all variables of the module in its interface that may have to be there, no function is
+/// looked at; and where each has those that are used, no call is. Otherwise they are looked at in the order in which
+/// they stand, 64 at a time: a pass over the calls and the uses of variables, of each definition once, serves so many.
 ///
 /// An `AllocError` comes only where a growth of memory was refused.
 pub fn first_misfaced(
@@ -41,8 +42,8 @@ pub fn first_misfaced(
     ensures { (G : Table) → IsPlan G (map plain_inst insts.now) plan.now
         → IfOk result (IsFirstOf (IsMisfaced G minor definitions.now)) }
 {
-    let total = insts.len() as u32;
-    let found = entry_points(alloc, definitions, minor, total)?;
+    let before = plan.before_functions();
+    let found = entry_points(alloc, definitions, minor, before)?;
     if found.sound.is_empty() {
         return Ok(found.unsound);
     }

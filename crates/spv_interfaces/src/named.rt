@@ -15,10 +15,11 @@ ghost use Rattle.spv_interfaces.specs.inner.Marks.{Adds, HasBit, IsMarked};
 ghost use Rattle.spv_interfaces.specs.inner.Uses.{AreUses};
 
 use crate::cleared::{clear_calls, end_all};
+use crate::counted::{are_full, are_settled, counts_of};
 use crate::entries::{entry, id_of};
 use crate::marks::{Marks, set, spread};
 use crate::order::callers_first;
-use crate::used::{Use, has_variable, uses_of};
+use crate::used::{Use, first_variable, uses_of};
 use spv_flow::calls::{Call, calls_of, entries_of};
 use spv_ids::Ids;
 use spv_layout::Plan;
@@ -168,8 +169,38 @@ fn first_missing(
     None
 }
 
+/// The first of some OpEntryPoints that does not name a variable which its call tree uses, by all uses.
+fn first_by_calls(
+    alloc: Global,
+    definitions: &Definitions,
+    insts: &[Inst<'_>],
+    plan: &Plan,
+    ids: &Ids,
+    uses: &[Use],
+    entries: &[u32],
+) -> Result<Option<u32>, AllocError>
+    requires few { AreFew insts.now }
+    requires same { definitions.now ≡ map plain_inst insts.now }
+    requires plan { (G : Table) × IsPlan G (map plain_inst insts.now) plan.now }
+    requires ids { (x : ℕ) → IsDefinitionOf (map plain_inst insts.now) x (definition_in ids.now x) }
+    requires within { (k n : ℕ) → slice_get entries.now k ≡ Some n → n < length definitions.now }
+    ensures { (G : Table) (minor : ℕ) → AreUses G minor definitions.now (length definitions.now) uses.now
+        → IfOk result (IsFirstAmong (IsUnnamed G minor definitions.now) entries.now) }
+{
+    let calls = calls_of(alloc, insts, plan, ids)?;
+    let functions = entries_of(alloc, insts, ids)?;
+    let order = callers_first(alloc, insts.len(), calls.as_slice(), functions.as_slice())?;
+    let tree = Tree {
+        calls: calls.as_slice(),
+        order: order.as_slice(),
+        uses,
+    };
+    let mut marks = Marks::new(alloc, insts.len())?;
+    Ok(first_missing(&mut marks, definitions, &tree, entries))
+}
+
 /// The first of some OpEntryPoints that does not name a variable which its call tree uses, in a module of version
-/// 1.`minor`.
+/// 1.`minor`. Where all of them name each variable, or each that is used, no call is looked at.
 pub fn first_unnamed(
     alloc: Global,
     definitions: &Definitions,
@@ -187,22 +218,27 @@ pub fn first_unnamed(
     ensures { (G : Table) → IsPlan G (map plain_inst insts.now) plan.now
         → IfOk result (IsFirstAmong (IsUnnamed G minor definitions.now) entries.now) }
 {
-    let total = insts.len() as u32;
-    if !has_variable(definitions, total) {
+    let end = plan.before_functions();
+    let Some(first) = first_variable(definitions, end) else {
         return Ok(None);
-    }
-    let uses = uses_of(alloc, definitions, minor, plan.before_functions(), total)?;
-    if uses.is_empty() {
-        return Ok(None);
-    }
-    let calls = calls_of(alloc, insts, plan, ids)?;
-    let functions = entries_of(alloc, insts, ids)?;
-    let order = callers_first(alloc, insts.len(), calls.as_slice(), functions.as_slice())?;
-    let tree = Tree {
-        calls: calls.as_slice(),
-        order: order.as_slice(),
-        uses: uses.as_slice(),
     };
-    let mut marks = Marks::new(alloc, insts.len())?;
-    Ok(first_missing(&mut marks, definitions, &tree, entries))
+    let counts = counts_of(alloc, definitions, end, entries)?;
+    let all = entries.len();
+    if are_settled(definitions, minor, first, end, counts.as_slice(), all) {
+        return Ok(None);
+    }
+    let uses = uses_of(alloc, definitions, minor, first, end, insts.len() as u32)?;
+    if are_full(uses.as_slice(), counts.as_slice(), all) {
+        return Ok(None);
+    }
+    let found = first_by_calls(
+        alloc,
+        definitions,
+        insts,
+        plan,
+        ids,
+        uses.as_slice(),
+        entries,
+    )?;
+    Ok(found)
 }

@@ -1,23 +1,28 @@
 //! The variables that definitions use.
 
-ghost use Rattle.std.specs.Prelude.{◌≡◌, ◌+◌, ◌↔◌, ◌⊎◌, ◌≤◌, ◌<◌, ℕ, false, length, slice_get, IfOk, IsTrue};
+ghost use Rattle.std.specs.Prelude.{◌≡◌, ◌≢◌, ◌+◌, ◌↔◌, ◌⊎◌, ◌≤◌, ◌<◌, ℕ, length, slice_get, IfOk, IsTrue};
 ghost use Rattle.std.specs.Prelude.{MatchOption, OnOk};
 ghost use Rattle.std.specs.Prelude.{◌∷◌, [], Some};
 ghost use Rattle.spv_table.specs.Table.{Table};
 ghost use Rattle.spv_module.specs.Module.{plain_inst};
+ghost use Rattle.spv_module.specs.declared.opcode.TheConstants as opcode;
 ghost use Rattle.spv_layout.specs.declared.class.Class.TheVariants.{Function};
 ghost use Rattle.spv_layout.specs.declared.form.Role as declared;
 ghost use Rattle.spv_layout.specs.Place.{IsAt};
+ghost use Rattle.spv_ids.specs.Outcome.{IsOnly};
 ghost use Rattle.spv_layout.specs.Shape.{FitsShape, IsUse};
 ghost use Rattle.spv_type_forms.specs.Definitions.{IsGlobal};
+ghost use Rattle.spv_interfaces.specs.inner.Early.{AreBetween, AreEarly};
 ghost use Rattle.spv_interfaces.specs.inner.Uses.{AddsUses, AreNoted, AreUses, Fit, IsInDefinition, IsVariable};
 ghost use Rattle.spv_interfaces.specs.inner.Uses.{UsesBefore};
+ghost use Rattle.spv_interfaces.specs.inner.Wanted.{IsWanted};
 
 use crate::classes::is_wanted;
 use spv_flow::walks::use_id;
+use spv_ids::seen_id;
 use spv_layout::{DEFINITIONS, id_at, role};
 use spv_module::{Inst, opcode};
-use spv_type_forms::{DECLARATIONS, Definitions};
+use spv_type_forms::Definitions;
 use std::alloc::{AllocError, Global};
 
 /// A use of a variable in a definition.
@@ -45,28 +50,51 @@ fn used(inst: &Inst<'_>, n: usize) -> Option<u32>
     }
 }
 
-/// Whether an instruction is an OpVariable of section 9.
-fn is_variable(definitions: &Definitions, number: u32) -> bool
-    requires { number < length definitions.now }
-    ensures { result ≡ false → (x : ℕ) (g : IsGlobal definitions.now x) → ¬ (g.place ≡ number) }
+/// The number of the first OpVariable, if there is one before the functions: `before` instructions are.
+pub fn first_variable(definitions: &Definitions, before: u32) -> Option<u32>
+    requires { AreEarly definitions.now before }
+    ensures { MatchOption result ((x : ℕ) → ¬ (IsGlobal definitions.now x))
+        (λ first. AreBetween definitions.now first before) }
 {
-    if definitions.inst(number).opcode != opcode::VARIABLE {
-        return false;
-    }
-    definitions.place(number).section == DECLARATIONS
-}
-
-/// Whether there may be a variable: false only where there is none. There are `total` instructions.
-pub fn has_variable(definitions: &Definitions, total: u32) -> bool
-    requires { total ≡ length definitions.now }
-    ensures { result ≡ false → (x : ℕ) → ¬ (IsGlobal definitions.now x) }
-{
-    for number in 0..total {
-        if is_variable(definitions, number) {
-            return true;
+    for number in 0..before {
+        if definitions.inst(number).opcode == opcode::VARIABLE {
+            return Some(number);
         }
     }
-    false
+    None
+}
+
+/// The OpVariables of section 9 that are looked for: those which have to be in the interface where they are used.
+#[derive(Clone, Copy)]
+struct Wanted {
+    /// The minor version of the module.
+    minor: u8,
+    /// They stand from this number on.
+    first: u32,
+    /// They stand before this number.
+    end: u32,
+}
+
+/// The number of the OpVariable that defines an id, if that is looked for.
+#[inline(always)]
+fn variable_of(definitions: &Definitions, wanted: Wanted, x: u32) -> Option<u32>
+    requires { AreBetween definitions.now wanted.first wanted.end }
+    ensures { MatchOption result ((v : ℕ) → ¬ (IsVariable wanted.minor definitions.now x v))
+        (λ v. IsOnly definitions.now x v × IsWanted wanted.minor definitions.now x) }
+{
+    let Some(number) = definitions.number(x) else {
+        return None;
+    };
+    if number < wanted.first || wanted.end <= number {
+        return None;
+    }
+    if definitions.inst(number).opcode == opcode::VARIABLE
+        && is_wanted(definitions, wanted.minor, x)
+    {
+        Some(number)
+    } else {
+        None
+    }
 }
 
 /// The definition that an instruction is in.
@@ -85,45 +113,44 @@ fn definition_of(definitions: &Definitions, number: u32) -> Option<u32>
     }
 }
 
+/// In place of the number of an OpFunction: there is none. No OpFunction stands first.
+const NONE: u32 = 0;
+
 /// Whether it is noted that the use of a variable that was noted last is one in this definition.
 #[inline(always)]
-fn is_noted(last: &[Option<u32>], function: u32, variable: u32) -> bool
-    ensures { IsTrue result → slice_get last.now variable ≡ Some (Some function) }
+fn is_noted(last: &[u32], function: u32, variable: u32) -> bool
+    ensures { IsTrue result → (slice_get last.now variable ≡ Some function) × (function ≢ 0) }
 {
     match last.get(variable as usize) {
-        Some(Some(other)) => *other == function,
-        _ => false,
+        Some(other) => *other == function && function != NONE,
+        None => false,
     }
 }
 
 /// Notes that a variable was used last in this definition.
 #[inline(always)]
-fn put_last(last: &mut Vec<Option<u32>>, function: u32, variable: u32)
-    ensures { (v f : ℕ) → slice_get last.new.items v ≡ Some (Some f)
-        → (slice_get last.old.items v ≡ Some (Some f)) ⊎ ((v ≡ variable) × (f ≡ function)) }
+fn put_last(last: &mut Vec<u32>, function: u32, variable: u32)
+    ensures { (v f : ℕ) → slice_get last.new.items v ≡ Some f
+        → (slice_get last.old.items v ≡ Some f) ⊎ ((v ≡ variable) × (f ≡ function)) }
 {
     let at = variable as usize;
     if at < last.len() {
-        last[at] = Some(function);
+        last[at] = function;
     }
 }
 
 /// Nothing noted of so many instructions.
-fn nothing_noted(alloc: Global, count: u32) -> Result<Vec<Option<u32>>, AllocError>
+fn nothing_noted(alloc: Global, count: u32) -> Result<Vec<u32>, AllocError>
     ensures { IfOk result (λ last. AreNoted last.items []) }
 {
-    let mut last = Vec::with_capacity(alloc, count as usize)?;
-    for _ in 0..count {
-        last.push(None)?;
-    }
-    Ok(last)
+    Ok(vec![in alloc; NONE; count as usize]?)
 }
 
 /// What is gathered of uses.
 #[derive(Drop)]
 struct Uses {
-    /// At each variable the OpFunction of the definition whose use of it was noted last.
-    last: Vec<Option<u32>>,
+    /// At each variable the OpFunction of the definition whose use of it was noted last, or `NONE`.
+    last: Vec<u32>,
     found: Vec<Use>,
 }
 
@@ -144,98 +171,152 @@ impl Uses {
         Ok(())
     }
 
-    /// Takes note that a definition uses an id.
-    #[inline(always)]
-    fn note_id(
+    /// Takes note that an instruction uses a variable, if it is in a definition.
+    fn note_in(
         &mut self,
         definitions: &Definitions,
-        minor: u8,
-        function: u32,
-        x: u32,
+        number: u32,
+        variable: u32,
     ) -> Result<(), AllocError>
-        requires { AreNoted self.old.last.items self.old.found.items }
+        requires number { number < length definitions.now }
+        requires noted { AreNoted self.old.last.items self.old.found.items }
         ensures noted { OnOk result (AreNoted self.new.last.items self.new.found.items) }
-        ensures added { OnOk result (AddsUses (λ f v. (f ≡ function) × IsVariable minor definitions.now x v)
+        ensures added { OnOk result (AddsUses (λ f v. IsInDefinition definitions.now number f × (v ≡ variable))
             self.old.found.items self.new.found.items) }
     {
-        let Some(variable) = definitions.number(x) else {
+        let Some(function) = definition_of(definitions, number) else {
             return Ok(());
         };
-        if !is_wanted(definitions, minor, x) {
-            return Ok(());
-        }
         self.note(function, variable)?;
         Ok(())
     }
 
-    /// Takes note of what an instruction of a definition uses.
-    fn note_all(
+    /// Takes note that an instruction uses an id, if it is in a definition.
+    #[inline(always)]
+    fn note_id(
         &mut self,
         definitions: &Definitions,
-        minor: u8,
-        function: u32,
+        wanted: Wanted,
+        number: u32,
+        x: u32,
+    ) -> Result<(), AllocError>
+        requires number { number < length definitions.now }
+        requires wanted { AreBetween definitions.now wanted.first wanted.end }
+        requires noted { AreNoted self.old.last.items self.old.found.items }
+        ensures noted { OnOk result (AreNoted self.new.last.items self.new.found.items) }
+        ensures added { OnOk result (AddsUses (λ f v. IsInDefinition definitions.now number f
+            × IsVariable wanted.minor definitions.now x v) self.old.found.items self.new.found.items) }
+    {
+        if let Some(variable) = variable_of(definitions, wanted, x) {
+            self.note_in(definitions, number, variable)?;
+        }
+        Ok(())
+    }
+
+    /// Takes note of what an OpExtInst uses: its operands have roles.
+    fn note_extended(
+        &mut self,
+        definitions: &Definitions,
+        wanted: Wanted,
+        number: u32,
         inst: &Inst<'_>,
     ) -> Result<(), AllocError>
-        requires { AreNoted self.old.last.items self.old.found.items }
+        requires number { number < length definitions.now }
+        requires wanted { AreBetween definitions.now wanted.first wanted.end }
+        requires noted { AreNoted self.old.last.items self.old.found.items }
         ensures noted { OnOk result (AreNoted self.new.last.items self.new.found.items) }
         ensures added { OnOk result ((G : Table) → FitsShape G (plain_inst inst.now)
-            → AddsUses (λ f v. (f ≡ function)
-            × UsesBefore G minor definitions.now (plain_inst inst.now) (length (plain_inst inst.now).operands) v)
+            → AddsUses (λ f v. IsInDefinition definitions.now number f × UsesBefore G wanted.minor definitions.now
+            (plain_inst inst.now) (length (plain_inst inst.now).operands) v)
             self.old.found.items self.new.found.items) }
     {
         for at in 0..inst.operands.as_slice().len() {
             if let Some(x) = used(inst, at) {
-                self.note_id(definitions, minor, function, x)?;
+                self.note_id(definitions, wanted, number, x)?;
+            }
+        }
+        Ok(())
+    }
+
+    /// Takes note of what an instruction other than an OpExtInst uses: each id but a result.
+    #[inline(always)]
+    fn note_plain(
+        &mut self,
+        definitions: &Definitions,
+        wanted: Wanted,
+        number: u32,
+        inst: &Inst<'_>,
+    ) -> Result<(), AllocError>
+        requires number { number < length definitions.now }
+        requires wanted { AreBetween definitions.now wanted.first wanted.end }
+        requires plain { (plain_inst inst.now).opcode ≢ opcode.EXT_INST }
+        requires noted { AreNoted self.old.last.items self.old.found.items }
+        ensures noted { OnOk result (AreNoted self.new.last.items self.new.found.items) }
+        ensures added { OnOk result ((G : Table) → FitsShape G (plain_inst inst.now)
+            → AddsUses (λ f v. IsInDefinition definitions.now number f × UsesBefore G wanted.minor definitions.now
+            (plain_inst inst.now) (length (plain_inst inst.now).operands) v)
+            self.old.found.items self.new.found.items) }
+    {
+        for operand in inst.operands.as_slice() {
+            if let Some(x) = seen_id(*operand) {
+                self.note_id(definitions, wanted, number, x)?;
             }
         }
         Ok(())
     }
 
     /// Takes note of what an instruction uses, if it is in a definition.
+    #[inline(always)]
     fn note_at(
         &mut self,
         definitions: &Definitions,
-        minor: u8,
+        wanted: Wanted,
         number: u32,
     ) -> Result<(), AllocError>
         requires number { number < length definitions.now }
+        requires wanted { AreBetween definitions.now wanted.first wanted.end }
         requires noted { AreNoted self.old.last.items self.old.found.items }
         ensures noted { OnOk result (AreNoted self.new.last.items self.new.found.items) }
         ensures added { OnOk result ((G : Table) → Fit G definitions.now
-            → AreUses G minor definitions.now number self.old.found.items
-            → AreUses G minor definitions.now (number + 1) self.new.found.items) }
+            → AreUses G wanted.minor definitions.now number self.old.found.items
+            → AreUses G wanted.minor definitions.now (number + 1) self.new.found.items) }
     {
-        let Some(function) = definition_of(definitions, number) else {
-            return Ok(());
-        };
-        self.note_all(definitions, minor, function, definitions.inst(number))?;
+        let inst = definitions.inst(number);
+        if inst.opcode == opcode::EXT_INST {
+            self.note_extended(definitions, wanted, number, inst)?;
+        } else {
+            self.note_plain(definitions, wanted, number, inst)?;
+        }
         Ok(())
     }
 }
 
-/// The uses of variables that have to be in the interface, by the instructions from one on to the last: `total` is how
-/// many there are. Of each definition and variable there is one.
+/// The uses of variables that have to be in the interface, in a module of version 1.`minor`: by the instructions from
+/// `end` on to the last, where `total` is how many there are. The variables stand from `first` on and before `end`. Of
+/// each definition and variable there is one use.
 ///
 /// Time is linear in the words of these instructions. An `AllocError` comes only where a growth of memory was refused.
 pub fn uses_of(
     alloc: Global,
     definitions: &Definitions,
     minor: u8,
-    from: u32,
+    first: u32,
+    end: u32,
     total: u32,
 ) -> Result<Vec<Use>, AllocError>
     requires total { total ≡ length definitions.now }
-    requires from { from ≤ total }
-    requires before { (n : ℕ) → n < from → ¬ (IsAt definitions.now n (Function ∷ [])) }
+    requires wanted { AreBetween definitions.now first end }
+    requires before { (n : ℕ) → n < end → ¬ (IsAt definitions.now n (Function ∷ [])) }
     ensures { IfOk result (λ uses. (G : Table) → Fit G definitions.now
         → AreUses G minor definitions.now (length definitions.now) uses.items) }
 {
+    let wanted = Wanted { minor, first, end };
     let mut uses = Uses {
-        last: nothing_noted(alloc, from)?,
+        last: nothing_noted(alloc, end)?,
         found: Vec::new(alloc),
     };
-    for number in from..total {
-        uses.note_at(definitions, minor, number)?;
+    for number in end..total {
+        uses.note_at(definitions, wanted, number)?;
     }
     Ok(uses.found)
 }

@@ -8,20 +8,15 @@ use Rattle.spv_table.specs.Table.{Table}
 use Rattle.spv_module.specs.Operand.{PlainInst}
 use Rattle.spv_module.specs.declared.fault.Rule.{Rule}
 use Rattle.spv_module.specs.declared.fault.Rule.TheVariants.{O14, O15, O16, O17, O18, O19, O20, O23}
-use Rattle.spv_module.specs.declared.fault.Stop.{Stop}
-use Rattle.spv_module.specs.declared.fault.Stop.TheVariants.{Fault, Memory}
 use Rattle.spv_layout.specs.Stage.{of_standard}
 use Rattle.spv_layout.specs.First.{rank_of, stage_of, IsFirst}
-use Rattle.spv_layout.specs.Place.{first_word_of}
-use Rattle.spv_layout.specs.inner.Outcome.{IsStopAt}
-use Rattle.spv_kernel_operands.specs.declared.check.Found.{Found}
 use Rattle.spv_kernel_operands.specs.Scopes.{IsMisscoped}
 use Rattle.spv_kernel_operands.specs.Pointers.{IsMisatomic, IsMiswritten, IsEmptyCopy}
 use Rattle.spv_kernel_operands.specs.Control.{IsMiscontrolled}
 use Rattle.spv_kernel_operands.specs.Switch.{IsMisswitched}
 use Rattle.spv_kernel_operands.specs.Objects.{IsVoidReturn, IsMadeElsewhere}
-use Rattle.spv_kernel_operands.specs.Broken.{Broken, IsBrokenBy, IsRefusal}
-use Rattle.spv_kernel_operands.specs.inner.First.{IsFirstAt, IsFirstFound, IsFirstOf}
+use Rattle.spv_kernel_operands.specs.Broken.{Broken, IsBrokenBy}
+use Rattle.spv_kernel_operands.specs.inner.First.{IsFirstAt, IsFirstOf}
 
 -- what holds of each rule that an instruction breaks
 pub by_rule : (G : Table) (is : List PlainInst) (i : PlainInst) (P : Rule → Type 0) → (IsMisscoped is i → P O14)
@@ -105,7 +100,7 @@ before_elsewhere : (G : Table) (is : List PlainInst) (i : PlainInst) (r : Rule) 
 before_elsewhere G is i r b = by_rule G is i (λ q. rank_of q ≤ rank_of O23) (λ _. omega arith) (λ _. omega arith)
     (λ _. omega arith) (λ _. omega arith) (λ _. omega arith) (λ _. omega arith) (λ _. omega arith) r b
 
-same_inst : (G : Table) (is : List PlainInst) (n : ℕ) (i j : PlainInst) (q : Rule) → slice_get is n ≡ Some i
+pub same_inst : (G : Table) (is : List PlainInst) (n : ℕ) (i j : PlainInst) (q : Rule) → slice_get is n ≡ Some i
     → slice_get is n ≡ Some j → IsBrokenBy G is j q → IsBrokenBy G is i q
 same_inst G is n i j q one other b =
     subst (λ (k : PlainInst). IsBrokenBy G is k q) (same_Some j i (sym other ∙ one)) b
@@ -142,9 +137,6 @@ pub broken_there : (G : Table) (is : List PlainInst) (r : Rule) (n : ℕ) → Br
 broken_there G is _ _ (Broken.operands r n i t b) = slice_get_within is n i t
 broken_there G is _ _ (Broken.elsewhere n e) = slice_get_within is n e.inst e.there
 
-pub found_there : (G : Table) (is : List PlainInst) (f : Found) → IsFirstFound G is (Some f) → f.inst < length is
-found_there G is f h = broken_there G is f.rule f.inst h.0.0
-
 pub stage_by : (G : Table) (is : List PlainInst) (r : Rule) (n : ℕ) → Broken G is r n → stage_of r ≡ of_standard
 stage_by G is _ _ (Broken.operands r n i t b) = by_rule G is i (λ q. stage_of q ≡ of_standard) (λ _. refl) (λ _. refl)
     (λ _. refl) (λ _. refl) (λ _. refl) (λ _. refl) (λ _. refl) r b
@@ -161,25 +153,10 @@ least_by G is r n before here q m b = elim (cases_order n m) [
   ]
 ]
 
-pub first_found : (G : Table) (is : List PlainInst) (f : Found) → IsFirstFound G is (Some f)
-    → IsFirst (Broken G is) of_standard f.rule f.inst
-first_found G is f h = record {
-  of_stage = stage_by G is f.rule f.inst h.0.0;
-  broken = h.0.0;
-  least = λ q m s b. least_by G is f.rule f.inst h.1 h.0.1 q m b;
+pub first_found : (G : Table) (is : List PlainInst) (r : Rule) (n : ℕ) → IsFirstAt G is n (Some r)
+    → ((q : Rule) (m : ℕ) → m < n → ¬ (Broken G is q m)) → IsFirst (Broken G is) of_standard r n
+first_found G is r n h before = record {
+  of_stage = stage_by G is r n h.0;
+  broken = h.0;
+  least = λ q m s b. least_by G is r n before h.1 q m b;
 }
-
--- what is told of the first
-told : (G : Table) (is : List PlainInst) (r : Rule) (n : ℕ) (stop : Stop)
-    → IsFirst (Broken G is) of_standard r n → IsStopAt is r n stop → IsRefusal G is stop
-told G is r n Memory first h = absurd h
-told G is r n (Fault f) first (e, where_at, word) =
-    let one : IsFirst (Broken G is) of_standard f.rule n =
-    subst (λ (q : Rule). IsFirst (Broken G is) of_standard q n) (sym e) first in (
-      subst (λ (m : ℕ). IsFirst (Broken G is) of_standard f.rule m) (sym where_at) one,
-      word ∙ ap (first_word_of is) (sym where_at),
-    )
-
-pub found_told : (G : Table) (is : List PlainInst) (f : Found) (stop : Stop) → IsFirstFound G is (Some f)
-    → IsStopAt is f.rule f.inst stop → IsRefusal G is stop
-found_told G is f stop h s = told G is f.rule f.inst stop (first_found G is f h) s

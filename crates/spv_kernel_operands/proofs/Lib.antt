@@ -2,5 +2,6 @@ pub mod Valued
 pub mod Misscopes
 pub mod Images
 pub mod Firsts
+pub mod Quiet
 pub mod Literals
 pub mod Worked

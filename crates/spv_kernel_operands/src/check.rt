@@ -1,119 +1,71 @@
-//! The first of the rules on operands that is broken.
+//! The first of the rules on operands that is broken at an instruction.
 
-ghost use Rattle.std.specs.Prelude.{◌≡◌, ◌<◌, ℕ, IfOk, IfErr, length};
+ghost use Rattle.std.specs.Prelude.{◌≡◌, ◌<◌, ℕ, List, Some, None, IsTrue, IfOk, length, slice_get, if◌then◌else◌};
 ghost use Rattle.spv_table.specs.Table.{Table};
-ghost use Rattle.spv_module.specs.Module.{plain_inst, plain_insts};
-ghost use Rattle.spv_layout.specs.Stage.{of_standard};
-ghost use Rattle.spv_layout.specs.First.{IsUnbroken};
-ghost use Rattle.spv_layout.specs.Place.{IsShort};
-ghost use Rattle.spv_layout.specs.Plan.{IsPlan};
-ghost use Rattle.spv_ids.specs.Outcome.{IsDefinitionOf, definition_in};
-ghost use Rattle.spv_kernel_operands.specs.Broken.{Broken, IsBrokenBy, IsRefusal};
-ghost use Rattle.spv_kernel_operands.specs.inner.First.{IsFirstAt, IsFirstFound, IsFirstOf};
+ghost use Rattle.spv_module.specs.Module.{plain_inst};
+ghost use Rattle.spv_module.specs.Operand.{PlainInst};
+ghost use Rattle.spv_kernel_operands.specs.Broken.{Broken};
+ghost use Rattle.spv_kernel_operands.specs.inner.First.{IsFirstAt, IsFirstInMemory};
 
 use crate::control::is_miscontrolled;
 use crate::objects::{is_made_elsewhere, is_void_return};
-use crate::pointers::{is_empty_copy, is_misatomic, is_miswritten};
+use crate::pointers::{is_any_atomic, is_empty_copy, is_misatomic, is_miswritten, is_write};
 use crate::scopes::is_misscoped;
+use crate::seats::is_seatless;
 use crate::switch::is_misswitched;
-use spv_capabilities::Survey;
-use spv_ids::Ids;
-use spv_layout::Plan;
-use spv_module::{Inst, Module, Rule, Stop};
-use spv_table::Table;
+use spv_capabilities::Capabilities;
+use spv_module::{Inst, Rule, opcode};
 use spv_type_forms::Definitions;
 use std::alloc::{AllocError, Global};
 
-/// A broken rule, and its instruction.
-#[derive(Clone, Copy)]
-pub struct Found {
-    pub rule: Rule,
-    pub inst: u32,
+/// Whether no instruction of an opcode breaks one of the rules O14 to O20 and O23.
+pub fn is_quiet(number: u16) -> bool
+    ensures { IsTrue result → (G : Table) (is : List PlainInst) (n : ℕ) (i : PlainInst) → slice_get is n ≡ Some i
+        → i.opcode ≡ number → (r : Rule) → ¬ (Broken G is r n) }
+{
+    match number {
+        opcode::LOOP_MERGE
+        | opcode::BRANCH_CONDITIONAL
+        | opcode::SWITCH
+        | opcode::RETURN_VALUE
+        | opcode::IMAGE_SAMPLE_EXPLICIT_LOD
+        | opcode::IMAGE => false,
+        _ => is_seatless(number) && !is_write(number) && !is_any_atomic(number),
+    }
 }
 
-/// The first of the rules O14 to O20 that an instruction breaks.
-fn broken_by(
-    alloc: Global,
-    survey: &Survey<'_, '_>,
+/// A rule where it is broken.
+fn rule_if(rule: Rule, is_broken: bool) -> Option<Rule>
+    ensures { result ≡ (if is_broken then Some rule else None) }
+{
+    if is_broken { Some(rule) } else { None }
+}
+
+/// The first of the rules O14 to O17, on scopes, memory and copies, that an instruction breaks.
+fn broken_in_memory(
+    capabilities: &Capabilities<'_, '_>,
     definitions: &Definitions,
     inst: &Inst<'_>,
-) -> Result<Option<Rule>, AllocError>
-    requires { survey.now.insts ≡ definitions.now }
-    ensures { IfOk result (IsFirstOf (IsBrokenBy survey.now.table definitions.now (plain_inst inst.now))) }
+) -> Option<Rule>
+    requires { capabilities.now.insts ≡ definitions.now }
+    ensures { IsFirstInMemory capabilities.now.table definitions.now (plain_inst inst.now) result }
 {
     if is_misscoped(definitions, inst) {
-        return Ok(Some(Rule::O14));
+        return Some(Rule::O14);
     }
-    if is_misatomic(survey, definitions, inst) {
-        return Ok(Some(Rule::O15));
+    if is_misatomic(capabilities, definitions, inst) {
+        return Some(Rule::O15);
     }
     if is_miswritten(definitions, inst) {
-        return Ok(Some(Rule::O16));
+        return Some(Rule::O16);
     }
     if is_empty_copy(definitions, inst) {
-        return Ok(Some(Rule::O17));
+        return Some(Rule::O17);
     }
-    if is_miscontrolled(inst) {
-        return Ok(Some(Rule::O18));
-    }
-    if is_misswitched(alloc, definitions, inst)? {
-        return Ok(Some(Rule::O19));
-    }
-    if is_void_return(definitions, inst) {
-        return Ok(Some(Rule::O20));
-    }
-    Ok(None)
+    None
 }
 
-/// The first of the rules that is broken at an instruction.
-fn broken_at(
-    alloc: Global,
-    survey: &Survey<'_, '_>,
-    definitions: &Definitions,
-    number: u32,
-) -> Result<Option<Rule>, AllocError>
-    requires same { survey.now.insts ≡ definitions.now }
-    requires number { number < length definitions.now }
-    ensures { IfOk result (IsFirstAt survey.now.table definitions.now number) }
-{
-    let inst = definitions.inst(number);
-    if let Some(rule) = broken_by(alloc, survey, definitions, inst)? {
-        return Ok(Some(rule));
-    }
-    if is_made_elsewhere(definitions, number, inst) {
-        return Ok(Some(Rule::O23));
-    }
-    Ok(None)
-}
-
-/// The first of the rules that is broken, by instruction and then by number. `count` is how many instructions there
-/// are.
-///
-/// Time is linear in the words of the module, but for the logarithm of a sort of the literals of each OpSwitch. An
-/// `AllocError` comes only where a growth of memory was refused.
-pub fn first_found(
-    alloc: Global,
-    survey: &Survey<'_, '_>,
-    definitions: &Definitions,
-    count: u32,
-) -> Result<Option<Found>, AllocError>
-    requires same { survey.now.insts ≡ definitions.now }
-    requires count { count ≡ length definitions.now }
-    ensures { IfOk result (IsFirstFound survey.now.table definitions.now) }
-{
-    for number in 0..count {
-        if let Some(rule) = broken_at(alloc, survey, definitions, number)? {
-            return Ok(Some(Found { rule, inst: number }));
-        }
-    }
-    Ok(None)
-}
-
-/// Looks at the operands of a kernel's instructions (SPIR-V Specification 1.6). `plan` and `ids` are what `lay_out` and
-/// `number` answered of that module, in which no rule of an earlier stage is broken.
-///
-/// A `Fault` tells the first rule that is broken, with its instruction and that instruction's first word (words and
-/// instructions from 0). At one instruction the first in this order is told:
+/// The first of these rules that the instruction of a number, from 0, breaks (SPIR-V Specification 1.6):
 /// - O14: a scope or memory semantics with a value that there may not be there (3.25, 3.27).
 /// - O15: an atomic works on a type on which none does (2.16.1).
 /// - O16: a write to UniformConstant or Input, or an atomic there (3.7).
@@ -124,27 +76,31 @@ pub fn first_found(
 /// - O20: a value of type void is returned (OpReturnValue).
 /// - O23: a sampled image is not made in the block that takes it (OpSampledImage).
 ///
-/// `Memory` comes only where a growth of memory was refused.
-pub fn check_operands(
+/// Time is linear in the words of the instruction, but for the logarithm of a sort of the literals of an OpSwitch. An
+/// `AllocError` comes only where a growth of memory was refused.
+pub fn broken_at(
     alloc: Global,
-    table: &Table,
-    module: &Module<'_>,
-    plan: &Plan,
-    ids: &Ids,
-) -> Result<(), Stop>
-    requires words { IsShort (plain_insts «module».now) }
-    requires plan { (G : Table) × IsPlan G (plain_insts «module».now) plan.now }
-    requires ids { (x : ℕ) → IsDefinitionOf (plain_insts «module».now) x (definition_in ids.now x) }
-    ensures unbroken { IfOk result (λ _. IsUnbroken (Broken table.now (plain_insts «module».now)) of_standard) }
-    ensures refused { IfErr result (λ s. IsRefusal table.now (plain_insts «module».now) s) }
+    capabilities: &Capabilities<'_, '_>,
+    definitions: &Definitions,
+    number: u32,
+) -> Result<Option<Rule>, AllocError>
+    requires same { capabilities.now.insts ≡ definitions.now }
+    requires number { number < length definitions.now }
+    ensures { IfOk result (IsFirstAt capabilities.now.table definitions.now number) }
 {
-    let insts = module.insts.as_slice();
-    let Ok(survey) = Survey::new(alloc, table, insts, plan, ids) else {
-        return Err(Stop::Memory);
+    let inst = definitions.inst(number);
+    let rule = match inst.opcode {
+        opcode::STORE => rule_if(Rule::O16, is_miswritten(definitions, inst)),
+        opcode::LOOP_MERGE | opcode::BRANCH_CONDITIONAL => rule_if(
+            Rule::O18,
+            is_miscontrolled(inst),
+        ),
+        opcode::SWITCH => rule_if(Rule::O19, is_misswitched(alloc, definitions, inst)?),
+        opcode::RETURN_VALUE => rule_if(Rule::O20, is_void_return(definitions, inst)),
+        opcode::IMAGE_SAMPLE_EXPLICIT_LOD | opcode::IMAGE => {
+            rule_if(Rule::O23, is_made_elsewhere(definitions, number, inst))
+        }
+        _ => broken_in_memory(capabilities, definitions, inst),
     };
-    let definitions = Definitions::new(insts, plan, ids);
-    match first_found(alloc, &survey, &definitions, insts.len() as u32)? {
-        Some(found) => Err(plan.stop_at(found.rule, found.inst)),
-        None => Ok(()),
-    }
+    Ok(rule)
 }

@@ -12,7 +12,7 @@ mod seats;
 mod switch;
 mod value;
 
-pub use check::{Found, check_operands, first_found};
+pub use check::{broken_at, is_quiet};
 pub use scopes::{are_bad_semantics, has_bad_group, is_high};
 pub use seats::{scopes_of, semantics_of};
 pub use switch::{is_wide, literal_in, selector_width};

@@ -7,7 +7,7 @@ ghost use Rattle.spv_type_forms.specs.Types as types;
 ghost use Rattle.spv_kernel_operands.specs.Pointers as spec;
 
 use crate::value::{id_at, value_at};
-use spv_capabilities::Survey;
+use spv_capabilities::Capabilities;
 use spv_module::{Inst, opcode};
 use spv_type_forms::{Definitions, Form, Scalar};
 
@@ -26,7 +26,7 @@ fn is_atomic(code: u16) -> bool
 }
 
 /// Whether an opcode is that of any atomic.
-fn is_any_atomic(code: u16) -> bool
+pub fn is_any_atomic(code: u16) -> bool
     ensures { result ≡ spec.is_any_atomic code }
 {
     is_atomic(code)
@@ -34,7 +34,7 @@ fn is_any_atomic(code: u16) -> bool
 }
 
 /// Whether an opcode is that of OpStore, OpCopyMemory or OpCopyMemorySized.
-fn is_write(code: u16) -> bool
+pub fn is_write(code: u16) -> bool
     ensures { result ≡ spec.is_write code }
 {
     opcode::STORE <= code && code <= opcode::COPY_MEMORY_SIZED
@@ -86,31 +86,35 @@ fn class(definitions: &Definitions, inst: &Inst<'_>) -> Option<u32>
 }
 
 /// Whether no atomic works on a type.
-fn is_not_atomic(survey: &Survey<'_, '_>, definitions: &Definitions, t: u32) -> bool
-    requires { survey.now.insts ≡ definitions.now }
-    ensures { IsTrue result ↔ spec.IsNotAtomic survey.now.table definitions.now t }
+fn is_not_atomic(capabilities: &Capabilities<'_, '_>, definitions: &Definitions, t: u32) -> bool
+    requires { capabilities.now.insts ≡ definitions.now }
+    ensures { IsTrue result ↔ spec.IsNotAtomic capabilities.now.table definitions.now t }
 {
     match definitions.form(t) {
         Some(Form::Scalar(Scalar::Int(width))) => {
-            width == 8 || width == 16 || (width == 64 && !survey.has(INT_64_ATOMICS))
+            width == 8 || width == 16 || (width == 64 && !capabilities.has(INT_64_ATOMICS))
         }
         Some(Form::Scalar(Scalar::Float(width))) => {
-            width == 16 && !survey.has(FLOAT_16_MIN_MAX) && !survey.has(FLOAT_16_ADD)
+            width == 16 && !capabilities.has(FLOAT_16_MIN_MAX) && !capabilities.has(FLOAT_16_ADD)
         }
         _ => false,
     }
 }
 
 /// Whether an instruction breaks O15: an atomic works on a type on which none does.
-pub fn is_misatomic(survey: &Survey<'_, '_>, definitions: &Definitions, inst: &Inst<'_>) -> bool
-    requires { survey.now.insts ≡ definitions.now }
-    ensures { IsTrue result ↔ spec.IsMisatomic survey.now.table definitions.now (plain_inst inst.now) }
+pub fn is_misatomic(
+    capabilities: &Capabilities<'_, '_>,
+    definitions: &Definitions,
+    inst: &Inst<'_>,
+) -> bool
+    requires { capabilities.now.insts ≡ definitions.now }
+    ensures { IsTrue result ↔ spec.IsMisatomic capabilities.now.table definitions.now (plain_inst inst.now) }
 {
     if !is_atomic(inst.opcode) {
         return false;
     }
     match pointee(definitions, inst) {
-        Some(t) => is_not_atomic(survey, definitions, t),
+        Some(t) => is_not_atomic(capabilities, definitions, t),
         None => false,
     }
 }

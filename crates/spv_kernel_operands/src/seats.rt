@@ -1,6 +1,6 @@
 //! Which operands are scopes and which are memory semantics.
 
-ghost use Rattle.std.specs.Prelude.{◌≡◌, map};
+ghost use Rattle.std.specs.Prelude.{◌≡◌, [], IsTrue, map};
 ghost use Rattle.spv_kernel_operands.specs.Seats as spec;
 ghost use Rattle.spv_kernel_operands.specs.inner.Seats.{line};
 
@@ -76,6 +76,19 @@ fn is_of(opcode: u16, seats: Seats) -> bool
     seats.from <= opcode && opcode <= seats.to
 }
 
+/// Whether none of some lines has an opcode.
+fn is_absent(entries: &[Seats], opcode: u16) -> bool
+    ensures { IsTrue result → (spec.scopes_in (map line entries.now) opcode ≡ [])
+        × (spec.semantics_in (map line entries.now) opcode ≡ []) }
+{
+    for entry in entries {
+        if is_of(opcode, *entry) {
+            return false;
+        }
+    }
+    true
+}
+
 /// The scopes of the first of some lines that has an opcode.
 fn scopes_in(entries: &[Seats], opcode: u16) -> &'static [u32]
     ensures { result.now ≡ spec.scopes_in (map line entries.now) opcode }
@@ -98,6 +111,13 @@ fn semantics_in(entries: &[Seats], opcode: u16) -> &'static [u32]
         }
     }
     &[]
+}
+
+/// Whether no operand of an opcode is a scope or memory semantics.
+pub fn is_seatless(opcode: u16) -> bool
+    ensures { IsTrue result → (spec.scopes_of opcode ≡ []) × (spec.semantics_of opcode ≡ []) }
+{
+    is_absent(&ENTRIES, opcode)
 }
 
 /// The numbers of the operands of an opcode, from 0, that are scopes.

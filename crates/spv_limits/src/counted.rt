@@ -70,7 +70,7 @@ pub fn has_long_text(operands: &[Operand<'_>]) -> bool
 }
 
 /// How many operands of an opcode come before its indexes, if it has some.
-fn before_indexes(number: u16) -> Option<usize>
+pub fn before_indexes(number: u16) -> Option<usize>
     ensures { result ≡ spec.before_indexes number }
 {
     match number {

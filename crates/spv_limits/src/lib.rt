@@ -10,5 +10,5 @@ mod table;
 mod tallies;
 
 pub use counted::has_long_text;
-pub use past::first_past;
+pub use past::{Counts, is_quiet};
 pub use table::{Limit, most};

@@ -1,16 +1,17 @@
-//! The first instruction that passes a limit.
+//! The instructions that pass a limit.
 
-ghost use Rattle.std.specs.Prelude.{◌≡◌, ◌↔◌, ◌≤◌, ◌<◌, ◌+◌, IsTrue, length, IfOk};
+ghost use Rattle.std.specs.Prelude.{◌≡◌, ◌↔◌, ◌⊎◌, ◌<◌, ◌+◌, ℕ, List, Some, IsTrue, IfOk, length, slice_get};
 ghost use Rattle.spv_module.specs.Module.{plain_inst, plain_operands};
+ghost use Rattle.spv_module.specs.Operand.{PlainInst};
 ghost use Rattle.spv_extended.specs.declared.set.Set.TheVariants.{OpenClStd, Other};
 ghost use Rattle.spv_extended.specs.Sets.{imported_by, or_later, set_in};
 ghost use Rattle.spv_limits.specs.Depth.{AreLower};
 ghost use Rattle.spv_limits.specs.Past.{IsPast};
-ghost use Rattle.spv_limits.specs.inner.Alone.{IsStdCall, PassesAlone};
-ghost use Rattle.spv_limits.specs.inner.Counting.{AreDepths, AreModes, AreVariables, IsAnswer};
-ghost use Rattle.spv_limits.specs.inner.First.{IsFirstOf};
+ghost use Rattle.spv_limits.specs.declared.past.Counts.{Counts};
+ghost use Rattle.spv_limits.specs.inner.Alone.{AreLong, HasTooMany, IsStdCall};
+ghost use Rattle.spv_limits.specs.inner.Counting.{AreDepths, IsAnswer, IsTooDeep, IsUpTo};
 
-use crate::counted::{has_long_text, has_too_many, has_too_many_arguments};
+use crate::counted::{before_indexes, has_long_text, has_too_many, has_too_many_arguments};
 use crate::depths::is_too_deep;
 use crate::kept::empty_map;
 use crate::tallies::{Variables, has_mode_too_many};
@@ -78,25 +79,48 @@ fn is_std_call(definitions: &Definitions, operands: &[Operand<'_>]) -> bool
     }
 }
 
-/// Whether an instruction passes a limit by what it has itself.
-#[inline(always)]
-fn is_past_alone(definitions: &Definitions, inst: &Inst<'_>) -> bool
-    ensures { IsTrue result ↔ PassesAlone definitions.now (plain_inst inst.now) }
+/// Whether the instruction of a number declares a struct that passes a limit: it has too many members, or is too deep.
+/// Takes note of how deep it is.
+fn is_struct_past(
+    depths: &mut BTreeMap<u32, u32>,
+    definitions: &Definitions,
+    number: u32,
+    inst: &Inst<'_>,
+) -> Result<bool, AllocError>
+    requires lower { AreLower definitions.now }
+    requires there { slice_get definitions.now number ≡ Some (plain_inst inst.now) }
+    requires depths { AreDepths definitions.now number depths.old }
+    ensures { IfOk result (λ b. IsAnswer b (HasTooMany (plain_inst inst.now) ⊎ IsTooDeep definitions.now number)
+        (AreDepths definitions.now (number + 1) depths.new)) }
 {
-    let operands = inst.operands.as_slice();
     if has_too_many(inst) {
-        return true;
+        return Ok(true);
     }
-    if has_long_text(operands) {
-        return true;
-    }
-    inst.opcode == opcode::EXT_INST
-        && (has_too_many_arguments(operands) && is_std_call(definitions, operands))
+    Ok(is_too_deep(depths, definitions, number, inst)?)
 }
 
-/// What is counted of the instructions so far.
+/// Whether no instruction of an opcode passes a limit but by a text, and none of them is counted.
+pub fn is_quiet(number: u16) -> bool
+    ensures { IsTrue result → (is : List PlainInst) (n : ℕ) (i : PlainInst) (counts : Counts)
+        → slice_get is n ≡ Some i → i.opcode ≡ number → ¬ (AreLong i.operands) → IsUpTo is n counts
+        → (¬ (IsPast is n)) × IsUpTo is (n + 1) counts }
+{
+    match number {
+        opcode::TYPE_STRUCT
+        | opcode::TYPE_FUNCTION
+        | opcode::SWITCH
+        | opcode::EXT_INST
+        | opcode::EXECUTION_MODE
+        | opcode::EXECUTION_MODE_ID
+        | opcode::VARIABLE
+        | opcode::FUNCTION => false,
+        _ => before_indexes(number).is_none(),
+    }
+}
+
+/// What is counted of the instructions before one.
 #[derive(Drop)]
-struct Counts {
+pub struct Counts {
     /// How deep structs are, by their numbers.
     depths: BTreeMap<u32, u32>,
     /// How many execution modes functions have.
@@ -104,57 +128,54 @@ struct Counts {
     variables: Variables,
 }
 
-/// Takes note of an instruction, and answers whether it passes a limit.
-fn is_past(counts: &mut Counts, definitions: &Definitions, number: u32) -> Result<bool, AllocError>
-    requires lower { AreLower definitions.now }
-    requires number { number < length definitions.now }
-    requires depths { AreDepths definitions.now number counts.old.depths }
-    requires modes { AreModes definitions.now number counts.old.modes }
-    requires variables { AreVariables definitions.now number counts.old.variables.are_local
-        counts.old.variables.count }
-    ensures { IfOk result (λ b. IsAnswer b (IsPast definitions.now number)
-        (AreDepths definitions.now (number + 1) counts.new.depths
-        × AreModes definitions.now (number + 1) counts.new.modes
-        × AreVariables definitions.now (number + 1) counts.new.variables.are_local counts.new.variables.count)) }
-{
-    let inst = definitions.inst(number);
-    if is_past_alone(definitions, inst) {
-        return Ok(true);
-    }
-    if is_too_deep(&mut counts.depths, definitions, number, inst)? {
-        return Ok(true);
-    }
-    if has_mode_too_many(&mut counts.modes, inst)? {
-        return Ok(true);
-    }
-    Ok(counts.variables.is_too_many(inst))
-}
-
-/// The number, from 0, of the first instruction that passes a limit (O22; SPIR-V Specification 1.6, section 2.17).
-/// `total` is how many instructions there are.
-///
-/// Time is near-linear in the words of the module. An `AllocError` comes only where a growth of memory was refused.
-pub fn first_past(
-    alloc: Global,
-    definitions: &Definitions,
-    total: u32,
-) -> Result<Option<u32>, AllocError>
-    requires total { total ≡ length definitions.now }
-    requires lower { AreLower definitions.now }
-    ensures { IfOk result (IsFirstOf (IsPast definitions.now)) }
-{
-    let mut counts = Counts {
-        depths: empty_map(alloc),
-        modes: empty_map(alloc),
-        variables: Variables {
-            are_local: false,
-            count: 0,
-        },
-    };
-    for number in 0..total {
-        if is_past(&mut counts, definitions, number)? {
-            return Ok(Some(number));
+impl Counts {
+    /// Nothing is counted yet. It takes no memory.
+    pub fn new(alloc: Global) -> Counts
+        ensures { (is : List PlainInst) → IsUpTo is 0 result }
+    {
+        Counts {
+            depths: empty_map(alloc),
+            modes: empty_map(alloc),
+            variables: Variables {
+                are_local: false,
+                count: 0,
+            },
         }
     }
-    Ok(None)
+
+    /// Takes note of the instruction of a number, from 0, and answers whether it passes a limit (O22; SPIR-V
+    /// Specification 1.6, section 2.17). All before it are counted, but those of an opcode that `is_quiet`.
+    ///
+    /// Time is near-linear in the words of the instruction. An `AllocError` comes only where a growth of memory was
+    /// refused.
+    pub fn is_past(
+        &mut self,
+        definitions: &Definitions,
+        number: u32,
+    ) -> Result<bool, AllocError>
+        requires lower { AreLower definitions.now }
+        requires number { number < length definitions.now }
+        requires counted { IsUpTo definitions.now number self.old }
+        ensures { IfOk result (λ b. IsAnswer b (IsPast definitions.now number)
+            (IsUpTo definitions.now (number + 1) self.new)) }
+    {
+        let inst = definitions.inst(number);
+        let operands = inst.operands.as_slice();
+        if has_long_text(operands) {
+            return Ok(true);
+        }
+        match inst.opcode {
+            opcode::TYPE_STRUCT => {
+                Ok(is_struct_past(&mut self.depths, definitions, number, inst)?)
+            }
+            opcode::EXT_INST => {
+                Ok(has_too_many_arguments(operands) && is_std_call(definitions, operands))
+            }
+            opcode::EXECUTION_MODE | opcode::EXECUTION_MODE_ID => {
+                Ok(has_mode_too_many(&mut self.modes, inst)?)
+            }
+            opcode::FUNCTION | opcode::VARIABLE => Ok(self.variables.is_too_many(inst)),
+            _ => Ok(has_too_many(inst)),
+        }
+    }
 }

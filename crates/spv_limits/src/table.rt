@@ -42,21 +42,9 @@ pub static TABLE: [(Limit, u32); 10] = [
     (Limit::Locals, 524287),
 ];
 
-/// The number of the first of these lines of a limit; 0 where none is of it.
-fn most_in(lines: &[(Limit, u32)], limit: Limit) -> u32
-    ensures { result ≡ spec.most_in lines.now limit }
-{
-    for line in lines {
-        if line.0 == limit {
-            return line.1;
-        }
-    }
-    0
-}
-
 /// The greatest number that a limit allows.
 pub fn most(limit: Limit) -> u32
     ensures { result ≡ spec.most limit }
 {
-    most_in(&TABLE, limit)
+    TABLE[limit as usize].1
 }

@@ -66,7 +66,7 @@ pub fn in_declarations(
     requires few { AreFew insts.now }
     requires plan { IsPlan capabilities.now.table (map plain_inst insts.now) plan.now }
     requires ids { (x : ℕ) → IsDefinitionOf (map plain_inst insts.now) x (definition_in ids.now x) }
-    requires survey { capabilities.now.insts ≡ map plain_inst insts.now }
+    requires capabilities { capabilities.now.insts ≡ map plain_inst insts.now }
     ensures { IfOk result (IsFirstIn (declarations.Broken capabilities.now.table capabilities.now.insts)) }
 {
     match first_misdeclared(alloc, capabilities, insts, plan, ids)? {

@@ -1,15 +1,14 @@
 -- Numbers that are missing, by the lines that say so.
 use Rattle.std.proofs.Common.{◌≡◌, ◌<◌, ◌≤◌, ◌/◌, ◌%◌, ◌^◌, ◌∙◌, ℕ, List, Bool, true, false, Option, Some, None, map}
-use Rattle.std.proofs.Common.{refl, sym, subst, inl, inr, arith}
+use Rattle.std.proofs.Common.{sym, subst, arith}
 use Rattle.std.specs.Prelude.{MatchOption, slice_get, slice_index_or}
 use Rattle.std.proofs.lemmas.Option.{same_Some}
 use Rattle.spv_versions.specs.declared.hits.Hit.{Hit}
 use Rattle.spv_versions.specs.declared.table.Kind.{Kind}
-use Rattle.spv_versions.specs.Named.{IsSetBit}
-use Rattle.spv_versions.specs.Table.{IsOf, Line, lines}
-use Rattle.spv_versions.specs.inner.Hits.{IsAnyHitBy, IsBitHitBy, IsHitAtBy, IsHitBy}
+use Rattle.spv_versions.specs.Table.{IsOf}
+use Rattle.spv_versions.specs.inner.Hits.{IsBitHitBy, IsHitAtBy, IsHitBy}
 use Rattle.spv_versions.specs.inner.Lines.{IsListedAt, Read, plain_line}
-use Rattle.spv_versions.specs.inner.Told.{IsAnyHit, IsBitHit, IsHit, IsHitAt, kinds}
+use Rattle.spv_versions.specs.inner.Told.{IsBitHit, IsHit, IsHitAt, kinds}
 use Rattle.spv_versions.proofs.Listed.{read_at}
 
 pub listed_at : (ls : List Read) (flags : List Bool) (k : Kind) (n m : ℕ) (x : Read) → slice_get ls m ≡ Some x

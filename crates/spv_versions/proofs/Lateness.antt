@@ -1,11 +1,10 @@
 -- What is told of an instruction, and what the version does not have.
-use Rattle.std.proofs.Common.{◌≡◌, ◌<◌, ◌≤◌, ◌+◌, ◌∙◌, ◌++◌, ◌⊎◌, ℕ, zero, suc, List, [], ◌∷◌, Bool}
+use Rattle.std.proofs.Common.{◌≡◌, ◌≤◌, ◌+◌, ◌∙◌, ◌++◌, ◌⊎◌, ℕ, zero, suc, List, [], ◌∷◌, Bool}
 use Rattle.std.proofs.Common.{Option, Some, None, option_and_then, length, take, refl, sym, ap, subst, inl, inr, arith}
 use Rattle.std.specs.Prelude.{slice_get, slice_index_or}
-use Rattle.std.proofs.lemmas.Bool.{cases_lt}
 use Rattle.std.proofs.lemmas.List.{take_more}
 use Rattle.std.proofs.lemmas.Option.{get_or_from_slice_get, none-some, same_Some, slice_get-get_or}
-use Rattle.std.proofs.lemmas.Option.{slice_get_past, slice_get_within}
+use Rattle.std.proofs.lemmas.Option.{slice_get_within}
 use Rattle.spv_table.specs.Table.{Table}
 use Rattle.spv_table.specs.Lookups.{number_named}
 use Rattle.spv_module.specs.Operand.{Plain, OfType, Result, Id, Text, Value, Mask, PlainInst}
@@ -17,7 +16,7 @@ use Rattle.spv_versions.specs.Table.{lines, name_of}
 use Rattle.spv_versions.specs.inner.Lines.{IsListed}
 use Rattle.spv_versions.specs.inner.Shapes.{AreOfNoMeaning, AreWhole, HasLateForm}
 use Rattle.spv_versions.specs.inner.Shapes as form
-use Rattle.spv_versions.specs.inner.Told.{AreHit, AreNumbers, AreTold, IsInstHit, IsOperandHit}
+use Rattle.spv_versions.specs.inner.Told.{AreHit, AreKnown, AreNumbers, AreTold, IsInstHit, IsOperandHit}
 use Rattle.spv_versions.specs.inner.Told.{kinds, number_of}
 use Rattle.spv_versions.proofs.Numbering.{kind_place}
 
@@ -69,27 +68,35 @@ known G k j e = by (name_of k) refl e
     by None f h = absurd (none-some j h)
     by (Some name) f h = record { name = name; of = f; number = h }
 
+known_number : (G : Table) (flags : List Bool) (ns : List (Option ℕ)) (p : ℕ) (k : Kind) (j : ℕ) → AreKnown G flags ns
+    → slice_get kinds p ≡ Some k → slice_index_or ns p None ≡ Some j → number_of G k ≡ Some j
+known_number G flags ns p k j numbers at n = elim (numbers p k at) [
+  | inl e ↦ sym e ∙ n
+  | inr e ↦ absurd (none-some j (sym e.0 ∙ n))
+]
+
 operand_late : (G : Table) (minor : ℕ) (is : List PlainInst) (flags : List Bool) (b : Bool) (ns : List (Option ℕ))
-    (i : PlainInst) (q : ℕ) (o : Plain) → AreTold minor is flags b → AreNumbers G ns → slice_get i.operands q ≡ Some o
+    (i : PlainInst) (q : ℕ) (o : Plain) → AreTold minor is flags b → AreKnown G flags ns → slice_get i.operands q ≡ Some o
     → IsOperandHit flags ns o → IsLate G minor is i
 operand_late G minor is flags b ns i q (Value j v) told numbers e h =
     let k = h.1.0 in
-    let n = known G k j (sym (numbers h.0 k h.1.1) ∙ h.1.2) in
+    let n = known G k j (known_number G flags ns h.0 k j numbers h.1.1 h.1.2) in
     number k v (of_value k q j v n.name e n.of n.number) (listed_missing minor is flags b k v told h.1.3)
 operand_late G minor is flags b ns i q (Mask j m) told numbers e h =
     let k = h.1.0 in
-    let n = known G k j (sym (numbers h.0 k h.1.1) ∙ h.1.2) in
+    let n = known G k j (known_number G flags ns h.0 k j numbers h.1.1 h.1.2) in
     let v = h.1.3.0 in
     number k v (of_bit k q j m v n.name e n.of n.number h.1.3.1) (listed_missing minor is flags b k v told h.1.3.2)
 operand_late G minor is flags b ns i q _ told numbers e h = absurd h
 
--- the number that a kind of a name has
-num : (G : Table) (ns : List (Option ℕ)) (k : Kind) (j : ℕ) (name : List ℕ) → AreNumbers G ns → name_of k ≡ Some name
-    → number_named G name ≡ Some j → (p : ℕ) × (slice_get kinds p ≡ Some k)
-    × (slice_index_or ns p None ≡ Some j)
-num G ns k j name numbers e n =
-    let p = kind_place k name e in
-    (p.0, p.1, numbers p.0 k p.1 ∙ ap (option_and_then (number_named G)) e ∙ n)
+-- the number that a kind of a name has, if something of the kind is missing
+num : (G : Table) (flags : List Bool) (ns : List (Option ℕ)) (k : Kind) (j v : ℕ) (name : List ℕ) → AreKnown G flags ns
+    → name_of k ≡ Some name → number_named G name ≡ Some j → IsListed lines flags k v
+    → (p : ℕ) × (slice_get kinds p ≡ Some k) × (slice_index_or ns p None ≡ Some j)
+num G flags ns k j v name numbers e n listed = let p = kind_place k name e in elim (numbers p.0 k p.1) [
+  | inl same ↦ (p.0, p.1, same ∙ ap (option_and_then (number_named G)) e ∙ n)
+  | inr none ↦ absurd (none.1 v listed)
+]
 
 -- the operands of forms
 whole_parts : (is : List PlainInst) (os : List Plain) → AreWhole is os
@@ -122,7 +129,7 @@ form_late G minor is flags b i told (form.no_meaning t o h) =
     no_meaning p.x p.name p.rest m.0 o p.all p.begins m.1
 
 pub hit_late : (G : Table) (minor : ℕ) (is : List PlainInst) (flags : List Bool) (b : Bool) (ns : List (Option ℕ))
-    (i : PlainInst) → AreTold minor is flags b → AreNumbers G ns → IsInstHit flags ns i ⊎ HasLateForm is minor b i
+    (i : PlainInst) → AreTold minor is flags b → AreKnown G flags ns → IsInstHit flags ns i ⊎ HasLateForm is minor b i
     → IsLate G minor is i
 hit_late G minor is flags b ns i told numbers h = elim h [
   | inl a ↦ elim a [
@@ -134,25 +141,31 @@ hit_late G minor is flags b ns i told numbers h = elim h [
   | inr f ↦ form_late G minor is flags b i told f
 ]
 
+known_hit : (G : Table) (minor : ℕ) (is : List PlainInst) (flags : List Bool) (b : Bool) (ns : List (Option ℕ))
+    (i : PlainInst) (k : Kind) (n : ℕ) → AreTold minor is flags b → AreKnown G flags ns → HasNumber G i k n
+    → IsMissing minor is k n → IsInstHit flags ns i
+known_hit G minor is flags b ns i _ _ told numbers of_opcode m =
+    inl (missing_listed minor is flags b _ i.opcode told m)
+known_hit G minor is flags b ns i _ _ told numbers (of_value k q j v name e nk nj) m =
+    let listed = missing_listed minor is flags b k v told m in
+    let p = num G flags ns k j v name numbers nk nj listed in
+    inr (place_hit flags ns i.operands q (Value j v) e (p.0, (k, p.1, p.2, listed)))
+known_hit G minor is flags b ns i _ _ told numbers (of_bit k q j mask v name e nk nj set) m =
+    let listed = missing_listed minor is flags b k v told m in
+    let p = num G flags ns k j v name numbers nk nj listed in
+    inr (place_hit flags ns i.operands q (Mask j mask) e (p.0, (k, p.1, p.2, (v, set, listed))))
+
 pub number_hit : (G : Table) (minor : ℕ) (is : List PlainInst) (flags : List Bool) (b : Bool) (ns : List (Option ℕ))
     (i : PlainInst) (k : Kind) (n : ℕ) → AreTold minor is flags b → AreNumbers G ns → HasNumber G i k n
     → IsMissing minor is k n → IsInstHit flags ns i
-number_hit G minor is flags b ns i _ _ told numbers of_opcode m =
-    inl (missing_listed minor is flags b _ i.opcode told m)
-number_hit G minor is flags b ns i _ _ told numbers (of_value k q j v name e nk nj) m =
-    let p = num G ns k j name numbers nk nj in
-    inr (place_hit flags ns i.operands q (Value j v) e
-    (p.0, (k, p.1, p.2, missing_listed minor is flags b k v told m)))
-number_hit G minor is flags b ns i _ _ told numbers (of_bit k q j mask v name e nk nj set) m =
-    let p = num G ns k j name numbers nk nj in
-    inr (place_hit flags ns i.operands q (Mask j mask) e
-    (p.0, (k, p.1, p.2, (v, set, missing_listed minor is flags b k v told m))))
+number_hit G minor is flags b ns i k n told numbers has m =
+    known_hit G minor is flags b ns i k n told (λ p q at. inl (numbers p q at)) has m
 
 pub late_hit : (G : Table) (minor : ℕ) (is : List PlainInst) (flags : List Bool) (b : Bool) (ns : List (Option ℕ))
-    (i : PlainInst) → AreTold minor is flags b → AreNumbers G ns → IsLate G minor is i
+    (i : PlainInst) → AreTold minor is flags b → AreKnown G flags ns → IsLate G minor is i
     → IsInstHit flags ns i ⊎ HasLateForm is minor b i
 late_hit G minor is flags b ns i told numbers (number k n has m) =
-    inl (number_hit G minor is flags b ns i k n told numbers has m)
+    inl (known_hit G minor is flags b ns i k n told numbers has m)
 late_hit G minor is flags b ns i told numbers (two_masks l o m) = inr (form.two_masks l o m)
 late_hit G minor is flags b ns i told numbers (whole t x c os l o e h) =
     inr (form.whole l o (subst (AreWhole is) (sym e) h))
@@ -170,15 +183,6 @@ pub late_inst : (G : Table) (minor : ℕ) (is : List PlainInst) (n : ℕ) (i : P
     → IsLateAt G minor is n → IsLate G minor is i
 late_inst G minor is n i e h =
     subst (λ (j : PlainInst). IsLate G minor is j) (same_Some h.0 i (sym h.1 ∙ e)) h.2
-
-pub none_late : (G : Table) (minor : ℕ) (is : List PlainInst) (n : ℕ)
-    → ((k : ℕ) → k < n → ¬ (IsLateAt G minor is k)) → length is ≤ n → (k : ℕ) → ¬ (IsLateAt G minor is k)
-none_late G minor is n h l k m = elim (cases_lt k n) [
-  | inl a ↦ h k a m
-  | inr b ↦
-      let past : length is ≤ k = omega arith in
-      none-some m.0 (sym (slice_get_past is k past) ∙ m.1)
-]
 
 -- of equal instructions the same is told
 pub told_same : (minor : ℕ) (is js : List PlainInst) (flags : List Bool) (b : Bool) → is ≡ js

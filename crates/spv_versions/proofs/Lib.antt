@@ -6,3 +6,7 @@ pub mod Lateness
 pub mod Shaping
 pub mod Worked
 pub mod Hitting
+mod Fronts
+mod Floors
+mod Asking
+mod Undated

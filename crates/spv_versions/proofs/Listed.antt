@@ -1,11 +1,12 @@
 -- Lines that are told to be missing.
 use Rattle.std.proofs.Common.{◌≡◌, ◌<◌, ◌≤◌, ◌∙◌, ℕ, List, Bool, true, false, Some, None, Option, length, map, option_map}
-use Rattle.std.proofs.Common.{refl, sym, ap, subst, arith}
-use Rattle.std.specs.Prelude.{slice_get, slice_index_or}
+use Rattle.std.proofs.Common.{IsTrue, refl, sym, ap, subst, arith}
+use Rattle.std.specs.Prelude.{slice_get, slice_index, slice_index_or}
 use Rattle.std.proofs.lemmas.Option.{slice_get_within, slice_get-map, same_Some, none-some}
 use Rattle.spv_versions.specs.declared.table.Kind.{Kind}
 use Rattle.spv_versions.specs.Table.{IsOf, Line}
 use Rattle.spv_versions.specs.inner.Lines.{IsListedAt, IsListed, Read, plain_line}
+use Rattle.spv_versions.specs.inner.Told.{place_of}
 
 -- a line as it is read, and as definitions read it
 pub read_at : (ls : List Read) (m : ℕ) (x : Read) → slice_get ls m ≡ Some x
@@ -43,3 +44,12 @@ pub none_listed : (ls : List Read) (flags : List Bool) (k : Kind) (n m : ℕ)
 none_listed ls flags k n m h l i =
     let w : i.0 < length ls = within ls flags k n i.0 i.1 in
     h i.0 (omega arith) i.1
+
+-- a number that is lowered by a line, if that is missing, is not above any of its numbers
+pub noted : (ls : List Read) (flags : List Bool) (least : List ℕ) (m : ℕ) (x : Read) → slice_get ls m ≡ Some x
+    → (IsTrue (slice_index_or flags m false) → slice_index least (place_of x.0) ≤ x.1) → (k : Kind) (n : ℕ)
+    → IsListedAt (map plain_line ls) flags k n m → slice_index least (place_of k) ≤ n
+noted ls flags least m x e own k n h =
+    let of = line_at ls flags k n m x e h in
+    let low = subst (λ (q : Kind). slice_index least (place_of q) ≤ x.1) of.1.0 (own of.0) in
+    let up = of.1.1 in omega (arith, low, up)

@@ -1,5 +1,5 @@
 -- The kinds of operands by their numbers.
-use Rattle.std.proofs.Common.{◌≡◌, ◌<◌, ◌+◌, ◌∙◌, ◌↔◌, ℕ, List, Bool, Option, Some, None, IsTrue, length, get_or, set}
+use Rattle.std.proofs.Common.{◌≡◌, ◌<◌, ◌+◌, ◌∙◌, ◌↔◌, ◌⊎◌, ℕ, List, Bool, Option, Some, None, IsTrue, length, get_or, set}
 use Rattle.std.proofs.Common.{refl, sym, ap, subst, inl, inr, arith, get_or-set_other, get_or-set_same}
 use Rattle.std.specs.Prelude.{slice_get, slice_index_or}
 use Rattle.std.proofs.lemmas.Bool.{cases_eq}
@@ -7,7 +7,8 @@ use Rattle.std.proofs.lemmas.Option.{none-some, same_Some, slice_get_within}
 use Rattle.spv_table.specs.Table.{Table}
 use Rattle.spv_versions.specs.declared.table.Kind.{Kind}
 use Rattle.spv_versions.specs.declared.table.Kind.TheVariants as kind
-use Rattle.spv_versions.specs.Table.{name_of}
+use Rattle.spv_versions.specs.Table.{lines, name_of}
+use Rattle.spv_versions.specs.inner.Lines.{IsListed}
 use Rattle.spv_versions.specs.inner.Told.{IsHit, IsHitAt, kinds, number_of}
 
 count_kinds : length kinds ≡ 9
@@ -41,6 +42,26 @@ numbered_more G ks ns m x v at says l before p k b e = elim (cases_eq p m) [
       let one : Some x ≡ Some k = sym at ∙ ap (slice_get ks) (sym same) ∙ e in
       let here : get_or (set ns m v) m None ≡ v = rw get_or-set_same refl in
       ap (λ (q : ℕ). get_or (set ns m v) q None) same ∙ here ∙ says ∙ ap (number_of G) (same_Some x k one)
+  | inr apart ↦
+      let below : p < m = omega (arith, apart) in
+      rw get_or-set_other (before p k below e)
+]
+
+abbrev pub IsKnown : Table → List Bool → Kind → Option ℕ → Type 0
+IsKnown G flags k v = (v ≡ number_of G k) ⊎ ((v ≡ None) × ((n : ℕ) → ¬ (IsListed lines flags k n)))
+
+pub known_more : (G : Table) (flags : List Bool) (ks : List Kind) (ns : List (Option ℕ)) (m : ℕ) (x : Kind) (v : Option ℕ)
+    → slice_get ks m ≡ Some x → IsKnown G flags x v → m < length ns
+    → ((p : ℕ) (k : Kind) → p < m → slice_get ks p ≡ Some k → IsKnown G flags k (get_or ns p None))
+    → (p : ℕ) (k : Kind) → p < m + 1 → slice_get ks p ≡ Some k → IsKnown G flags k (get_or (set ns m v) p None)
+known_more G flags ks ns m x v at says l before p k b e = elim (cases_eq p m) [
+  | inl same ↦
+      let one : Some x ≡ Some k = sym at ∙ ap (slice_get ks) (sym same) ∙ e in
+      let here : get_or (set ns m v) m None ≡ v = rw get_or-set_same refl in
+      let there : get_or (set ns m v) p None ≡ v =
+      ap (λ (q : ℕ). get_or (set ns m v) q None) same ∙ here in
+      subst (λ (o : Option ℕ). IsKnown G flags k o) (sym there)
+      (subst (λ (q : Kind). IsKnown G flags q v) (same_Some x k one) says)
   | inr apart ↦
       let below : p < m = omega (arith, apart) in
       rw get_or-set_other (before p k below e)

@@ -4,3 +4,4 @@ pub mod Lines
 pub mod Told
 pub mod Shapes
 pub mod Hits
+pub mod Late

@@ -1,14 +1,13 @@
 //! Which values and bits among operands are missing.
 
-ghost use Rattle.std.specs.Prelude.{◌≡◌, ◌↔◌, ◌<◌, ◌^◌, ◌/◌, ◌%◌, Some, None, IsTrue, true, false};
-ghost use Rattle.spv_module.specs.Module.{plain_inst, plain_operand, plain_operands};
-ghost use Rattle.spv_versions.specs.inner.Told.{AreHit, AreNumbers, IsAnyHit, IsBitHit, IsHit, IsHitAt, IsInstHit};
-ghost use Rattle.spv_versions.specs.inner.Told.{IsLeast, IsOperandHit};
+ghost use Rattle.std.specs.Prelude.{◌≡◌, ◌↔◌, ◌⊎◌, ◌<◌, ◌^◌, ◌/◌, ◌%◌, ℕ, Some, None, IsTrue, true, false};
+ghost use Rattle.spv_versions.specs.inner.Told.{AreKnown, AreLeast, AreNumbers, IsAnyHit, IsBitHit, IsHit, IsHitAt};
 ghost use Rattle.spv_versions.specs.inner.Told as told;
+ghost use Rattle.spv_versions.specs.inner.Lines.{IsListed};
+ghost use Rattle.spv_versions.specs.Table as spec;
 
 use crate::missing::Missing;
 use crate::table::{KIND_COUNT, Kind, kinds};
-use spv_module::{Inst, Operand};
 use spv_table::Table;
 
 /// The kinds of operands of which the table speaks, by their numbers in a grammar.
@@ -25,6 +24,18 @@ fn number_of(table: &Table, kind: Kind) -> Option<u32>
         Some(name) => table.kind_named(name),
         None => None,
     }
+}
+
+/// The number that a kind has in a grammar, but none where nothing of the kind is missing.
+fn missing_number_of(table: &Table, missing: &Missing, kind: Kind) -> Option<u32>
+    requires { AreLeast missing.now.lines missing.now.least }
+    ensures { (result ≡ told.number_of table.now kind)
+        ⊎ ((result ≡ None) × ((n : ℕ) → ¬ (IsListed spec.lines missing.now.lines kind n))) }
+{
+    if missing.least_of(kind) == u32::MAX {
+        return None;
+    }
+    number_of(table, kind)
 }
 
 /// Whether a number that may be missing is that one.
@@ -97,6 +108,19 @@ impl Kinds {
         Kinds { numbers }
     }
 
+    /// Those of a grammar of which something is missing.
+    pub fn of_missing(table: &Table, missing: &Missing) -> Kinds
+        requires { AreLeast missing.now.lines missing.now.least }
+        ensures { AreKnown table.now missing.now.lines result.numbers }
+    {
+        let kinds = kinds();
+        let mut numbers = [None; KIND_COUNT];
+        for k in 0..KIND_COUNT {
+            numbers[k] = missing_number_of(table, missing, kinds[k]);
+        }
+        Kinds { numbers }
+    }
+
     /// Whether that number is that of the kind at a place, of which a value is missing, or a set bit of a mask.
     fn is_hit_at(
         &self,
@@ -113,7 +137,8 @@ impl Kinds {
     }
 
     /// Whether a value of the kind of that number is missing, or a set bit of a mask.
-    fn is_any_hit(&self, missing: &Missing, number: u32, is_mask: bool, value: u32) -> bool
+    #[inline(never)]
+    pub fn is_any_hit(&self, missing: &Missing, number: u32, is_mask: bool, value: u32) -> bool
         ensures { IsTrue result ↔ IsAnyHit missing.now.lines self.now.numbers number is_mask value }
     {
         for place in 0..KIND_COUNT {
@@ -123,38 +148,4 @@ impl Kinds {
         }
         false
     }
-}
-
-/// Whether an operand is a value, or has a set bit, that is missing.
-fn is_operand_missing(missing: &Missing, kinds: &Kinds, operand: Operand<'_>) -> bool
-    ensures { IsTrue result ↔ IsOperandHit missing.now.lines kinds.now.numbers (plain_operand operand.entry) }
-{
-    match operand {
-        Operand::Value { kind, value } => kinds.is_any_hit(missing, kind, false, value),
-        Operand::Mask { kind, value } => kinds.is_any_hit(missing, kind, true, value),
-        _ => false,
-    }
-}
-
-/// Whether one of some operands is so.
-fn are_missing(missing: &Missing, kinds: &Kinds, operands: &[Operand<'_>]) -> bool
-    ensures { IsTrue result ↔ AreHit missing.now.lines kinds.now.numbers (plain_operands operands.now) }
-{
-    for operand in operands {
-        if is_operand_missing(missing, kinds, *operand) {
-            return true;
-        }
-    }
-    false
-}
-
-/// Whether the opcode of an instruction, or a value or a set bit among its operands, is missing.
-pub fn has_missing(missing: &Missing, kinds: &Kinds, inst: &Inst<'_>) -> bool
-    requires { IsLeast missing.now.lines missing.now.least_opcode }
-    ensures { IsTrue result ↔ IsInstHit missing.now.lines kinds.now.numbers (plain_inst inst.now) }
-{
-    if missing.has_opcode(inst.opcode) {
-        return true;
-    }
-    are_missing(missing, kinds, inst.operands.as_slice())
 }

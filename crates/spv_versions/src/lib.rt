@@ -12,6 +12,6 @@ mod table;
 
 pub use hits::{Hit, any_hit};
 pub use kinds::Kinds;
-pub use late::first_late;
+pub use late::Late;
 pub use missing::Missing;
 pub use table::{COUNT, Kind, Line, TABLE};

@@ -1,17 +1,18 @@
 //! Which lines of the table are missing in a module.
 
-ghost use Rattle.std.specs.Prelude.{◌≡◌, ◌↔◌, ◌&&◌, ◌∷◌, ◌++◌, ℕ, List, [], Some, IsTrue, MatchOption, codes, length, not};
-ghost use Rattle.std.specs.Prelude.{option_map};
+ghost use Rattle.std.specs.Prelude.{◌≡◌, ◌≤◌, ◌<◌, ◌↔◌, ◌&&◌, ◌∷◌, ◌++◌, ℕ, List, [], Some, IsTrue, MatchOption, codes, length, not};
+ghost use Rattle.std.specs.Prelude.{option_map, slice_get, slice_index};
 ghost use Rattle.std.specs.Str.{bytes_eq};
+ghost use Rattle.spv_module.specs.declared.opcode.TheConstants as opcodes;
 ghost use Rattle.spv_module.specs.Module.{plain_inst};
 ghost use Rattle.spv_module.specs.Operand.{PlainInst};
 ghost use Rattle.spv_versions.specs.declared.table.Kind.TheVariants as kind;
 ghost use Rattle.spv_versions.specs.Table as spec;
 ghost use Rattle.spv_versions.specs.inner.Lines.{IsListed, IsListedAt};
-ghost use Rattle.spv_versions.specs.inner.Told.{AreTold, IsLeast, extension_in};
+ghost use Rattle.spv_versions.specs.inner.Told.{AreLeast, AreTold, extension_in, place_of};
 
-use crate::lines::{declare, is_listed, lacking, least_opcode, listed_line};
-use crate::table::{COUNT, Kind, table};
+use crate::lines::{declare, is_listed, lacking, least_numbers, listed_line};
+use crate::table::{ALL_KINDS, COUNT, Kind, table};
 use spv_module::{Inst, Operand, opcode};
 use spv_type_forms::Definitions;
 
@@ -20,8 +21,8 @@ use spv_type_forms::Definitions;
 pub struct Missing {
     /// Of each line whether what it speaks of is missing.
     lines: [bool; COUNT],
-    /// A number that no opcode that is missing is below.
-    least_opcode: u32,
+    /// By the place of a kind a number that no number of the kind that is missing is below.
+    least: [u32; ALL_KINDS],
     /// Whether sets of no meaning are.
     pub is_without_meaning: bool,
 }
@@ -58,7 +59,7 @@ impl Missing {
     {
         Missing {
             lines: lacking(table(), minor),
-            least_opcode: 0,
+            least: [0; ALL_KINDS],
             is_without_meaning: minor < WITH_NO_MEANING,
         }
     }
@@ -85,21 +86,40 @@ impl Missing {
         }
     }
 
+    /// What is missing in a module of version 1.`minor`. All its OpExtensions are among its first `front` instructions.
+    pub fn of_front(definitions: &Definitions, minor: u8, front: u32) -> Missing
+        requires within { front ≤ length definitions.now }
+        requires front { (n : ℕ) (i : PlainInst) → slice_get definitions.now n ≡ Some i
+            → i.opcode ≡ opcodes.EXTENSION → n < front }
+        ensures told { AreTold minor definitions.now result.lines result.is_without_meaning }
+        ensures least { AreLeast result.lines result.least }
+    {
+        let mut missing = Missing::in_version(minor);
+        for number in 0..front {
+            missing.note(definitions.inst(number));
+        }
+        missing.least = least_numbers(table(), &missing.lines);
+        missing
+    }
+
     /// What is missing in a module of version 1.`minor`; `total` is how many instructions there are.
     pub fn of(definitions: &Definitions, minor: u8, total: u32) -> Missing
         requires { total ≡ length definitions.now }
         ensures told { AreTold minor definitions.now result.lines result.is_without_meaning }
-        ensures least { IsLeast result.lines result.least_opcode }
+        ensures least { AreLeast result.lines result.least }
     {
-        let mut missing = Missing::in_version(minor);
-        for number in 0..total {
-            missing.note(definitions.inst(number));
-        }
-        missing.least_opcode = least_opcode(table(), &missing.lines);
-        missing
+        Missing::of_front(definitions, minor, total)
+    }
+
+    /// A number that no number of a kind that is missing is below.
+    pub fn least_of(&self, kind: Kind) -> u32
+        ensures { result ≡ slice_index self.now.least (place_of kind) }
+    {
+        self.least[kind as usize]
     }
 
     /// Whether a number of a kind is missing.
+    #[inline(never)]
     pub fn has(&self, kind: Kind, number: u32) -> bool
         ensures { IsTrue result ↔ IsListed spec.lines self.now.lines kind number }
     {
@@ -117,11 +137,11 @@ impl Missing {
     /// Whether an opcode is missing.
     #[inline(always)]
     pub fn has_opcode(&self, number: u16) -> bool
-        requires { IsLeast self.now.lines self.now.least_opcode }
-        ensures { IsTrue result ↔ IsListed spec.lines self.now.lines kind.Opcode number }
+        ensures { AreLeast self.now.lines self.now.least
+            → IsTrue result ↔ IsListed spec.lines self.now.lines kind.Opcode number }
     {
         let number = u32::from(number);
-        if number < self.least_opcode {
+        if number < self.least_of(Kind::Opcode) {
             return false;
         }
         self.has(Kind::Opcode, number)

@@ -1,8 +1,9 @@
 //! Forms of instructions that came with later versions, and instructions that went.
 
-ghost use Rattle.std.specs.Prelude.{◌≡◌, ◌≤◌, ◌↔◌, IsTrue, codes, count_by, nat_eq};
+ghost use Rattle.std.specs.Prelude.{◌≡◌, ◌≤◌, ◌↔◌, IsTrue, List, codes, count_by, nat_eq};
 ghost use Rattle.std.specs.List.{starts_with};
 ghost use Rattle.spv_module.specs.Module.{plain_inst, plain_operand, plain_operands};
+ghost use Rattle.spv_module.specs.Operand.{PlainInst};
 ghost use Rattle.spv_versions.specs.Missing as spec;
 ghost use Rattle.spv_versions.specs.inner.Shapes.{AreOfNoMeaning, AreWhole, HasLateForm, IsOneBool};
 
@@ -29,6 +30,7 @@ fn is_mask(operand: Operand<'_>) -> bool
 }
 
 /// How many masks there are among operands.
+#[inline(never)]
 fn count_masks(operands: &[Operand<'_>]) -> usize
     ensures { result ≡ count_by spec.is_mask (plain_operands operands.now) }
 {
@@ -64,6 +66,7 @@ fn selects(definitions: &Definitions, t: u32, condition: u32) -> bool
 }
 
 /// Whether operands of an OpSelect are so.
+#[inline(never)]
 fn are_whole(definitions: &Definitions, operands: &[Operand<'_>]) -> bool
     ensures { IsTrue result ↔ AreWhole definitions.now (plain_operands operands.now) }
 {
@@ -86,6 +89,7 @@ fn is_of_no_meaning(name: &str) -> bool
 }
 
 /// Whether operands of an OpExtInstImport name a set of no meaning.
+#[inline(never)]
 fn are_of_no_meaning(operands: &[Operand<'_>]) -> bool
     ensures { IsTrue result ↔ AreOfNoMeaning (plain_operands operands.now) }
 {
@@ -115,6 +119,20 @@ pub fn has_late_form(
         opcode::LESS_OR_GREATER => minor > LAST_OF_EITHER,
         opcode::ATOMIC_COMPARE_EXCHANGE_WEAK => minor > LAST_OF_WEAK,
         opcode::EXT_INST_IMPORT => missing.is_without_meaning && are_of_no_meaning(operands),
+        _ => false,
+    }
+}
+
+/// Whether an instruction of an opcode may have such a form, or be one that went.
+pub fn may_have_late_form(missing: &Missing, minor: u8, number: u16) -> bool
+    ensures { (is : List PlainInst) (i : PlainInst) → i.opcode ≡ number
+        → HasLateForm is minor missing.now.is_without_meaning i → IsTrue result }
+{
+    match number {
+        opcode::COPY_MEMORY | opcode::COPY_MEMORY_SIZED | opcode::SELECT => minor < WIDER_FORMS,
+        opcode::LESS_OR_GREATER => minor > LAST_OF_EITHER,
+        opcode::ATOMIC_COMPARE_EXCHANGE_WEAK => minor > LAST_OF_WEAK,
+        opcode::EXT_INST_IMPORT => missing.is_without_meaning,
         _ => false,
     }
 }

@@ -40,6 +40,9 @@ macro_rules! line {
 /// How many lines there are.
 pub const COUNT: usize = 97;
 
+/// How many of them have a first version, or may have one: the lines of table V, which come first.
+pub const DATED: usize = 39;
+
 /// The lines of both tables (Khronos' grammar file of SPIR-V 1.6, revision 1). Each number of a kind is on one at most.
 pub static TABLE: [Line; COUNT] = [
     // Table V: first versions.
@@ -163,6 +166,23 @@ impl Kind {
     }
 }
 
+/// How many kinds of numbers there are.
+pub const ALL_KINDS: usize = 10;
+
+/// By the place of a kind a number that no number of the kind in table X is below.
+pub static UNDATED: [u32; ALL_KINDS] = [
+    u32::MAX,
+    4423,
+    u32::MAX,
+    4999,
+    4992,
+    u32::MAX,
+    u32::MAX,
+    u32::MAX,
+    u32::MAX,
+    2,
+];
+
 /// How many kinds of operands there are of which the table speaks.
 pub const KIND_COUNT: usize = 9;
 
@@ -184,6 +204,13 @@ pub fn table() -> &'static [Line; COUNT]
     ensures { map plain_line result.now ≡ spec.lines }
 {
     &TABLE
+}
+
+/// These numbers.
+pub fn undated() -> [u32; ALL_KINDS]
+    ensures { result ≡ told.undated }
+{
+    UNDATED
 }
 
 /// These kinds.

@@ -4,6 +4,7 @@ use Rattle.std.specs.Prelude.{if◌then◌else◌}
 use Rattle.std.specs.BTreeMap.{BTreeMap}
 use Rattle.spv_module.specs.Operand.{Plain, Result, Id, PlainInst}
 use Rattle.spv_ids.specs.Outcome.{IsOnly}
+use Rattle.spv_limits.specs.declared.past.Counts.{Counts}
 use Rattle.spv_limits.specs.declared.table.Limit.{Limit}
 use Rattle.spv_limits.specs.declared.table.Limit.TheVariants as limit
 use Rattle.spv_limits.specs.Counted.{is_variable, locals_before, modes_before, sets_mode, variables_before}
@@ -73,3 +74,9 @@ pub record AreVariables (is : List PlainInst) (n : ℕ) (are_local : Bool) (coun
   pub where_they_are : IsTrue are_local ↔ IsInFunctions is n
   pub counted : count ≡ (if are_local then locals_before is n else variables_before is n)
   pub few : count ≤ most (limit_of are_local)
+
+-- The instructions before instruction n are counted, and none of them passes the limits on depth, modes and variables.
+pub record IsUpTo (is : List PlainInst) (n : ℕ) (counts : Counts) : Type 0 where
+  pub depths : AreDepths is n counts.depths
+  pub modes : AreModes is n counts.modes
+  pub variables : AreVariables is n counts.variables.are_local counts.variables.count

@@ -1,5 +1,5 @@
 -- Numbers that are missing, by the lines that say so. (For the code alone.)
-use Rattle.std.specs.Prelude.{◌≡◌, ◌<◌, ◌/◌, ◌%◌, ◌^◌, ℕ, List, Option, Some, None, Bool, true, false, slice_get}
+use Rattle.std.specs.Prelude.{◌≡◌, ◌/◌, ◌%◌, ◌^◌, ℕ, List, Option, Some, None, Bool, true, false, slice_get}
 use Rattle.std.specs.Prelude.{slice_index_or}
 use Rattle.spv_versions.specs.declared.table.Kind.{Kind}
 use Rattle.spv_versions.specs.Named.{IsSetBit}

@@ -1,14 +1,16 @@
 -- What is told of a module before its instructions are looked at. (For the code alone.)
 use Rattle.std.specs.Prelude.{◌≡◌, ◌<◌, ◌≤◌, ◌/◌, ◌%◌, ◌^◌, ℕ, List, [], ◌∷◌, Option, Some, None, Bool, true, false, ◌↔◌, ◌⊎◌}
 use Rattle.std.specs.Prelude.{IsTrue}
-use Rattle.std.specs.Prelude.{slice_get, slice_index_or, Contains, nat_eq, if◌then◌else◌, option_and_then, codes}
+use Rattle.std.specs.Prelude.{slice_get, slice_index, slice_index_or, Contains, nat_eq, if◌then◌else◌, option_and_then, codes}
+use denote.Enum.Declared.{tag_of}
 use Rattle.spv_table.specs.Table.{Table}
 use Rattle.spv_table.specs.Lookups.{number_named}
 use Rattle.spv_module.specs.declared.opcode.TheConstants as opcode
 use Rattle.spv_module.specs.Operand.{Plain, Text, Value, Mask, PlainInst}
 use Rattle.spv_versions.specs.declared.table.Kind.{Kind}
 use Rattle.spv_versions.specs.declared.table.Kind.TheVariants as kind
-use Rattle.spv_versions.specs.declared.table.TheConstants.{KINDS}
+use Rattle.spv_versions.specs.declared.table.TheConstants.{KINDS, UNDATED}
+use Rattle.spv_versions.specs.contracts.table.Kind.{the_type}
 use Rattle.spv_versions.specs.Named.{IsDeclared, IsSetBit}
 use Rattle.spv_versions.specs.Table.{IsBefore, Line, Text as Name, lines, name_of}
 use Rattle.spv_versions.specs.inner.Lines.{IsListed}
@@ -48,6 +50,12 @@ kinds = KINDS
 abbrev pub AreNumbers : Table → List (Option ℕ) → Type 0
 AreNumbers G ns = (p : ℕ) (k : Kind) → slice_get kinds p ≡ Some k → slice_index_or ns p None ≡ number_of G k
 
+-- These are the numbers of the kinds of which something is missing.
+abbrev pub AreKnown : Table → List Bool → List (Option ℕ) → Type 0
+AreKnown G flags ns = (p : ℕ) (k : Kind) → slice_get kinds p ≡ Some k
+    → (slice_index_or ns p None ≡ number_of G k)
+    ⊎ ((slice_index_or ns p None ≡ None) × ((n : ℕ) → ¬ (IsListed lines flags k n)))
+
 -- the bit at a position is set in a mask, and missing; a value of a kind is missing, or a set bit of a mask
 abbrev pub IsBitHit : List Bool → Kind → ℕ → ℕ → Type 0
 IsBitHit flags k m position = (m / 2 ^ position % 2 ≡ 1) × IsListed lines flags k (2 ^ position)
@@ -79,6 +87,14 @@ AreHit flags ns (o ∷ os) = IsOperandHit flags ns o ⊎ AreHit flags ns os
 abbrev pub IsInstHit : List Bool → List (Option ℕ) → PlainInst → Type 0
 IsInstHit flags ns i = IsListed lines flags kind.Opcode i.opcode ⊎ AreHit flags ns i.operands
 
--- no opcode that is missing is below a number
-abbrev pub IsLeast : List Bool → ℕ → Type 0
-IsLeast flags least = (n : ℕ) → IsListed lines flags kind.Opcode n → least ≤ n
+-- the place of a kind among all kinds
+abbrev pub place_of : Kind → ℕ
+place_of k = tag_of the_type k
+
+-- by the place of a kind a number that none of the kind in table X is below
+unfoldable pub undated : List ℕ
+undated = UNDATED
+
+-- no number of a kind that is missing is below that at the place of the kind
+abbrev pub AreLeast : List Bool → List ℕ → Type 0
+AreLeast flags least = (k : Kind) (n : ℕ) → IsListed lines flags k n → slice_index least (place_of k) ≤ n

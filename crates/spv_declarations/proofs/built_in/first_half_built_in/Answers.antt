@@ -1,6 +1,7 @@
 use Rattle.std.proofs.Common.{arith}
 use Rattle.spv_declarations.specs.Decorated.{IsHalfBuiltIn}
 use Rattle.spv_declarations.proofs.Passes.{found_by, more_by, none}
+use Rattle.spv_declarations.proofs.Without.{not_built_in}
 use Rattle.spv_declarations.proofs.built_in.first_half_built_in.Goals as goal
 
 pub returns-then-is_half : goal.returns-then-is_half
@@ -15,3 +16,7 @@ loop-number-preserved c = more_by (IsHalfBuiltIn c.args.definitions.now) c.loop-
 pub returns : goal.returns
 returns c = none c.args.count c.loop-number.number (IsHalfBuiltIn c.args.definitions.now) (omega arith)
     c.loop-number.invariant
+
+pub returns-then-not-either : goal.returns-then-not-either
+returns-then-not-either c = not_built_in c.args.definitions.now c.args.count c.args.kinds.now c.either.result
+    c.requires.early c.requires.kinds c.either.ensures c.if-not-either.true

@@ -1,5 +1,7 @@
+use Rattle.std.proofs.Common.{arith}
 use Rattle.spv_declarations.specs.Entry.{IsRepeated}
-use Rattle.spv_declarations.proofs.Passes.{found_by, more_by}
+use Rattle.spv_declarations.proofs.Passes.{found_by, more_by, none}
+use Rattle.spv_declarations.proofs.Without.{no_repeated}
 use Rattle.spv_declarations.proofs.entry.first_repeated.Goals as goal
 
 pub returns-then-branch : goal.returns-then-branch
@@ -17,3 +19,11 @@ loop-number-preserved c =
       seen = t.1 c.if-branch.false;
       before = more_by (IsRepeated is) c.loop-number.number _ t.0 c.if-branch.false c.loop-number.invariant.before;
     }
+
+pub returns-then-not-kinds : goal.returns-then-not-kinds
+returns-then-not-kinds c =
+    no_repeated c.args.definitions.now c.args.count c.args.kinds.now c.requires.kinds c.if-not-kinds.true
+
+pub returns : goal.returns
+returns c = none c.args.count c.loop-number.number (IsRepeated c.args.definitions.now) (omega arith)
+    c.loop-number.invariant.before

@@ -1,6 +1,7 @@
 use Rattle.std.proofs.Common.{arith}
 use Rattle.spv_declarations.specs.Entry.{SetsById, TakesId}
 use Rattle.spv_declarations.proofs.Passes.{found_at, more_at, none}
+use Rattle.spv_declarations.proofs.Without.{no_by_id}
 use Rattle.spv_declarations.proofs.entry.first_with_id.Goals as goal
 
 pub returns-then-takes_id : goal.returns-then-takes_id
@@ -13,3 +14,7 @@ loop-number-preserved c = more_at c.args.definitions.now (SetsById) c.loop-numbe
 
 pub returns : goal.returns
 returns c = none c.args.count c.loop-number.number (TakesId c.args.definitions.now) (omega arith) c.loop-number.invariant
+
+pub returns-then-not-kinds : goal.returns-then-not-kinds
+returns-then-not-kinds c =
+    no_by_id c.args.definitions.now c.args.count c.args.kinds.now c.requires.kinds c.if-not-kinds.true

@@ -1,4 +1,4 @@
-use Rattle.std.proofs.Common.{◌≡◌, ◌<◌, ℕ}
+use Rattle.std.proofs.Common.{◌≡◌, ◌<◌, ℕ, true}
 use Rattle.std.specs.Prelude.{codes}
 use Rattle.spv_table.specs.Table.{Table}
 use Rattle.spv_table.specs.Lookups.{number_named}
@@ -6,5 +6,5 @@ use Rattle.spv_declarations.specs.Decorated.{IsInitialized}
 use Rattle.spv_declarations.proofs.initialized.first_initialized.Given as goal
 
 abbrev pub invariant-loop-number : goal.invariant-loop-number
-invariant-loop-number l = (G : Table) → l.fn.linkage ≡ number_named G (codes "LinkageType") → (k : ℕ) → k < l.number
+invariant-loop-number l = (G : Table) → (l.fn.kinds.initialized ≡ true → l.fn.linkage ≡ number_named G (codes "LinkageType")) → (k : ℕ) → k < l.number
     → ¬ (IsInitialized G l.definitions k)

@@ -3,6 +3,7 @@ use Rattle.spv_module.specs.Operand.{PlainInst}
 use Rattle.spv_declarations.specs.inner.Said.{HasAt, ImportsBy}
 use Rattle.spv_declarations.proofs.Gathered.{gathers_none, gathers_more, gathers_all}
 use Rattle.spv_declarations.proofs.Stated.{has_import_early}
+use Rattle.spv_declarations.proofs.Without.{not_imported}
 use Rattle.spv_declarations.proofs.initialized.imported.Goals as goal
 
 pub loop-number-init : goal.loop-number-init
@@ -27,3 +28,8 @@ returns c =
     gathers_all is (λ (i : PlainInst) (x : ℕ). HasAt is (ImportsBy c.args.linkage) x i) c.args.count
     c.loop-number.number c.loop-number.imported c.requires.early (λ i x. has_import_early is c.args.linkage x i)
     (omega arith) c.loop-number.invariant
+
+pub returns-then-not-either : goal.returns-then-not-either
+returns-then-not-either c = not_imported c.args.definitions.now c.args.linkage c.args.count c.args.kinds.now
+    c.new-imported.result c.either.result c.requires.early c.requires.kinds c.either.ensures c.if-not-either.true
+    c.new-imported.ensures.empty

@@ -2,6 +2,7 @@ use Rattle.std.proofs.Common.{arith}
 use Rattle.spv_declarations.specs.Decorated.{IsLinkedEntry}
 use Rattle.spv_declarations.proofs.Passes.{found_by, more_by, none}
 use Rattle.spv_declarations.proofs.Telling.{linked_tells}
+use Rattle.spv_declarations.proofs.Without.{not_linked}
 use Rattle.spv_declarations.proofs.linked.first_linked.Goals as goal
 
 pub links-requires-clause-inst : goal.links-requires-clause-inst
@@ -24,3 +25,7 @@ loop-number-preserved c =
 pub returns : goal.returns
 returns c = none c.args.count c.loop-number.number (IsLinkedEntry c.args.definitions.now) (omega arith)
     c.loop-number.invariant
+
+pub returns-then-not-either : goal.returns-then-not-either
+returns-then-not-either c = not_linked c.args.definitions.now c.args.count c.args.kinds.now c.either.result
+    c.requires.kinds c.either.ensures c.if-not-either.true

@@ -1,6 +1,7 @@
 use Rattle.std.proofs.Common.{refl}
 use Rattle.spv_module.specs.Module.{plain_inst}
 use Rattle.spv_declarations.proofs.Misplacing.{HasAnId, MisplacesOwn, MisplacesMember, MisplacesTarget, by_id, by_own, by_member, by_target, if_ok, not_so, last_tells}
+use Rattle.spv_declarations.proofs.Without.{says_nothing}
 use Rattle.spv_declarations.proofs.misplaced.misplaces.Goals as goal
 
 pub returns-then-decorates_with_id : goal.returns-then-decorates_with_id
@@ -41,3 +42,7 @@ returns c =
     (not_so (MisplacesMember i) c.misplaces_member.result c.misplaces_member.ensures c.if-misplaces_member.false)
     (not_so (MisplacesTarget is s i) _ c.in_ok-misplaces_target.ensures c.if-branch.false) t)
     c.misplaces_pair.ensures
+
+pub returns-then-not-is_saying : goal.returns-then-not-is_saying
+returns-then-not-is_saying c = λ n at. says_nothing c.args.definitions.now n (plain_inst c.args.inst.now) c.is_saying.result at
+    c.is_saying.ensures c.if-not-is_saying.true

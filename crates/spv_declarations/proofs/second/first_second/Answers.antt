@@ -3,6 +3,7 @@ use Rattle.spv_declarations.specs.Decorated.{IsSecond}
 use Rattle.spv_declarations.proofs.Least.{least_none, least_more, apart_none, apart_more, second_here, none_second}
 use Rattle.spv_declarations.proofs.Passes.{none}
 use Rattle.spv_declarations.proofs.Stated.{known_19, known_20}
+use Rattle.spv_declarations.proofs.Without.{not_second}
 use Rattle.spv_declarations.proofs.second.first_second.Goals as goal
 
 pub loop-number-init : goal.loop-number-init
@@ -63,3 +64,7 @@ returns c =
     none c.args.count c.loop-number.number (IsSecond is) (omega arith)
     (none_second is c.loop-number.number c.loop-number.restricted c.loop-number.aliased
     c.loop-number.invariant.restricted c.loop-number.invariant.aliased c.loop-number.invariant.apart)
+
+pub returns-then-not-either : goal.returns-then-not-either
+returns-then-not-either c = not_second c.args.definitions.now c.args.count c.args.kinds.now c.both.result c.either.result
+    c.requires.kinds c.both.ensures c.either.ensures c.if-not-either.true

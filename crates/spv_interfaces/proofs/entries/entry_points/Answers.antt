@@ -1,8 +1,16 @@
-use Rattle.std.proofs.Common.{◌≤◌, ◌<◌, ◌∙◌, sym, length, arith}
+use Rattle.std.proofs.Common.{◌≡◌, ◌<◌, ◌∙◌, ℕ, sym, subst, length, arith}
 use Rattle.std.proofs.lemmas.Bool.{false≢true}
+use Rattle.spv_interfaces.specs.inner.Entries.{AreSound}
+use Rattle.spv_interfaces.proofs.Early.{sound_all}
 use Rattle.spv_interfaces.proofs.Entering.{sound_more, sound_none, sound_past, up_to_all, up_to_here}
 use Rattle.spv_interfaces.proofs.entries.entry_points.Goals.{in-Some+else-unsound+in_ok-push, in_default}
 use Rattle.spv_interfaces.proofs.entries.entry_points.Goals as goal
+
+pub judged-requires : goal.judged-requires
+judged-requires c =
+    let t = c.loop-number-test.true in
+    let w = c.requires.within in
+    omega (arith, t, w)
 
 pub loop-number-init : goal.loop-number-init
 loop-number-init c = rw c.new-sound.ensures.items (sound_none c.args.minor c.args.definitions.now)
@@ -19,7 +27,7 @@ loop-number-preserved c =
     let n = c.loop-number.number in
     let old = c.loop-number.sound.items in
     let t = c.loop-number-test.true in
-    let e = c.requires in
+    let e = c.requires.within in
     let there : n < length is = omega (arith, t, e) in
     elim c.match-branch-2.branch [
       | in-Some+else-unsound+in_ok-push w ↦
@@ -35,6 +43,8 @@ pub returns : goal.returns
 returns c =
     let is = c.args.definitions.now in
     let t = c.loop-number-test.false in
-    let e = c.requires in
-    let l : length is ≤ c.loop-number.number = omega (arith, t, e) in
-    up_to_all c.args.minor is c.loop-number.number c.loop-number.sound.items c.loop-number.invariant l
+    let end = c.loop-number.auto.number-end in
+    let e : c.loop-number.number ≡ c.args.before = omega (arith, t, end) in
+    let found = c.loop-number.sound.items in
+    up_to_all c.args.minor is (length is) found (sound_all c.args.minor is c.args.before found c.requires
+    (subst (λ (n : ℕ). AreSound c.args.minor is n found) e c.loop-number.invariant)) (omega arith)

@@ -1,13 +1,18 @@
-use Rattle.std.proofs.Common.{◌≡◌, ◌∙◌, ℕ, List, Option, Some, sym, subst, arith, vec_len}
+use Rattle.std.proofs.Common.{◌≡◌, ◌∙◌, ℕ, List, Option, Some, map, sym, subst, arith, vec_len}
 use Rattle.std.specs.Prelude.{slice_get}
 use Rattle.std.proofs.lemmas.Bool.{eqb-true}
+use Rattle.spv_module.specs.Module.{plain_inst}
 use Rattle.spv_interfaces.specs.inner.Entries.{IsFirstAmong, IsUnnamed}
+use Rattle.spv_interfaces.proofs.Early.{early_of}
 use Rattle.spv_interfaces.proofs.Entering.{none_among, told_unnamed, told_unsound}
 use Rattle.spv_interfaces.proofs.Unused.{no_numbers, same_length}
 use Rattle.spv_interfaces.proofs.misfaced.first_misfaced.Goals as goal
 
 pub entry_points-requires : goal.entry_points-requires
-entry_points-requires c = sym (same_length c.args.definitions.now c.args.insts.now c.requires.same)
+entry_points-requires c = early_of c.requires.plan.0 c.args.definitions.now (map plain_inst c.args.insts.now)
+    c.args.plan.now c.before_functions-before.result c.requires.same c.requires.plan.1
+    c.before_functions-before.ensures.within c.before_functions-before.ensures.before
+    c.before_functions-before.ensures.next
 
 pub first_unnamed-requires-clause-within : goal.first_unnamed-requires-clause-within
 first_unnamed-requires-clause-within c = λ k n h.

@@ -1,9 +1,6 @@
 use Rattle.std.proofs.Common.{[]}
-use Rattle.spv_interfaces.proofs.Using.{none_more, none_noted}
+use Rattle.spv_interfaces.proofs.Using.{none_noted}
 use Rattle.spv_interfaces.proofs.used.nothing_noted.Goals as goal
 
-pub loop-init : goal.loop-init
-loop-init c = rw c.in_ok-last.ensures.items (none_noted [])
-
-pub loop-preserved : goal.loop-preserved
-loop-preserved c = rw c.in_ok-push.ensures.items (none_more c.loop.last.items [] c.loop.invariant)
+pub returns : goal.returns
+returns c = none_noted c.in_ok-vec.field-0.items c.args.count [] (c.in_ok-vec.ensures.items_if_clones_equal (λ y h. h))

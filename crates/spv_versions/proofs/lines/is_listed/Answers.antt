@@ -1,7 +1,8 @@
-use Rattle.std.proofs.Common.{◌<◌, ◌≤◌, length, below_more, refl, arith}
-use Rattle.std.proofs.lemmas.Bool.{false≢true}
+use Rattle.std.proofs.Common.{◌<◌, length, below_more, refl, inl, inr, arith}
+use Rattle.std.proofs.lemmas.Bool.{cases_lt, false≢true}
 use Rattle.std.proofs.lemmas.Option.{slice_get-get_or}
-use Rattle.spv_versions.proofs.Listed.{line_at, listed_here, none_listed}
+use Rattle.spv_versions.proofs.Listed.{line_at, listed_here, within}
+use Rattle.spv_versions.proofs.Undated.{above_listed}
 use Rattle.spv_versions.proofs.lines.is_listed.Goals as goal
 use Rattle.spv_versions.proofs.lines.is_listed.Goals.{else-flags-k-via-then-flags-k+else-is_of, else-flags-k-via-else-flags-k}
 
@@ -27,9 +28,14 @@ loop-k-preserved c =
     ])
 
 pub returns : goal.returns
-returns c =
-    let past : length c.args.lines.now ≤ c.loop-k.k = omega arith in (
-      λ e. absurd (false≢true e),
-      λ h. absurd (none_listed c.args.lines.now c.args.flags.now c.args.kind c.args.number c.loop-k.k
-          c.loop-k.invariant past h),
-    )
+returns c = (
+  λ e. absurd (false≢true e),
+  λ h. elim (cases_lt h.0 c.loop-k.k) [
+    | inl a ↦ absurd (c.loop-k.invariant h.0 a h.1)
+    | inr b ↦
+        let w = within c.args.lines.now c.args.flags.now c.args.kind c.args.number h.0 h.1 in
+        let past = c.looked_at-k-end.ensures.all h.0 (omega arith) (omega (arith, w)) in
+        let low = above_listed c.args.lines.now c.args.flags.now c.args.kind c.args.number h.0 c.requires past.0 h.1 in
+        let under = past.1 in absurd (omega (arith, low, under))
+  ],
+)

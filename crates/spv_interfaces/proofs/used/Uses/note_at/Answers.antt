@@ -1,15 +1,17 @@
 use Rattle.spv_module.specs.Module.{plain_inst}
-use Rattle.spv_interfaces.proofs.Using.{uses_more, uses_past}
+use Rattle.spv_interfaces.proofs.Using.{uses_more}
 use Rattle.spv_interfaces.proofs.used.Uses.note_at.Goals as goal
 
-pub returns-in_default-clause-added : goal.returns-in_default-clause-added
-returns-in_default-clause-added c = λ G fit. uses_past G c.args.minor c.args.definitions.now c.args.number
-    c.args.self.now.found.items c.in_default.ensures
+pub returns-in_ok-note_extended-clause-added : goal.returns-in_ok-note_extended-clause-added
+returns-in_ok-note_extended-clause-added c = λ G fit a.
+    let i = plain_inst c.inst-inst.result.now in
+    uses_more G c.args.wanted.minor c.args.definitions.now c.args.number i c.args.self.now.found.items
+    c.note_extended.new.self.found.items c.inst-inst.ensures a
+    (c.in_ok-note_extended.ensures.added G (fit.each c.args.number i c.inst-inst.ensures))
 
-pub returns-clause-added : goal.returns-clause-added
-returns-clause-added c = λ G fit a.
-    let is = c.args.definitions.now in
-    let i = plain_inst c.inst.result.now in
-    uses_more G c.args.minor is c.args.number c.in-Some.function i c.args.self.now.found.items
-    c.note_all.new.self.found.items c.inst.ensures c.in-Some.ensures a
-    (c.in_ok-note_all.ensures.added G (fit.each c.args.number i c.inst.ensures))
+pub returns-in_ok-note_plain-clause-added : goal.returns-in_ok-note_plain-clause-added
+returns-in_ok-note_plain-clause-added c = λ G fit a.
+    let i = plain_inst c.inst-inst.result.now in
+    uses_more G c.args.wanted.minor c.args.definitions.now c.args.number i c.args.self.now.found.items
+    c.note_plain.new.self.found.items c.inst-inst.ensures a
+    (c.in_ok-note_plain.ensures.added G (fit.each c.args.number i c.inst-inst.ensures))

@@ -1,0 +1,5 @@
+use Rattle.spv_declarations.specs.inner.Kinds.{AreKinds}
+use Rattle.spv_declarations.proofs.kinds.kinds_among.Given as goal
+
+abbrev pub invariant-loop-number : goal.invariant-loop-number
+invariant-loop-number l = AreKinds l.definitions l.number l.kinds

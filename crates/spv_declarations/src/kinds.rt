@@ -1,0 +1,154 @@
+//! Which kinds of instructions stand before the functions.
+
+ghost use Rattle.std.specs.Prelude.{◌≡◌, ◌↔◌, ◌≤◌, IsTrue, false, length, true};
+ghost use Rattle.spv_module.specs.Module.{plain_inst};
+ghost use Rattle.spv_declarations.specs.Given.{is_decorate};
+ghost use Rattle.spv_declarations.specs.inner.Kinds as spec;
+ghost use Rattle.spv_declarations.specs.inner.Kinds.{AreKinds, Notes};
+
+use crate::capable::declares_bytes;
+use crate::decorated::{given, is_decorate, is_of_member};
+use crate::either::{both, either};
+use crate::entry::takes_id;
+use crate::initialized::initialized_by;
+use crate::said::LINKAGE_ATTRIBUTES;
+use crate::second::{ALIASED, RESTRICT};
+use spv_module::{Inst, opcode};
+use spv_type_forms::Definitions;
+
+/// Which kinds of instructions there are among some. Where a field is false, there is none of that kind, so that the
+/// rules that speak of it are not broken.
+#[derive(Clone, Copy)]
+pub struct Kinds {
+    /// An OpEntryPoint.
+    pub entry: bool,
+    /// Two of them.
+    pub entries: bool,
+    /// An OpExecutionMode with an id behind its mode.
+    pub by_id: bool,
+    /// One that names or decorates a member.
+    pub members: bool,
+    /// An OpGroupDecorate or OpGroupMemberDecorate.
+    pub groups: bool,
+    /// One that gives an id Restrict.
+    pub restricted: bool,
+    /// One that gives an id Aliased.
+    pub aliased: bool,
+    /// One that gives an id LinkageAttributes.
+    pub linked: bool,
+    /// An OpVariable with an initializer.
+    pub initialized: bool,
+    /// An OpTypeForwardPointer.
+    pub forward: bool,
+    /// One that declares an int of 8 bits.
+    pub bytes: bool,
+}
+
+/// Whether an opcode is that of OpGroupDecorate or OpGroupMemberDecorate.
+#[inline(always)]
+fn is_grouping(number: u16) -> bool
+    ensures { result ≡ spec.is_grouping number }
+{
+    number == opcode::GROUP_DECORATE || number == opcode::GROUP_MEMBER_DECORATE
+}
+
+/// Whether an opcode is that of a kind, but no decoration of an id.
+#[inline(always)]
+fn is_other(number: u16) -> bool
+    ensures { result ≡ spec.is_other number }
+{
+    let noted = either(
+        number == opcode::ENTRY_POINT,
+        either(
+            number == opcode::EXECUTION_MODE,
+            either(
+                number == opcode::VARIABLE,
+                either(
+                    number == opcode::TYPE_FORWARD_POINTER,
+                    number == opcode::TYPE_INT,
+                ),
+            ),
+        ),
+    );
+    either(noted, either(is_grouping(number), is_of_member(number)))
+}
+
+/// Whether an instruction is an OpVariable with an initializer.
+#[inline(always)]
+fn initializes(inst: &Inst<'_>) -> bool
+    ensures { IsTrue result ↔ spec.Initializes (plain_inst inst.now) }
+{
+    match initialized_by(inst) {
+        Some(_) => true,
+        None => false,
+    }
+}
+
+impl Kinds {
+    /// Takes note of an instruction that decorates an id.
+    #[inline(always)]
+    fn note_given(&mut self, inst: &Inst<'_>)
+        requires { is_decorate (plain_inst inst.now).opcode ≡ true }
+        ensures { Notes self.old self.new (plain_inst inst.now) }
+    {
+        let Some((_, decoration)) = given(inst) else {
+            return;
+        };
+        self.restricted = either(self.restricted, decoration == RESTRICT);
+        self.aliased = either(self.aliased, decoration == ALIASED);
+        self.linked = either(self.linked, decoration == LINKAGE_ATTRIBUTES);
+    }
+
+    /// Takes note of an instruction that decorates no id.
+    #[inline(never)]
+    fn note_other(&mut self, inst: &Inst<'_>)
+        requires { is_decorate (plain_inst inst.now).opcode ≡ false }
+        ensures { Notes self.old self.new (plain_inst inst.now) }
+    {
+        let enters = inst.opcode == opcode::ENTRY_POINT;
+        self.entries = either(self.entries, both(self.entry, enters));
+        self.entry = either(self.entry, enters);
+        self.by_id = either(self.by_id, takes_id(inst));
+        self.members = either(self.members, is_of_member(inst.opcode));
+        self.groups = either(self.groups, is_grouping(inst.opcode));
+        self.initialized = either(self.initialized, initializes(inst));
+        self.forward = either(self.forward, inst.opcode == opcode::TYPE_FORWARD_POINTER);
+        self.bytes = either(self.bytes, declares_bytes(inst));
+    }
+
+    /// Takes note of an instruction. Those of most opcodes are of no kind.
+    #[inline(always)]
+    fn note(&mut self, inst: &Inst<'_>)
+        ensures { Notes self.old self.new (plain_inst inst.now) }
+    {
+        if is_decorate(inst.opcode) {
+            self.note_given(inst);
+        } else if is_other(inst.opcode) {
+            self.note_other(inst);
+        }
+    }
+}
+
+/// Which kinds of instructions there are among the first `count`. It takes no memory.
+pub fn kinds_among(definitions: &Definitions, count: u32) -> Kinds
+    requires { count ≤ length definitions.now }
+    ensures { AreKinds definitions.now count result }
+{
+    let mut kinds = Kinds {
+        entry: false,
+        entries: false,
+        by_id: false,
+        members: false,
+        groups: false,
+        restricted: false,
+        aliased: false,
+        linked: false,
+        initialized: false,
+        forward: false,
+        bytes: false,
+    };
+    for number in 0..count {
+        kinds.note(definitions.inst(number));
+    }
+    kinds
+}

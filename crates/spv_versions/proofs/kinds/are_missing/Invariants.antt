@@ -1,8 +1,0 @@
-use Rattle.std.proofs.Common.{◌↔◌, drop}
-use Rattle.spv_module.specs.Module.{plain_operands}
-use Rattle.spv_versions.specs.inner.Told.{AreHit}
-use Rattle.spv_versions.proofs.kinds.are_missing.Given as goal
-
-abbrev pub invariant-loop-operand : goal.invariant-loop-operand
-invariant-loop-operand l = AreHit l.missing.lines l.kinds.numbers (plain_operands (drop l.operand-index l.operands))
-    ↔ AreHit l.missing.lines l.kinds.numbers (plain_operands l.operands)

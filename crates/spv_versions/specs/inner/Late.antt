@@ -1,0 +1,20 @@
+-- What is told of a module to find what it has that its version does not. (For the code alone.)
+use Rattle.std.specs.Prelude.{◌≡◌, ◌<◌, ◌≤◌, ℕ, List, Option, Bool, length, slice_index}
+use Rattle.spv_table.specs.Table.{Table}
+use Rattle.spv_module.specs.Operand.{PlainInst}
+use Rattle.spv_versions.specs.declared.late.Late.{Late}
+use Rattle.spv_versions.specs.inner.Told.{AreKnown, AreLeast, AreTold, IsAnyHit}
+
+-- no value that is missing, of the kind of a number, and no mask with a bit that is, is below that at the place of that
+-- number
+abbrev pub AreFloors : List Bool → List (Option ℕ) → List ℕ → Type 0
+AreFloors flags ns floors =
+    (j v : ℕ) (is_mask : Bool) → j < length floors → IsAnyHit flags ns j is_mask v → slice_index floors j ≤ v
+
+-- It is told of the module of version 1.minor, by a grammar.
+pub record IsLateBy (G : Table) (minor : ℕ) (is : List PlainInst) (l : Late) : Type 0 where
+  pub version : l.minor ≡ minor
+  pub told : AreTold minor is l.missing.lines l.missing.is_without_meaning
+  pub least : AreLeast l.missing.lines l.missing.least
+  pub numbers : AreKnown G l.missing.lines l.kinds.numbers
+  pub floors : AreFloors l.missing.lines l.kinds.numbers l.floors
