@@ -32,7 +32,7 @@ fn first_by(code: &Code<'_, '_>, function: u32, end: u32, label: Option<u32>) ->
     ensures { (G : Table) → IsCode G code.now → IsFoundFirst G (insts_of code.now) function result }
 {
     match label {
-        Some(inst) => match first_early_use(code, function, inst.min(0)) {
+        Some(inst) => match first_early_use(code, function, inst) {
             Some(early) => Some(Found {
                 rule: Rule::O2,
                 inst: early,
