@@ -123,7 +123,6 @@ fn pass_terminator(
 ) -> Result<Rising, AllocError>
     requires at { at < length code.now.insts.now }
     requires of { IsOfFunction (insts_of code.now) at function }
-    requires after { function < at }
     requires op { IsOp (insts_of code.now) at opcodes.is_terminator }
     requires risen { AreRisen code.now function at rising marks.old.items }
     ensures { IfOk result (λ r. AreRisen code.now function (at + 1) r marks.new.items) }
@@ -148,7 +147,6 @@ fn pass(
 ) -> Result<Rising, AllocError>
     requires at { at < length code.now.insts.now }
     requires of { IsOfFunction (insts_of code.now) at function }
-    requires after { function < at }
     requires risen { AreRisen code.now function at rising marks.old.items }
     ensures { IfOk result (λ r. AreRisen code.now function (at + 1) r marks.new.items) }
 {
@@ -191,7 +189,7 @@ pub fn rise_of(
     };
     for at in function as usize + 1..insts.len() {
         let opcode = insts[at].opcode;
-        // Most are neither of a function's ends nor of a block's.
+        // Most instructions neither begin nor end a function or a block.
         if FUNCTION_END < opcode && opcode < LABEL {
             continue;
         }
