@@ -13,12 +13,12 @@ use Rattle.spv_module.specs.Operand.{PlainInst}
 use Rattle.spv_layout.specs.First.{rank_of}
 use Rattle.spv_kernel_operands.specs.Seats.{lines, scopes_of, semantics_of}
 use Rattle.spv_kernel_operands.specs.Scopes.{IsMisscoped}
-use Rattle.spv_kernel_operands.specs.Pointers.{IsMisatomic, IsMiswritten, IsEmptyCopy, is_any_atomic, is_atomic, is_write}
+use Rattle.spv_kernel_operands.specs.Pointers.{IsMisatomic, IsMiswritten, is_any_atomic, is_atomic, is_write}
 use Rattle.spv_kernel_operands.specs.Control.{IsMiscontrolled}
 use Rattle.spv_kernel_operands.specs.Switch.{IsMisswitched}
 use Rattle.spv_kernel_operands.specs.Objects.{IsVoidReturn, IsMadeElsewhere}
 use Rattle.spv_kernel_operands.specs.Broken.{Broken, IsBrokenBy}
-use Rattle.spv_kernel_operands.specs.inner.First.{AreKept, IsFirstAt, IsFirstInMemory, IsFirstOf}
+use Rattle.spv_kernel_operands.specs.inner.First.{AreKept, IsFirstAt, IsFirstInMemory}
 use Rattle.spv_kernel_operands.proofs.Firsts.{by_rule, first_none, first_nowhere, first_of_inst, same_inst}
 
 -- no operand of an opcode is a scope or semantics, and none of its instructions writes or is an atomic
@@ -210,9 +210,9 @@ switch_at G is n i b at op told = alone_at G is n O19 (IsMisswitched is i) b tol
     never : (m : ℕ) → nat_eq opcode.SWITCH m ≡ false → i.opcode ≡ m → ⊥
     never m = apart i.opcode opcode.SWITCH m op
 
-pub value_at_end : (G : Table) (is : List PlainInst) (n : ℕ) (i : PlainInst) (b : Bool) → slice_get is n ≡ Some i
+pub return_at : (G : Table) (is : List PlainInst) (n : ℕ) (i : PlainInst) (b : Bool) → slice_get is n ≡ Some i
     → i.opcode ≡ opcode.RETURN_VALUE → IsTrue b ↔ IsVoidReturn is i → IsFirstAt G is n (if b then Some O20 else None)
-value_at_end G is n i b at op told = alone_at G is n O20 (IsVoidReturn is i) b told
+return_at G is n i b at op told = alone_at G is n O20 (IsVoidReturn is i) b told
     (λ h. Broken.operands O20 n i at (IsBrokenBy.void h))
     (all_at G is n i O20 (IsVoidReturn is i) at
     (later_by G is i (λ q. (q ≡ O20) × IsVoidReturn is i) (kept G is i (subst IsPlain (sym op) plain_value))

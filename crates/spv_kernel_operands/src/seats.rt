@@ -113,11 +113,14 @@ fn semantics_in(entries: &[Seats], opcode: u16) -> &'static [u32]
     &[]
 }
 
-/// Whether no operand of an opcode is a scope or memory semantics.
-pub fn is_seatless(opcode: u16) -> bool
-    ensures { IsTrue result → (spec.scopes_of opcode ≡ []) × (spec.semantics_of opcode ≡ []) }
+/// Whether no operand of an opcode is a scope or memory semantics. The lines begin with OpControlBarrier.
+pub fn is_seatless(code: u16) -> bool
+    ensures { IsTrue result → (spec.scopes_of code ≡ []) × (spec.semantics_of code ≡ []) }
 {
-    is_absent(&ENTRIES, opcode)
+    if code < opcode::CONTROL_BARRIER {
+        return true;
+    }
+    is_absent(&ENTRIES, code)
 }
 
 /// The numbers of the operands of an opcode, from 0, that are scopes.

@@ -1,6 +1,6 @@
 -- One instruction more, by its opcode.
 use Rattle.std.proofs.Common.{◌≡◌, ◌⊎◌, ◌∙◌, ◌↔◌, ◌<◌, ◌+◌, ◌||◌, ℕ, List, Bool, true, false, Option, Some, None, IsTrue}
-use Rattle.std.proofs.Common.{if◌then◌else◌, nat_eq, refl, sym, ap, subst, inl, inr, arith, eq-eqb, ne_eqb}
+use Rattle.std.proofs.Common.{if◌then◌else◌, nat_eq, refl, sym, ap, subst, inl, inr, eq-eqb, ne_eqb}
 use Rattle.std.specs.Prelude.{is_some, not, slice_get}
 use Rattle.std.specs.BTreeMap.{BTreeMap}
 use Rattle.std.proofs.lemmas.Bool.{false≢true}
@@ -21,6 +21,10 @@ use Rattle.spv_limits.proofs.Deep.{depths_same, no_struct}
 use Rattle.spv_limits.proofs.Locals.{other_answer}
 use Rattle.spv_limits.proofs.Modes.{modes_same}
 use Rattle.spv_limits.proofs.Passing.{alone_passes, deep_passes, mode_passes, none_passes, variable_passes}
+
+-- two opcodes are not one
+apart : (code k m : ℕ) → code ≡ k → nat_eq k m ≡ false → code ≡ m → ⊥
+apart code k m e never f = false≢true (sym never ∙ eq-eqb k m (sym e ∙ f))
 
 -- instructions of an opcode are not counted: they declare no struct, give no mode, and are no variable and no function
 pub record IsUncounted (code : ℕ) : Type 0 where
@@ -66,6 +70,11 @@ pub uncounted_step : (is : List PlainInst) (n : ℕ) (i : PlainInst) (b : Bool) 
 uncounted_step is n i true counts at u told h = (i, at, alone_passes is n i (told.0 refl))
 uncounted_step is n i false counts at u told h = uncounted is n i counts at u (λ p. false≢true (told.1 p)) h
 
+-- what is told of the operands that are lent
+pub short_texts : (i : PlainInst) (os : List Plain) (b : Bool) → os ≡ i.operands → (IsTrue b ↔ AreLong os) → b ≡ false
+    → ¬ (AreLong i.operands)
+short_texts i os b same told e long = false≢true (sym e ∙ told.1 (subst AreLong (sym same) long))
+
 -- whether it passes a limit by what it has itself, where its texts are not too long
 pub many_alone : (is : List PlainInst) (i : PlainInst) (b : Bool) → ¬ (AreLong i.operands)
     → (i.opcode ≡ opcode.EXT_INST → ⊥) → (IsTrue b ↔ HasTooMany i) → (IsTrue b ↔ PassesAlone is i)
@@ -90,8 +99,25 @@ few i f (alone.of_parameters e h) = f.function_type e
 few i f (alone.of_pairs e h) = f.switch e
 few i f (alone.of_indexes h) = none-some h.0 (sym f.indexes ∙ h.1)
 
+few_at : (code k : ℕ) → code ≡ k → nat_eq k opcode.TYPE_STRUCT ≡ false → nat_eq k opcode.TYPE_FUNCTION ≡ false
+    → nat_eq k opcode.SWITCH ≡ false → before_indexes k ≡ None → IsFew code
+few_at code k op s f w x = record {
+  struct = apart code k opcode.TYPE_STRUCT op s;
+  function_type = apart code k opcode.TYPE_FUNCTION op f;
+  switch = apart code k opcode.SWITCH op w;
+  indexes = ap before_indexes op ∙ x;
+}
+
+mode_few : (code : ℕ) → (code ≡ opcode.EXECUTION_MODE) ⊎ (code ≡ opcode.EXECUTION_MODE_ID) → IsFew code
+mode_few code (inl e) = few_at code opcode.EXECUTION_MODE e refl refl refl refl
+mode_few code (inr e) = few_at code opcode.EXECUTION_MODE_ID e refl refl refl refl
+
+variable_few : (code : ℕ) → (code ≡ opcode.FUNCTION) ⊎ (code ≡ opcode.VARIABLE) → IsFew code
+variable_few code (inl e) = few_at code opcode.FUNCTION e refl refl refl refl
+variable_few code (inr e) = few_at code opcode.VARIABLE e refl refl refl refl
+
 -- it has too many arguments, and nothing else is asked of it
-pub arguments_alone : (is : List PlainInst) (i : PlainInst) (b : Bool) → ¬ (AreLong i.operands) → IsFew i.opcode
+arguments_alone : (is : List PlainInst) (i : PlainInst) (b : Bool) → ¬ (AreLong i.operands) → IsFew i.opcode
     → (IsTrue b ↔ HasTooManyArguments is i) → (IsTrue b ↔ PassesAlone is i)
 arguments_alone is i b short f told = (
   λ t. inr (inr (told.0 t)),
@@ -101,12 +127,22 @@ arguments_alone is i b short f told = (
   ],
 )
 
-none_alone : (is : List PlainInst) (i : PlainInst) → ¬ (AreLong i.operands) → IsFew i.opcode
+-- it passes none by what it has itself
+none_many : (is : List PlainInst) (i : PlainInst) → ¬ (AreLong i.operands) → ¬ (HasTooMany i)
     → (i.opcode ≡ opcode.EXT_INST → ⊥) → ¬ (PassesAlone is i)
-none_alone is i short f never h = elim h [
-  | inl many ↦ few i f many
+none_many is i short many never h = elim h [
+  | inl m ↦ many m
   | inr other ↦ elim other [ inl long ↦ short long | inr args ↦ never args.0 ]
 ]
+
+none_alone : (is : List PlainInst) (i : PlainInst) → ¬ (AreLong i.operands) → IsFew i.opcode
+    → (i.opcode ≡ opcode.EXT_INST → ⊥) → ¬ (PassesAlone is i)
+none_alone is i short f never = none_many is i short (few i f) never
+
+-- an opcode that need not be asked
+pub none_of : (o p : Option ℕ) (b : Bool) → o ≡ p → is_some o ≡ not b → IsTrue b → p ≡ None
+none_of None p b e told t = sym e
+none_of (Some n) p b e told t = absurd (false≢true (sym (told ∙ ap not t)))
 
 pub quiet_step : (is : List PlainInst) (n : ℕ) (i : PlainInst) (counts : Counts) → slice_get is n ≡ Some i
     → IsUncounted i.opcode → IsFew i.opcode → (i.opcode ≡ opcode.EXT_INST → ⊥) → ¬ (AreLong i.operands)
@@ -119,22 +155,6 @@ pub struct_answer : (i : PlainInst) (b : Bool) (P R : Type 0) → ¬ (HasTooMany
 struct_answer i true P R never h = inr h
 struct_answer i false P R never h = (λ x. elim x [ inl p ↦ never p | inr q ↦ h.0 q ], h.1)
 
-many_or_long : (is : List PlainInst) (i : PlainInst) → ¬ (AreLong i.operands) → ¬ (HasTooMany i)
-    → (i.opcode ≡ opcode.EXT_INST → ⊥) → ¬ (PassesAlone is i)
-many_or_long is i short many never h = elim h [
-  | inl m ↦ many m
-  | inr other ↦ elim other [ inl long ↦ short long | inr args ↦ never args.0 ]
-]
-
--- what is told of the operands that are lent
-pub short_texts : (i : PlainInst) (os : List Plain) (b : Bool) → os ≡ i.operands → (IsTrue b ↔ AreLong os) → b ≡ false
-    → ¬ (AreLong i.operands)
-short_texts i os b same told e long = false≢true (sym e ∙ told.1 (subst AreLong (sym same) long))
-
--- two opcodes are not one
-apart : (code k m : ℕ) → code ≡ k → nat_eq k m ≡ false → code ≡ m → ⊥
-apart code k m e never f = false≢true (sym never ∙ eq-eqb k m (sym e ∙ f))
-
 pub struct_step : (is : List PlainInst) (n : ℕ) (i : PlainInst) (b : Bool) (old new : Counts) → slice_get is n ≡ Some i
     → i.opcode ≡ opcode.TYPE_STRUCT → ¬ (AreLong i.operands)
     → IsAnswer b (HasTooMany i ⊎ IsTooDeep is n) (AreDepths is (n + 1) new.depths) → new.modes ≡ old.modes
@@ -144,7 +164,7 @@ struct_step is n i true old new at op short told m v h = elim told [
   | inr deep ↦ (i, at, deep_passes is n i deep)
 ]
 struct_step is n i false old new at op short told m v h = up_to is n i new at
-    (many_or_long is i short (λ x. told.0 (inl x)) (never opcode.EXT_INST refl)) (λ x. told.0 (inr x), told.1)
+    (none_many is i short (λ x. told.0 (inl x)) (never opcode.EXT_INST refl)) (λ x. told.0 (inr x), told.1)
     (same_modes is n i new.modes at (never opcode.EXECUTION_MODE refl) (never opcode.EXECUTION_MODE_ID refl)
     (subst (λ (w : BTreeMap ℕ ℕ). AreModes is n w) (sym m) h.modes))
     (other_answer is n i new.variables.are_local new.variables.count at (never opcode.VARIABLE refl)
@@ -152,55 +172,6 @@ struct_step is n i false old new at op short told m v h = up_to is n i new at
   where
     never : (m : ℕ) → nat_eq opcode.TYPE_STRUCT m ≡ false → i.opcode ≡ m → ⊥
     never m = apart i.opcode opcode.TYPE_STRUCT m op
-
--- the opcodes that are asked for one limit alone
-pub few_call : IsFew opcode.EXT_INST
-few_call = record {
-  struct = λ e. omega (arith, e);
-  function_type = λ e. omega (arith, e);
-  switch = λ e. omega (arith, e);
-  indexes = refl;
-}
-
-few_mode : IsFew opcode.EXECUTION_MODE
-few_mode = record {
-  struct = λ e. omega (arith, e);
-  function_type = λ e. omega (arith, e);
-  switch = λ e. omega (arith, e);
-  indexes = refl;
-}
-
-few_mode_id : IsFew opcode.EXECUTION_MODE_ID
-few_mode_id = record {
-  struct = λ e. omega (arith, e);
-  function_type = λ e. omega (arith, e);
-  switch = λ e. omega (arith, e);
-  indexes = refl;
-}
-
-few_variable : IsFew opcode.VARIABLE
-few_variable = record {
-  struct = λ e. omega (arith, e);
-  function_type = λ e. omega (arith, e);
-  switch = λ e. omega (arith, e);
-  indexes = refl;
-}
-
-few_function : IsFew opcode.FUNCTION
-few_function = record {
-  struct = λ e. omega (arith, e);
-  function_type = λ e. omega (arith, e);
-  switch = λ e. omega (arith, e);
-  indexes = refl;
-}
-
-pub mode_few : (code : ℕ) → (code ≡ opcode.EXECUTION_MODE) ⊎ (code ≡ opcode.EXECUTION_MODE_ID) → IsFew code
-mode_few code (inl e) = subst IsFew (sym e) few_mode
-mode_few code (inr e) = subst IsFew (sym e) few_mode_id
-
-pub variable_few : (code : ℕ) → (code ≡ opcode.FUNCTION) ⊎ (code ≡ opcode.VARIABLE) → IsFew code
-variable_few code (inl e) = subst IsFew (sym e) few_function
-variable_few code (inr e) = subst IsFew (sym e) few_variable
 
 -- an OpExecutionMode or OpExecutionModeId
 no_other_mode : (code m : ℕ) → nat_eq opcode.EXECUTION_MODE m ≡ false → nat_eq opcode.EXECUTION_MODE_ID m ≡ false
@@ -250,7 +221,7 @@ call_step is n i b counts at op short told h = uncounted_step is n i b counts at
       mode_id = never opcode.EXECUTION_MODE_ID refl;
       variable = never opcode.VARIABLE refl;
       function = never opcode.FUNCTION refl;
-    } (arguments_alone is i b short (subst IsFew (sym op) few_call) told) h
+    } (arguments_alone is i b short (few_at i.opcode opcode.EXT_INST op refl refl refl refl) told) h
   where
     never : (m : ℕ) → nat_eq opcode.EXT_INST m ≡ false → i.opcode ≡ m → ⊥
     never m = apart i.opcode opcode.EXT_INST m op
@@ -273,7 +244,3 @@ no_arguments is i os b same e told = (
   λ t. absurd (false≢true (sym e ∙ t)),
   λ h. told.1 (subst (λ (xs : List Plain). most limit.Arguments < argument_count xs) (sym same) h.1),
 )
-
-pub none_of : (o p : Option ℕ) (b : Bool) → o ≡ p → is_some o ≡ not b → IsTrue b → p ≡ None
-none_of None p b e told t = sym e
-none_of (Some n) p b e told t = absurd (false≢true (sym (told ∙ ap not t)))

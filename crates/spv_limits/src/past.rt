@@ -79,8 +79,7 @@ fn is_std_call(definitions: &Definitions, operands: &[Operand<'_>]) -> bool
     }
 }
 
-/// Whether the instruction of a number declares a struct that passes a limit: it has too many members, or is too deep.
-/// Takes note of how deep it is.
+/// Takes note of an instruction, and answers whether the struct that it declares has too many members or is too deep.
 fn is_struct_past(
     depths: &mut BTreeMap<u32, u32>,
     definitions: &Definitions,
@@ -144,15 +143,12 @@ impl Counts {
     }
 
     /// Takes note of the instruction of a number, from 0, and answers whether it passes a limit (O22; SPIR-V
-    /// Specification 1.6, section 2.17). All before it are counted, but those of an opcode that `is_quiet`.
+    /// Specification 1.6, section 2.17). All before it have been noted, but those of an opcode that `is_quiet`, which
+    /// have no text that is too long. Behind a yes or an error nothing is known of what is counted.
     ///
     /// Time is near-linear in the words of the instruction. An `AllocError` comes only where a growth of memory was
     /// refused.
-    pub fn is_past(
-        &mut self,
-        definitions: &Definitions,
-        number: u32,
-    ) -> Result<bool, AllocError>
+    pub fn is_past(&mut self, definitions: &Definitions, number: u32) -> Result<bool, AllocError>
         requires lower { AreLower definitions.now }
         requires number { number < length definitions.now }
         requires counted { IsUpTo definitions.now number self.old }

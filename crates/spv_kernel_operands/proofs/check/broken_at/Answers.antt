@@ -1,7 +1,7 @@
 use Rattle.std.proofs.Common.{arith, sym, subst}
 use Rattle.spv_module.specs.Module.{plain_inst}
 use Rattle.spv_kernel_operands.specs.inner.First.{IsFirstAt}
-use Rattle.spv_kernel_operands.proofs.Quiet.{control_at, image_at, memory_at, store_at, switch_at, value_at_end}
+use Rattle.spv_kernel_operands.proofs.Quiet.{control_at, image_at, memory_at, return_at, store_at, switch_at}
 use Rattle.spv_kernel_operands.proofs.check.broken_at.Goals as goal
 
 pub returns-in-62 : goal.returns-in-62
@@ -33,7 +33,7 @@ returns-in-254 c =
     let G = c.args.capabilities.now.table in
     let is = c.args.definitions.now in
     subst (λ o. IsFirstAt G is c.args.number o) (sym c.rule_if-rule-in-254.ensures)
-    (value_at_end G is c.args.number (plain_inst c.inst-inst.result.now) c.is_void_return.result c.inst-inst.ensures
+    (return_at G is c.args.number (plain_inst c.inst-inst.result.now) c.is_void_return.result c.inst-inst.ensures
     c.in-254.is c.is_void_return.ensures)
 
 pub returns-in-88 : goal.returns-in-88

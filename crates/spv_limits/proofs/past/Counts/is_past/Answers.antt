@@ -1,10 +1,9 @@
-use Rattle.std.proofs.Common.{arith, ap, inl, inr, refl, subst, ◌≡◌, ◌↔◌}
-use Rattle.std.proofs.lemmas.Bool.{false≢true, iff_false}
+use Rattle.std.proofs.Common.{arith, ap, inl, inr, refl, subst}
 use Rattle.spv_module.specs.Module.{plain_inst, plain_operands}
 use Rattle.spv_limits.specs.inner.Alone.{AreLong}
 use Rattle.spv_limits.proofs.Passing.{alone_passes}
-use Rattle.spv_limits.proofs.Steps.{call_step, many_alone, mode_few, mode_step, struct_step, uncounted_step}
-use Rattle.spv_limits.proofs.Steps.{short_texts, too_many_arguments, no_arguments, variable_few, variable_step}
+use Rattle.spv_limits.proofs.Steps.{call_step, many_alone, mode_step, struct_step, uncounted_step}
+use Rattle.spv_limits.proofs.Steps.{short_texts, too_many_arguments, no_arguments, variable_step}
 use Rattle.spv_limits.proofs.past.Counts.is_past.Goals as goal
 
 pub returns-then-has_long_text : goal.returns-then-has_long_text
