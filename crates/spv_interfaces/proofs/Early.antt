@@ -310,3 +310,17 @@ between_by is count n early none = record {
   from = λ x g. elim (cases_lt g.place n) [ inl l ↦ absurd (none x g l) | inr l ↦ l ];
   before = early.variables;
 }
+
+-- the last of these instructions is no variable
+pub between_less : (is : List PlainInst) (first end : ℕ) → first < end → AreBetween is first end
+    → ((x : ℕ) (g : IsGlobal is x) → ¬ (g.place ≡ end - 1)) → AreBetween is first (end - 1)
+between_less is first end l b none = record {
+  within = (let w = b.within in omega (arith, w));
+  from = b.from;
+  before = λ x g. elim (cases_lt g.place (end - 1)) [
+    | inl less ↦ less
+    | inr past ↦
+        let w = b.before x g in
+        absurd (none x g (omega (arith, w, past, l)))
+  ];
+}

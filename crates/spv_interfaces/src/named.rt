@@ -19,7 +19,7 @@ use crate::counted::{are_full, are_settled, counts_of};
 use crate::entries::{entry, id_of};
 use crate::marks::{Marks, set, spread};
 use crate::order::callers_first;
-use crate::used::{Use, first_variable, uses_of};
+use crate::used::{Use, first_variable, past_variables, uses_of};
 use spv_flow::calls::{Call, calls_of, entries_of};
 use spv_ids::Ids;
 use spv_layout::Plan;
@@ -218,16 +218,18 @@ pub fn first_unnamed(
     ensures { (G : Table) → IsPlan G (map plain_inst insts.now) plan.now
         → IfOk result (IsFirstAmong (IsUnnamed G minor definitions.now) entries.now) }
 {
-    let end = plan.before_functions();
-    let Some(first) = first_variable(definitions, end) else {
+    let start = plan.before_functions();
+    let Some(first) = first_variable(definitions, start) else {
         return Ok(None);
     };
+    let end = past_variables(definitions, first, start);
     let counts = counts_of(alloc, definitions, end, entries)?;
     let all = entries.len();
     if are_settled(definitions, minor, first, end, counts.as_slice(), all) {
         return Ok(None);
     }
-    let uses = uses_of(alloc, definitions, minor, first, end, insts.len() as u32)?;
+    let total = insts.len() as u32;
+    let uses = uses_of(alloc, definitions, minor, first, end, start, total)?;
     if are_full(uses.as_slice(), counts.as_slice(), all) {
         return Ok(None);
     }

@@ -64,6 +64,19 @@ pub fn first_variable(definitions: &Definitions, before: u32) -> Option<u32>
     None
 }
 
+/// The number behind that of the last OpVariable before the functions, and `first` where there is none from that number
+/// on: `before` instructions stand before the functions.
+pub fn past_variables(definitions: &Definitions, first: u32, before: u32) -> u32
+    requires { AreBetween definitions.now first before }
+    ensures { AreBetween definitions.now first result }
+{
+    let mut end = before;
+    while first < end && definitions.inst(end - 1).opcode != opcode::VARIABLE {
+        end -= 1;
+    }
+    end
+}
+
 /// The OpVariables of section 9 that are looked for: those which have to be in the interface where they are used.
 #[derive(Clone, Copy)]
 struct Wanted {
@@ -292,8 +305,8 @@ impl Uses {
 }
 
 /// The uses of variables that have to be in the interface, in a module of version 1.`minor`: by the instructions from
-/// `end` on to the last, where `total` is how many there are. The variables stand from `first` on and before `end`. Of
-/// each definition and variable there is one use.
+/// `start` on to the last, where `total` is how many there are. The variables stand from `first` on and before `end`.
+/// Of each definition and variable there is one use.
 ///
 /// Time is linear in the words of these instructions. An `AllocError` comes only where a growth of memory was refused.
 pub fn uses_of(
@@ -302,11 +315,13 @@ pub fn uses_of(
     minor: u8,
     first: u32,
     end: u32,
+    start: u32,
     total: u32,
 ) -> Result<Vec<Use>, AllocError>
     requires total { total ≡ length definitions.now }
     requires wanted { AreBetween definitions.now first end }
-    requires before { (n : ℕ) → n < end → ¬ (IsAt definitions.now n (Function ∷ [])) }
+    requires start { start ≤ total }
+    requires before { (n : ℕ) → n < start → ¬ (IsAt definitions.now n (Function ∷ [])) }
     ensures { IfOk result (λ uses. (G : Table) → Fit G definitions.now
         → AreUses G minor definitions.now (length definitions.now) uses.items) }
 {
@@ -315,7 +330,7 @@ pub fn uses_of(
         last: nothing_noted(alloc, end)?,
         found: Vec::new(alloc),
     };
-    for number in end..total {
+    for number in start..total {
         uses.note_at(definitions, wanted, number)?;
     }
     Ok(uses.found)

@@ -13,9 +13,9 @@ use Rattle.spv_interfaces.proofs.named.first_unnamed.Goals as goal
 
 pub first_variable-requires : goal.first_variable-requires
 first_variable-requires c = early_of c.requires.plan.0 c.args.definitions.now (map plain_inst c.args.insts.now)
-    c.args.plan.now c.before_functions-end.result c.requires.same c.requires.plan.1
-    c.before_functions-end.ensures.within c.before_functions-end.ensures.before
-    c.before_functions-end.ensures.next
+    c.args.plan.now c.before_functions-start.result c.requires.same c.requires.plan.1
+    c.before_functions-start.ensures.within c.before_functions-start.ensures.before
+    c.before_functions-start.ensures.next
 
 pub returns-in_default : goal.returns-in_default
 returns-in_default c = λ G plan.
@@ -25,7 +25,7 @@ pub uses_of-requires-clause-before : goal.uses_of-requires-clause-before
 uses_of-requires-clause-before c = λ n l.
     let js = map plain_inst c.args.insts.now in
     subst (λ (is : List PlainInst). IsAt is n (Function ∷ []) → ⊥) (sym c.requires.same)
-    (c.before_functions-end.ensures.before js n c.requires.plan.1.place l)
+    (c.before_functions-start.ensures.before js n c.requires.plan.1.place l)
 
 pub counts_of-requires : goal.counts_of-requires
 counts_of-requires c = λ k n h.
