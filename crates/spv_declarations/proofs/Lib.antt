@@ -18,6 +18,7 @@ pub mod Needing
 pub mod Worked
 pub mod Lines
 pub mod Without
+pub mod Spanned
 pub mod Showing
 pub mod Seconds
 pub mod Outside

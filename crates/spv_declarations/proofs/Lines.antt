@@ -54,17 +54,25 @@ stands_nowhere is d x b e f at = (
 -- the decorations of the table, in another order
 pub listed_by : (a b c d e f g h i j : Bool)
     → ((a || b) || (c || d)) || ((e || f) || ((g || h) || (i || j)))
-    ≡ (a || false) || ((b || (c || false)) || ((c || false) || ((d || false) || ((e || (f || false))
-    || ((e || (f || false)) || ((g || false) || ((h || false) || ((i || false) || ((j || false) || false)))))))))
+    ≡ (a || false) || ((j || false) || ((b || (c || false)) || ((c || false) || ((d || false)
+    || ((e || (f || false)) || ((e || (f || false)) || ((g || false) || ((h || false) || ((i || false) || false)))))))))
 listed_by true b c d e f g h i j = refl
-listed_by false true c d e f g h i j = refl
-listed_by false false true d e f g h i j = refl
-listed_by false false false true e f g h i j = refl
-listed_by false false false false true f g h i j = refl
-listed_by false false false false false true g h i j = refl
-listed_by false false false false false false true h i j = refl
-listed_by false false false false false false false true i j = refl
-listed_by false false false false false false false false true j = refl
+listed_by false true c d e f g h i true = refl
+listed_by false true c d e f g h i false = refl
+listed_by false false true d e f g h i true = refl
+listed_by false false true d e f g h i false = refl
+listed_by false false false true e f g h i true = refl
+listed_by false false false true e f g h i false = refl
+listed_by false false false false true f g h i true = refl
+listed_by false false false false true f g h i false = refl
+listed_by false false false false false true g h i true = refl
+listed_by false false false false false true g h i false = refl
+listed_by false false false false false false true h i true = refl
+listed_by false false false false false false true h i false = refl
+listed_by false false false false false false false true i true = refl
+listed_by false false false false false false false true i false = refl
+listed_by false false false false false false false false true true = refl
+listed_by false false false false false false false false true false = refl
 listed_by false false false false false false false false false true = refl
 listed_by false false false false false false false false false false = refl
 

@@ -231,15 +231,15 @@ pub no_incapable : (G : Table) (is : List PlainInst) (count : ℕ) (k : Kinds) �
 no_incapable G is count k a c n l h = incapable_nowhere G is count k n h.0 a c l h.1 h.2
 
 -- What is misplaced, an instruction says that says something of ids or members.
-says : (i : PlainInst) (n : ℕ) → i.opcode ≡ n → is_saying n ≡ true → is_saying i.opcode ≡ true
+pub says : (i : PlainInst) (n : ℕ) → i.opcode ≡ n → is_saying n ≡ true → is_saying i.opcode ≡ true
 says i n q h = subst (λ (m : ℕ). is_saying m ≡ true) (sym q) h
 
-has_says : (is : List PlainInst) (d x : ℕ) (i : PlainInst) → HasAt is (Gives d) x i → is_saying i.opcode ≡ true
+pub has_says : (is : List PlainInst) (d x : ℕ) (i : PlainInst) → HasAt is (Gives d) x i → is_saying i.opcode ≡ true
 has_says is d x i (HasAt.own s g) =
     or_left (is_decorate i.opcode) _ (gated (is_decorate i.opcode) (given_in i.operands) (x, d) s)
 has_says is d x i (HasAt.by_group g t s) = says i opcode.GROUP_DECORATE (target_group i g t.0) refl
 
-member_says : (is : List PlainInst) (t k d : ℕ) (i : PlainInst) → HasMemberAt is t k d i → is_saying i.opcode ≡ true
+pub member_says : (is : List PlainInst) (t k d : ℕ) (i : PlainInst) → HasMemberAt is t k d i → is_saying i.opcode ≡ true
 member_says is t k d i (HasMemberAt.own e) =
     or_right (is_decorate i.opcode) _ (or_left (is_of_member i.opcode) _ (or_right (nat_eq i.opcode opcode.MEMBER_NAME) _
     (gated (is_member_decorate i.opcode) (member_given_in i.operands) (t, k, d) e)))

@@ -103,7 +103,7 @@ void_not d l f s =
 
 pub restrict_stands : StandsOn decorated 19 3
 unfolding lines
-restrict_stands = λ t. inr (inr (inr (inr (inl (refl, (refl, tt))))))
+restrict_stands = λ t. inr (inr (inr (inr (inr (inl (refl, (refl, tt)))))))
 
 pub well_placed : ¬ (IsMisplaced decorated 0)
 well_placed (IsMisplaced.with_id i at o h) =

@@ -10,4 +10,5 @@ pub mod Said
 pub mod Second
 pub mod Sets
 pub mod Shown
+pub mod Spans
 pub mod Table

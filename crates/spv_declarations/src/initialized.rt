@@ -14,12 +14,14 @@ ghost use Rattle.spv_declarations.specs.inner.Initialized as spec;
 ghost use Rattle.spv_declarations.specs.inner.Kinds.{AreKinds};
 ghost use Rattle.spv_declarations.specs.inner.Said.{AreSaid, HasAt, ImportsBy};
 ghost use Rattle.spv_declarations.specs.inner.Sets.{Adds, HasAll, IsIn, IsOf};
+ghost use Rattle.spv_declarations.specs.inner.Spans.{AreSpans};
 
 use crate::decorated::{behind_first, group_of, is_group};
 use crate::either::either;
 use crate::kinds::Kinds;
 use crate::said::{Said, imported_by};
 use crate::sets::{put, put_all};
+use crate::spans::Spans;
 use spv_module::{Inst, Operand, opcode};
 use spv_type_forms::{DECLARATIONS, Definitions};
 use std::alloc::{AllocError, Global};
@@ -96,6 +98,7 @@ fn imported(
     alloc: Global,
     definitions: &Definitions,
     kinds: &Kinds,
+    spans: &Spans,
     linkage: Option<u32>,
     said: &Said,
     count: u32,
@@ -103,6 +106,7 @@ fn imported(
     requires count { count ≤ length definitions.now }
     requires early { AreEarly definitions.now count }
     requires kinds { AreKinds definitions.now count kinds.now }
+    requires spans { AreSpans definitions.now count spans.now }
     requires said { AreSaid linkage definitions.now said.now }
     ensures { IfOk result (HasAll definitions.now (λ i x. HasAt definitions.now (ImportsBy linkage) x i)) }
 {
@@ -110,7 +114,7 @@ fn imported(
     if !either(kinds.groups, kinds.linked) {
         return Ok(imported);
     }
-    for number in 0..count {
+    for number in spans.from..spans.to {
         add_imported(
             &mut imported,
             definitions,
@@ -153,6 +157,7 @@ pub fn first_initialized(
     alloc: Global,
     definitions: &Definitions,
     kinds: &Kinds,
+    spans: &Spans,
     linkage: Option<u32>,
     said: &Said,
     count: u32,
@@ -160,6 +165,7 @@ pub fn first_initialized(
     requires count { count ≤ length definitions.now }
     requires early { AreEarly definitions.now count }
     requires kinds { AreKinds definitions.now count kinds.now }
+    requires spans { AreSpans definitions.now count spans.now }
     requires said { AreSaid linkage definitions.now said.now }
     ensures { (G : Table) → (kinds.now.initialized ≡ true → linkage ≡ number_named G (codes "LinkageType"))
         → IfOk result (IsFirstBelow count (IsInitialized G definitions.now)) }
@@ -167,7 +173,7 @@ pub fn first_initialized(
     if !kinds.initialized {
         return Ok(None);
     }
-    let imported = imported(alloc, definitions, kinds, linkage, said, count)?;
+    let imported = imported(alloc, definitions, kinds, spans, linkage, said, count)?;
     for number in 0..count {
         if is_initialized(definitions, &imported, number) {
             return Ok(Some(number));

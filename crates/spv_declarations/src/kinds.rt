@@ -1,10 +1,11 @@
 //! Which kinds of instructions stand before the functions.
 
-ghost use Rattle.std.specs.Prelude.{◌≡◌, ◌↔◌, ◌≤◌, IsTrue, false, length, true};
+ghost use Rattle.std.specs.Prelude.{◌≡◌, ◌↔◌, ◌<◌, ◌≤◌, IsTrue, false, length, true};
 ghost use Rattle.spv_module.specs.Module.{plain_inst};
 ghost use Rattle.spv_declarations.specs.Given.{is_decorate};
 ghost use Rattle.spv_declarations.specs.inner.Kinds as spec;
 ghost use Rattle.spv_declarations.specs.inner.Kinds.{AreKinds, Notes};
+ghost use Rattle.spv_declarations.specs.inner.Spans.{AreSpans, Widens};
 
 use crate::capable::declares_bytes;
 use crate::decorated::{given, is_decorate, is_of_member};
@@ -13,6 +14,7 @@ use crate::entry::takes_id;
 use crate::initialized::initialized_by;
 use crate::said::LINKAGE_ATTRIBUTES;
 use crate::second::{ALIASED, RESTRICT};
+use crate::spans::Spans;
 use spv_module::{Inst, opcode};
 use spv_type_forms::Definitions;
 
@@ -52,25 +54,27 @@ fn is_grouping(number: u16) -> bool
     number == opcode::GROUP_DECORATE || number == opcode::GROUP_MEMBER_DECORATE
 }
 
-/// Whether an opcode is that of a kind, but no decoration of an id.
+/// Whether an opcode is that of an instruction that speaks of groups or members.
+#[inline(always)]
+fn is_of_parts(number: u16) -> bool
+    ensures { result ≡ spec.is_of_parts number }
+{
+    either(is_grouping(number), is_of_member(number))
+}
+
+/// Whether an opcode is that of a kind that says nothing of ids or members, and no OpEntryPoint.
 #[inline(always)]
 fn is_other(number: u16) -> bool
     ensures { result ≡ spec.is_other number }
 {
-    let noted = either(
-        number == opcode::ENTRY_POINT,
-        either(
-            number == opcode::EXECUTION_MODE,
-            either(
-                number == opcode::VARIABLE,
-                either(
-                    number == opcode::TYPE_FORWARD_POINTER,
-                    number == opcode::TYPE_INT,
-                ),
-            ),
-        ),
+    let of_types = either(
+        number == opcode::TYPE_FORWARD_POINTER,
+        number == opcode::TYPE_INT,
     );
-    either(noted, either(is_grouping(number), is_of_member(number)))
+    either(
+        of_types,
+        either(number == opcode::VARIABLE, number == opcode::EXECUTION_MODE),
+    )
 }
 
 /// Whether an instruction is an OpVariable with an initializer.
@@ -115,24 +119,34 @@ impl Kinds {
         self.forward = either(self.forward, inst.opcode == opcode::TYPE_FORWARD_POINTER);
         self.bytes = either(self.bytes, declares_bytes(inst));
     }
+}
 
-    /// Takes note of an instruction. Those of most opcodes are of no kind.
-    #[inline(always)]
-    fn note(&mut self, inst: &Inst<'_>)
-        ensures { Notes self.old self.new (plain_inst inst.now) }
-    {
-        if is_decorate(inst.opcode) {
-            self.note_given(inst);
-        } else if is_other(inst.opcode) {
-            self.note_other(inst);
-        }
+/// Takes note of the instruction of a number. Those of most opcodes are of no kind.
+#[inline(always)]
+fn note(kinds: &mut Kinds, spans: &mut Spans, number: u32, inst: &Inst<'_>)
+    requires { number < 4294967295 }
+    ensures kinds { Notes kinds.old kinds.new (plain_inst inst.now) }
+    ensures spans { Widens number spans.old spans.new (plain_inst inst.now) }
+{
+    if is_decorate(inst.opcode) {
+        kinds.note_given(inst);
+        spans.widen(number);
+    } else if is_of_parts(inst.opcode) {
+        kinds.note_other(inst);
+        spans.widen(number);
+    } else if inst.opcode == opcode::ENTRY_POINT {
+        kinds.note_other(inst);
+        spans.enter(number);
+    } else if is_other(inst.opcode) {
+        kinds.note_other(inst);
     }
 }
 
-/// Which kinds of instructions there are among the first `count`. It takes no memory.
-pub fn kinds_among(definitions: &Definitions, count: u32) -> Kinds
+/// Which kinds of instructions there are among the first `count`, and where they stand. It takes no memory.
+pub fn kinds_among(definitions: &Definitions, count: u32) -> (Kinds, Spans)
     requires { count ≤ length definitions.now }
-    ensures { AreKinds definitions.now count result }
+    ensures kinds { AreKinds definitions.now count result.0 }
+    ensures spans { AreSpans definitions.now count result.1 }
 {
     let mut kinds = Kinds {
         entry: false,
@@ -147,8 +161,13 @@ pub fn kinds_among(definitions: &Definitions, count: u32) -> Kinds
         forward: false,
         bytes: false,
     };
+    let mut spans = Spans {
+        from: 0,
+        to: 0,
+        entries: 0,
+    };
     for number in 0..count {
-        kinds.note(definitions.inst(number));
+        note(&mut kinds, &mut spans, number, definitions.inst(number));
     }
-    kinds
+    (kinds, spans)
 }

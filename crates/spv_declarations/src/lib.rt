@@ -21,6 +21,7 @@ mod said;
 mod second;
 mod sets;
 mod shown;
+mod spans;
 mod stands;
 mod table;
 

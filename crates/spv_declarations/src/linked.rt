@@ -10,12 +10,14 @@ ghost use Rattle.spv_declarations.specs.inner.First.{IsFirstBelow};
 ghost use Rattle.spv_declarations.specs.inner.Kinds.{AreKinds};
 ghost use Rattle.spv_declarations.specs.inner.Said.{AreSaid, HasAt};
 ghost use Rattle.spv_declarations.specs.inner.Sets.{Adds, AnyId, HasAll, HasBoth, IsIn, IsOf};
+ghost use Rattle.spv_declarations.specs.inner.Spans.{AreSpans};
 
 use crate::decorated::{behind_first, given, group_of, is_group};
 use crate::either::either;
 use crate::kinds::Kinds;
 use crate::said::{LINKAGE_ATTRIBUTES, Said};
 use crate::sets::put;
+use crate::spans::Spans;
 use spv_module::{Inst, Operand, opcode};
 use spv_type_forms::Definitions;
 use std::alloc::{AllocError, Global};
@@ -56,14 +58,16 @@ fn add_entered(entered: &mut BTreeSet<u32>, inst: &Inst<'_>) -> Result<(), Alloc
 fn entered(
     alloc: Global,
     definitions: &Definitions,
+    spans: &Spans,
     count: u32,
 ) -> Result<BTreeSet<u32>, AllocError>
     requires count { count ≤ length definitions.now }
     requires early { AreEarly definitions.now count }
+    requires spans { AreSpans definitions.now count spans.now }
     ensures { IfOk result (HasAll definitions.now (λ i x. spec.entered_by i ≡ Some x)) }
 {
     let mut entered = BTreeSet::new(alloc);
-    for number in 0..count {
+    for number in 0..spans.entries {
         add_entered(&mut entered, definitions.inst(number))?;
     }
     Ok(entered)
@@ -119,11 +123,13 @@ pub fn first_linked(
     alloc: Global,
     definitions: &Definitions,
     kinds: &Kinds,
+    spans: &Spans,
     said: &Said,
     count: u32,
 ) -> Result<Option<u32>, AllocError>
     requires count { count ≤ length definitions.now }
     requires kinds { AreKinds definitions.now count kinds.now }
+    requires spans { AreSpans definitions.now count spans.now }
     requires early { AreEarly definitions.now count }
     requires said { (l : Option ℕ) × AreSaid l definitions.now said.now }
     ensures { IfOk result (IsFirstBelow count (IsLinkedEntry definitions.now)) }
@@ -131,8 +137,8 @@ pub fn first_linked(
     if !either(kinds.groups, kinds.linked) {
         return Ok(None);
     }
-    let entered = entered(alloc, definitions, count)?;
-    for number in 0..count {
+    let entered = entered(alloc, definitions, spans, count)?;
+    for number in spans.from..spans.to {
         if links(definitions, said, &entered, definitions.inst(number)) {
             return Ok(Some(number));
         }

@@ -14,6 +14,7 @@ ghost use Rattle.spv_declarations.specs.Broken.{Broken};
 ghost use Rattle.spv_declarations.specs.inner.Early.{AreEarly};
 ghost use Rattle.spv_declarations.specs.inner.First.{IsFirstAmong};
 ghost use Rattle.spv_declarations.specs.inner.Kinds.{AreKinds};
+ghost use Rattle.spv_declarations.specs.inner.Spans.{AreSpans};
 
 use crate::built_in::first_half_built_in;
 use crate::capable::first_incapable;
@@ -27,6 +28,7 @@ use crate::misplaced::first_misplaced;
 use crate::pointer::first_elsewhere;
 use crate::said::Said;
 use crate::second::first_second;
+use crate::spans::Spans;
 use spv_capabilities::Capabilities;
 use spv_ids::Ids;
 use spv_layout::Plan;
@@ -40,6 +42,7 @@ fn first_decorated(
     alloc: Global,
     definitions: &Definitions,
     kinds: &Kinds,
+    spans: &Spans,
     linkage: Option<u32>,
     count: u32,
     before: Option<Found>,
@@ -47,6 +50,7 @@ fn first_decorated(
     requires count { count ≤ length definitions.now }
     requires early { AreEarly definitions.now count }
     requires kinds { AreKinds definitions.now count kinds.now }
+    requires spans { AreSpans definitions.now count spans.now }
     ensures { (G : Table) → (kinds.now.initialized ≡ true → linkage ≡ number_named G (codes "LinkageType"))
         → IsFirstAmong G definitions.now (rule.O5 ∷ rule.O3 ∷ []) before
         → IfOk result (IsFirstAmong G definitions.now
@@ -54,10 +58,10 @@ fn first_decorated(
 {
     let said = Said::among(alloc, definitions, kinds, linkage, count)?;
     let of_no_member = first_of_no_member(definitions, kinds, count);
-    let misplaced = first_misplaced(alloc, definitions, &said, count)?;
+    let misplaced = first_misplaced(alloc, definitions, spans, &said, count)?;
     let second = first_second(alloc, definitions, kinds, &said, count)?;
-    let linked = first_linked(alloc, definitions, kinds, &said, count)?;
-    let initialized = first_initialized(alloc, definitions, kinds, linkage, &said, count)?;
+    let linked = first_linked(alloc, definitions, kinds, spans, &said, count)?;
+    let initialized = first_initialized(alloc, definitions, kinds, spans, linkage, &said, count)?;
     let half = first_half_built_in(alloc, definitions, kinds, &said, count)?;
     let found = earlier(before, Rule::O6, of_no_member);
     let found = earlier(found, Rule::O7, misplaced);
@@ -103,13 +107,13 @@ pub fn first_misdeclared(
 {
     let definitions = Definitions::new(insts, plan, ids);
     let count = plan.before_functions();
-    let kinds = kinds_among(&definitions, count);
+    let (kinds, spans) = kinds_among(&definitions, count);
     let linkage = linkage_type(capabilities, &kinds);
     let repeated = first_repeated(alloc, &definitions, &kinds, count)?;
     let with_id = first_with_id(&definitions, &kinds, count);
     let found = earlier(None, Rule::O3, repeated);
     let found = earlier(found, Rule::O5, with_id);
-    let decorated = first_decorated(alloc, &definitions, &kinds, linkage, count, found)?;
+    let decorated = first_decorated(alloc, &definitions, &kinds, &spans, linkage, count, found)?;
     let elsewhere = first_elsewhere(&definitions, &kinds, count);
     let incapable = first_incapable(capabilities, &kinds, count);
     let found = earlier(decorated, Rule::O12, elsewhere);

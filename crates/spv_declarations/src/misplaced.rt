@@ -11,12 +11,14 @@ ghost use Rattle.spv_declarations.specs.inner.First.{IsFirstBelow};
 ghost use Rattle.spv_declarations.specs.inner.Misplaced.{IsAnyMisplaced, IsAnyNever};
 ghost use Rattle.spv_declarations.specs.inner.Said.{AreSaid};
 ghost use Rattle.spv_declarations.specs.inner.Sets.{AnyId, HasBoth};
+ghost use Rattle.spv_declarations.specs.inner.Spans.{AreSpans};
 
 use crate::decorated::{
     behind_first, given, group_of, has_id_behind, is_group, is_saying, member_given,
 };
 use crate::pairs::has_pair;
 use crate::said::Said;
+use crate::spans::Spans;
 use crate::stands::{is_never_on_members, stands_on};
 use spv_module::{Inst, Operand, opcode};
 use spv_type_forms::Definitions;
@@ -164,14 +166,16 @@ fn misplaces(
 pub fn first_misplaced(
     alloc: Global,
     definitions: &Definitions,
+    spans: &Spans,
     said: &Said,
     count: u32,
 ) -> Result<Option<u32>, AllocError>
     requires count { count ≤ length definitions.now }
+    requires spans { AreSpans definitions.now count spans.now }
     requires said { (l : Option ℕ) × AreSaid l definitions.now said.now }
     ensures { IfOk result (IsFirstBelow count (IsMisplaced definitions.now)) }
 {
-    for number in 0..count {
+    for number in spans.from..spans.to {
         if misplaces(alloc, definitions, said, definitions.inst(number))? {
             return Ok(Some(number));
         }

@@ -27,6 +27,19 @@ pub type Line = (&'static [(u32, u32)], &'static [(u16, u16)], Further);
 pub static TABLE: [Line; 10] = [
     // Alignment, MaxByteOffset, AlignmentId, MaxByteOffsetId
     (&[(44, 47)], &[(0, 65535)], Further::Pointer),
+    // NoSignedWrap, NoUnsignedWrap
+    (
+        &[(4469, 4470)],
+        &[
+            (opcode::I_ADD, opcode::I_ADD),
+            (opcode::I_SUB, opcode::I_SUB),
+            (opcode::I_MUL, opcode::I_MUL),
+            (opcode::S_NEGATE, opcode::S_NEGATE),
+            (opcode::SHIFT_LEFT_LOGICAL, opcode::SHIFT_LEFT_LOGICAL),
+            (opcode::EXT_INST, opcode::EXT_INST),
+        ],
+        Further::Nothing,
+    ),
     // Constant, LinkageAttributes
     (
         &[(22, 22), (41, 41)],
@@ -78,19 +91,6 @@ pub static TABLE: [Line; 10] = [
             (opcode::BITCAST, opcode::BITCAST),
         ],
         Further::Ints,
-    ),
-    // NoSignedWrap, NoUnsignedWrap
-    (
-        &[(4469, 4470)],
-        &[
-            (opcode::I_ADD, opcode::I_ADD),
-            (opcode::I_SUB, opcode::I_SUB),
-            (opcode::I_MUL, opcode::I_MUL),
-            (opcode::S_NEGATE, opcode::S_NEGATE),
-            (opcode::SHIFT_LEFT_LOGICAL, opcode::SHIFT_LEFT_LOGICAL),
-            (opcode::EXT_INST, opcode::EXT_INST),
-        ],
-        Further::Nothing,
     ),
 ];
 

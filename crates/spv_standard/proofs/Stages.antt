@@ -10,7 +10,8 @@ use Rattle.spv_layout.specs.Stage.{of_standard}
 use Rattle.spv_block_order.specs.Broken as order
 use Rattle.spv_interfaces.specs.Broken as interfaces
 use Rattle.spv_declarations.specs.Broken as declarations
-use Rattle.spv_kernel_operands.proofs.Firsts.{stage_by}
+use Rattle.spv_kernel_operands.specs.Broken as operands
+use Rattle.spv_kernel_operands.specs.Broken.{IsBrokenBy}
 use Rattle.spv_versions.specs.Broken as versions
 use Rattle.spv_limits.specs.Broken as limits
 use Rattle.spv_standard.specs.Broken.{Broken, KernelBroken}
@@ -36,6 +37,21 @@ of_declarations G is _ _ (declarations.half_built_in n h) = refl
 of_declarations G is _ _ (declarations.forward_elsewhere n h) = refl
 of_declarations G is _ _ (declarations.incapable n h) = refl
 
+by_inst : (G : Table) (is : List PlainInst) (i : PlainInst) (r : Rule) → IsBrokenBy G is i r
+    → stage_of r ≡ of_standard
+by_inst G is i _ (IsBrokenBy.scopes h) = refl
+by_inst G is i _ (IsBrokenBy.atomic h) = refl
+by_inst G is i _ (IsBrokenBy.written h) = refl
+by_inst G is i _ (IsBrokenBy.empty h) = refl
+by_inst G is i _ (IsBrokenBy.control h) = refl
+by_inst G is i _ (IsBrokenBy.switch h) = refl
+by_inst G is i _ (IsBrokenBy.void h) = refl
+
+pub of_operands : (G : Table) (is : List PlainInst) (r : Rule) (n : ℕ) → operands.Broken G is r n
+    → stage_of r ≡ of_standard
+of_operands G is _ _ (operands.operands r n i at b) = by_inst G is i r b
+of_operands G is _ _ (operands.elsewhere n h) = refl
+
 of_versions : (G : Table) (minor : ℕ) (is : List PlainInst) (r : Rule) (n : ℕ) → versions.Broken G minor is r n
     → stage_of r ≡ of_standard
 of_versions G minor is _ _ (versions.late n h) = refl
@@ -48,7 +64,7 @@ pub kernel_stage : (G : Table) (minor : ℕ) (is : List PlainInst) (r : Rule) (n
 kernel_stage G minor is _ _ (KernelBroken.of_order r n b) = of_order G is r n b
 kernel_stage G minor is _ _ (KernelBroken.of_interfaces r n b) = of_interfaces G minor is r n b
 kernel_stage G minor is _ _ (KernelBroken.of_declarations r n b) = of_declarations G is r n b
-kernel_stage G minor is _ _ (KernelBroken.of_operands r n b) = stage_by G is r n b
+kernel_stage G minor is _ _ (KernelBroken.of_operands r n b) = of_operands G is r n b
 kernel_stage G minor is _ _ (KernelBroken.of_versions r n b) = of_versions G minor is r n b
 kernel_stage G minor is _ _ (KernelBroken.of_limits r n b) = of_limits is r n b
 

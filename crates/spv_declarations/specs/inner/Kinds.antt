@@ -14,13 +14,17 @@ use Rattle.spv_declarations.specs.declared.kinds.Kinds.{Kinds}
 use Rattle.spv_declarations.specs.inner.Initialized.{initialized_by}
 use Rattle.spv_declarations.specs.inner.Sets.{IsSaidBefore}
 
--- the opcodes of OpGroupDecorate and OpGroupMemberDecorate; and those of all kinds, but no decorations of ids
+-- the opcodes of OpGroupDecorate and OpGroupMemberDecorate; of these and those of members; and those of other kinds
+-- that say nothing of ids or members, but OpEntryPoint
 abbrev pub is_grouping : ℕ → Bool
 is_grouping n = nat_eq n opcode.GROUP_DECORATE || nat_eq n opcode.GROUP_MEMBER_DECORATE
 
+abbrev pub is_of_parts : ℕ → Bool
+is_of_parts n = is_grouping n || is_of_member n
+
 abbrev pub is_other : ℕ → Bool
-is_other n = (nat_eq n opcode.ENTRY_POINT || (nat_eq n opcode.EXECUTION_MODE || (nat_eq n opcode.VARIABLE
-    || (nat_eq n opcode.TYPE_FORWARD_POINTER || nat_eq n opcode.TYPE_INT)))) || (is_grouping n || is_of_member n)
+is_other n = (nat_eq n opcode.TYPE_FORWARD_POINTER || nat_eq n opcode.TYPE_INT)
+    || (nat_eq n opcode.VARIABLE || nat_eq n opcode.EXECUTION_MODE)
 
 -- the kinds
 abbrev pub Enters : PlainInst → Type 0

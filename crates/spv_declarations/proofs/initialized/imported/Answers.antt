@@ -1,7 +1,8 @@
 use Rattle.std.proofs.Common.{ℕ, arith}
 use Rattle.spv_module.specs.Operand.{PlainInst}
 use Rattle.spv_declarations.specs.inner.Said.{HasAt, ImportsBy}
-use Rattle.spv_declarations.proofs.Gathered.{gathers_none, gathers_more, gathers_all}
+use Rattle.spv_declarations.proofs.Gathered.{gathers_more}
+use Rattle.spv_declarations.proofs.Spanned.{gathers_before, gathers_span, import_says}
 use Rattle.spv_declarations.proofs.Stated.{has_import_early}
 use Rattle.spv_declarations.proofs.Without.{not_imported}
 use Rattle.spv_declarations.proofs.initialized.imported.Goals as goal
@@ -9,8 +10,11 @@ use Rattle.spv_declarations.proofs.initialized.imported.Goals as goal
 pub loop-number-init : goal.loop-number-init
 loop-number-init c =
     let is = c.args.definitions.now in
-    gathers_none is (λ (i : PlainInst) (x : ℕ). HasAt is (ImportsBy c.args.linkage) x i) c.new-imported.result
-    c.new-imported.ensures.empty
+    gathers_before is (λ (i : PlainInst) (x : ℕ). HasAt is (ImportsBy c.args.linkage) x i) c.args.count c.args.spans.now
+    c.new-imported.result c.requires.spans (λ i x. import_says is c.args.linkage x i) c.new-imported.ensures.empty
+
+pub inst-requires : goal.inst-requires
+inst-requires c = let w = c.requires.spans.within.1 in omega (arith, w)
 
 pub add_imported-requires-clause-inst : goal.add_imported-requires-clause-inst
 add_imported-requires-clause-inst c = (c.loop-number.number, c.inst.ensures)
@@ -25,9 +29,10 @@ loop-number-preserved c =
 pub returns : goal.returns
 returns c =
     let is = c.args.definitions.now in
-    gathers_all is (λ (i : PlainInst) (x : ℕ). HasAt is (ImportsBy c.args.linkage) x i) c.args.count
-    c.loop-number.number c.loop-number.imported c.requires.early (λ i x. has_import_early is c.args.linkage x i)
-    (omega arith) c.loop-number.invariant
+    gathers_span is (λ (i : PlainInst) (x : ℕ). HasAt is (ImportsBy c.args.linkage) x i) c.args.count
+    c.loop-number.number c.args.spans.now c.loop-number.imported c.requires.early c.requires.spans
+    (λ i x. has_import_early is c.args.linkage x i) (λ i x. import_says is c.args.linkage x i) (omega arith)
+    c.loop-number.invariant
 
 pub returns-then-not-either : goal.returns-then-not-either
 returns-then-not-either c = not_imported c.args.definitions.now c.args.linkage c.args.count c.args.kinds.now

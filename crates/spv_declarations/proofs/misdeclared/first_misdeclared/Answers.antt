@@ -16,8 +16,8 @@ first_decorated-requires-clause-early c = subst (λ (is : List PlainInst). AreEa
 
 pub first_incapable-incapable-requires-clause-kinds : goal.first_incapable-incapable-requires-clause-kinds
 first_incapable-incapable-requires-clause-kinds c =
-    subst (λ (is : List PlainInst). AreKinds is c.before_functions-count.result c.kinds_among-kinds.result)
-    (c.new-definitions.ensures ∙ sym c.requires.capabilities) c.kinds_among-kinds.ensures
+    subst (λ (is : List PlainInst). AreKinds is c.before_functions-count.result c.kinds_among.result.0)
+    (c.new-definitions.ensures ∙ sym c.requires.capabilities) c.kinds_among.ensures.kinds
 
 pub returns : goal.returns
 returns c =

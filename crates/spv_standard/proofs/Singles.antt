@@ -9,7 +9,7 @@ use Rattle.spv_layout.specs.First.{rank_of, stage_of}
 use Rattle.spv_layout.specs.Stage.{of_standard}
 use Rattle.spv_kernel_operands.specs.Broken as by_operands
 use Rattle.spv_kernel_operands.specs.inner.First as operands_first
-use Rattle.spv_kernel_operands.proofs.Firsts.{broken_there, stage_by}
+use Rattle.spv_kernel_operands.proofs.Firsts.{broken_there}
 use Rattle.spv_versions.specs.Broken as by_versions
 use Rattle.spv_versions.specs.Missing.{IsLateAt}
 use Rattle.spv_limits.specs.Broken as by_limits
@@ -19,6 +19,7 @@ use Rattle.spv_standard.specs.inner.Alone.{Alone, At}
 use Rattle.spv_standard.specs.inner.Earlier.{IsEarlier}
 use Rattle.spv_standard.specs.inner.First.{Either, IsFirstIn}
 use Rattle.spv_standard.proofs.Earlier.{earlier_first, first_same}
+use Rattle.spv_standard.proofs.Stages.{of_operands}
 use Rattle.spv_standard.proofs.Within.{limits_within, versions_within}
 
 -- one rule of a crate at an instruction, and none
@@ -36,7 +37,7 @@ none_at P n none = λ r m s h. none r h.1
 pub operands_at : (G : Table) (is : List PlainInst) (n : ℕ) (r : Rule)
     → operands_first.IsFirstOf (λ q. by_operands.Broken G is q n) (Some r)
     → IsFirstIn (At n (by_operands.Broken G is)) (Some (record { rule = r; inst = n }))
-operands_at G is n r h = one_at (by_operands.Broken G is) n r (stage_by G is r n h.0) h.0 h.1
+operands_at G is n r h = one_at (by_operands.Broken G is) n r (of_operands G is r n h.0) h.0 h.1
 
 version_least : (G : Table) (minor : ℕ) (is : List PlainInst) (n : ℕ) (q : Rule) → by_versions.Broken G minor is q n
     → rank_of O21 ≤ rank_of q
