@@ -1,6 +1,7 @@
 pub mod Earlier
 pub mod Joined
 pub mod Lower
+pub mod Noting
 pub mod Singles
 pub mod Stages
 pub mod Texts

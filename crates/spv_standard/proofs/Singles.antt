@@ -1,5 +1,7 @@
 -- The first of the rules that single instructions break, by what is told at one instruction after the other.
-use Rattle.std.proofs.Common.{◌≡◌, ◌<◌, ◌≤◌, ◌⊎◌, ◌+◌, ℕ, List, Option, Some, None, inl, inr, length, refl, sym, ap, subst, arith}
+use Rattle.std.proofs.Common.{◌≡◌, ◌<◌, ◌≤◌, ◌⊎◌, ◌+◌, ℕ, List, Bool, true, false, not, Option, Some, None, inl, inr, length}
+use Rattle.std.proofs.Common.{refl, sym, subst, arith}
+use Rattle.std.specs.Prelude.{slice_get}
 use Rattle.std.proofs.lemmas.Bool.{cases_order}
 use Rattle.spv_table.specs.Table.{Table}
 use Rattle.spv_module.specs.Operand.{PlainInst}
@@ -14,6 +16,10 @@ use Rattle.spv_versions.specs.Broken as by_versions
 use Rattle.spv_versions.specs.Missing.{IsLateAt}
 use Rattle.spv_limits.specs.Broken as by_limits
 use Rattle.spv_limits.specs.Past.{IsPast}
+use Rattle.spv_limits.specs.declared.past.Counts.{Counts}
+use Rattle.spv_limits.specs.inner.Counting.{IsUpTo}
+use Rattle.spv_standard.specs.declared.asked.Asked.{Asked}
+use Rattle.spv_standard.specs.inner.Asked.{IsAskedBy}
 use Rattle.spv_standard.specs.declared.found.Found.{Found}
 use Rattle.spv_standard.specs.inner.Alone.{Alone, At}
 use Rattle.spv_standard.specs.inner.Earlier.{IsEarlier}
@@ -143,3 +149,27 @@ pub none_alone : (G : Table) (minor : ℕ) (is : List PlainInst) (n : ℕ) → l
     → IsFirstIn (Alone G minor is) None
 none_alone G minor is n past below =
     λ r m s b. let w = within G minor is r m b in below r m s (omega (arith, w, past)) b
+
+-- what is not asked, by the tests of it
+pub denied : (b : Bool) → not b ≡ false → b ≡ true
+denied true e = refl
+denied false e = cc
+
+pub never_so : {P : Type 0} (b : Bool) → b ≡ false → b ≡ true → P
+never_so true f t = let no : true ≡ false = f in absurd (cc)
+never_so false f t = let no : false ≡ true = t in absurd (cc)
+
+pub nothing_at : (G : Table) (minor : ℕ) (is : List PlainInst) (n : ℕ) (i : PlainInst) (a : Asked) (counts : Counts)
+    → slice_get is n ≡ Some i → IsAskedBy G minor is i.opcode a → a.operands ≡ false → a.version ≡ false
+    → a.limits ≡ false → IsUpTo is n counts → IsFirstIn (At n (Alone G minor is)) None × IsUpTo is (n + 1) counts
+nothing_at G minor is n i a counts at asked x y z up_to =
+    let l = asked.limits z n i counts at refl up_to in (
+      λ r m s h. elim h.1 [
+        | inl h ↦ elim h [
+          | inl b ↦ asked.operands x n i at refl r b
+          | inr b ↦ asked.version y n i at refl (not_late G minor is n r b)
+        ]
+        | inr b ↦ l.0 (not_past is n r b)
+      ],
+      l.1,
+    )

@@ -1,5 +1,5 @@
 -- An instruction whose row asks for no text has none, and so none that is too long.
-use Rattle.std.proofs.Common.{◌≡◌, ◌++◌, List, [], ◌∷◌, refl, true, Some}
+use Rattle.std.proofs.Common.{◌≡◌, ◌⊎◌, ◌++◌, List, [], ◌∷◌, inl, inr, refl, true, Some}
 use Rattle.std.specs.List.{AllByRecursion}
 use Rattle.spv_table.specs.Table.{Table}
 use Rattle.spv_module.specs.Operand.{Plain, PlainInst}

@@ -1,6 +1,7 @@
 //! The first of the rules that single instructions break: O14 to O23.
 
 ghost use Rattle.std.specs.Prelude.{◌≡◌, ◌+◌, ◌<◌, ℕ, Some, None, false, IfOk, length, slice_get};
+ghost use Rattle.spv_table.specs.Table.{Table};
 ghost use Rattle.spv_module.specs.Operand.{PlainInst};
 ghost use Rattle.spv_module.specs.declared.fault.Rule.{Rule};
 ghost use Rattle.spv_kernel_operands.specs.Broken as operands;
