@@ -97,7 +97,7 @@ pub fn is_verbose_by_environment(rt: &HostRuntime) -> bool {
     }
 }
 
-/// Whether the environment asks for no colour: NO_COLOR is set and is not empty (https://no-color.org).
+/// Whether the environment asks for no colour: NO_COLOR is set and is not empty.
 fn forbids_color(rt: &HostRuntime) -> bool {
     match env::var(rt, "NO_COLOR") {
         Ok(text) => !text.is_empty(),

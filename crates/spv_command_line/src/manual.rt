@@ -20,16 +20,16 @@ pub const EXTENDED: &str =
 
 /// Of `--opencl`.
 pub const OPENCL: &str =
-    "Takes what a kernel of OpenCL can be, of version 1.0 to 1.6, each as it is: instructions that the profile has not, \
+    "Takes what a kernel of OpenCL can be, of version 1.0 to 1.6, each as it is: instructions that the profile does not have, \
     and what --extended looks at; not with --as-1.6";
 
 /// Of `--opencl` of `show`.
 pub const SHOWN_OPENCL: &str =
-    "Takes a module of version 1.0 to 1.6, each as it is: the text tells its version; not with --as-1.6";
+    "Takes a module of version 1.0 to 1.6, each as it is: the text names its version; not with --as-1.6";
 
 /// Of `--opencl` of `asm`.
 pub const OPENCL_TEXT: &str =
-    "Takes a text that tells version 1.0 to 1.5 too: the module then has that version";
+    "Takes a text that names version 1.0 to 1.5 too: the module then has that version";
 
 /// Of the only function that `annotate` writes.
 pub const ONLY_FUNCTION: &str =

@@ -107,7 +107,7 @@ const FULL: Argument = Argument {
     form: Form::Flag,
     value: "",
     required: false,
-    help: "Writes the name of each opcode that may come; without it more than eight are told by their kinds",
+    help: "Writes the name of each opcode that may come; without it, more than eight are summed up by kind",
 };
 
 const QUIET: Argument = Argument {
@@ -115,7 +115,7 @@ const QUIET: Argument = Argument {
     form: Form::Flag,
     value: "",
     required: false,
-    help: "Writes no verdict: the exit status tells it; errors are told all the same",
+    help: "Writes no verdict: the exit status gives it. Errors are still reported",
 };
 
 const JSON: Argument = Argument {
