@@ -1,14 +1,14 @@
 // Times the calls of the library beside those of SPIRV-Tools, in one process, by the time of its processor.
 //
-// usage: library GRAMMAR ROUNDS [cold] FILE..
+// usage: library GRAMMAR ROUNDS [opencl] [cold] FILE..
 //
 // Reads the grammar once and makes one context of SPIRV-Tools, and then for each module: checks it, shows it, and
 // assembles what was shown, by each of the two in turn. A round runs a call again and again for some milliseconds.
 // Prints for each module its bytes and six times in nanoseconds, the least of the rounds: check, show and assemble,
 // of the library and then of SPIRV-Tools each. At last prints three times more: to make the grammar of the file, to
-// make the built-in one, and to make a context of SPIRV-Tools. What a call made is let go within its time. With `cold`
-// a round is one call, and before each the caches are emptied, by work on more memory than they hold. Ends with status 1
-// where a call does not succeed.
+// make the built-in one, and to make a context of SPIRV-Tools. What a call made is let go within its time. With
+// `opencl` the library checks each module as a kernel of OpenCL. With `cold` a round is one call, and before each the
+// caches are emptied, by work on more memory than they hold. Ends with status 1 where a call does not succeed.
 #define _POSIX_C_SOURCE 200809L
 #include "spvk.h"
 
@@ -27,6 +27,7 @@ enum { OTHER_BYTES = 64 << 20, LINE = 64 };
 static unsigned char *other;
 
 static spvk_grammar grammar = SPVK_GRAMMAR_NONE;
+static uint32_t flags;
 static spv_context context;
 static spv_validator_options options;
 static file text, module;
@@ -42,8 +43,8 @@ static void expect(bool it, const char *what) {
 
 static void own_check(void) {
     spvk_verdict verdict = {0, 0, 0};
-    const spvk_status status = spvk_check(&grammar, module.bytes, module.size, &verdict);
-    expect(status == SPVK_OK && verdict.code == SPVK_VALID, "spvk_check");
+    const spvk_status status = spvk_check_with(&grammar, module.bytes, module.size, flags, &verdict);
+    expect(status == SPVK_OK && verdict.code == SPVK_VALID, "spvk_check_with");
 }
 
 static void their_check(void) {
@@ -169,9 +170,10 @@ int main(int count, char **words) {
     expect(spvk_grammar_new(text.bytes, text.size, &grammar) == SPVK_OK, "spvk_grammar_new");
     context = spvContextCreate(SPV_ENV_UNIVERSAL_1_6);
     options = spvValidatorOptionsCreate();
-    const bool is_cold = strcmp(words[3], "cold") == 0;
-    if (is_cold) other = calloc(OTHER_BYTES, 1);
-    for (int it = is_cold ? 4 : 3; it < count; it++) {
+    int first = 3;
+    if (strcmp(words[first], "opencl") == 0 && ++first < count) flags = SPVK_OPENCL;
+    if (strcmp(words[first], "cold") == 0 && ++first < count) other = calloc(OTHER_BYTES, 1);
+    for (int it = first; it < count; it++) {
         module = read_file(words[it]);
         measure(words[it], atol(words[2]));
         free(module.bytes);
