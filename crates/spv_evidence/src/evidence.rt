@@ -115,8 +115,13 @@ pub enum Evidence {
     },
     /// E1: there is no entry point.
     NoEntry,
-    /// O4: nothing besides the rule and its instruction.
-    Alone,
+    /// O4: an OpVariable that has to be in the interface and is not; functions of which each calls the next, from that of
+    /// the entry point to one that uses the variable; and an instruction of that one which does.
+    NotInInterface {
+        variable: u32,
+        calls: Listed<u32>,
+        user: u32,
+    },
     /// E2: which part of the rule is broken.
     Entry {
         part: EntryPart,
@@ -182,7 +187,7 @@ pub enum Evidence {
     OnTheWay {
         block: u32,
     },
-    /// O11, O18 and O19: two operands that may not stand beside each other.
+    /// O4, O11, O18 and O19: two operands that may not stand beside each other.
     Pair {
         first: u32,
         second: u32,
