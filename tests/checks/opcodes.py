@@ -37,13 +37,14 @@ WIDTH = 95
 REMEDY = "tests/rows-of-opcodes --write makes it anew"
 NUMBERED = re.compile(r"(?m)^(const NUMBERED: usize = )\d+;$")
 NUMBERS = re.compile(r"(?m)^(pub )?static NUMBERS: \[u8; \d+\] = \[\n(    .*\n)*\];\n")
-# The statics of a file, and the constant, whose lengths are how many rows there are in which of its parts.
+# The statics of a file, and the constants, whose lengths are how many rows there are in which of its parts.
 LENGTHS = {
     LAYOUT: {"TABLE": (0, 1), "ROWS": (0,), "OWN": (0,), "OPENCL_ROWS": (1,)},
     TYPED: {
         **dict.fromkeys(("TABLE", "ENTRIES", "FIRSTS"), (0,)),
         **dict.fromkeys(("FURTHER", "FURTHER_ENTRIES"), (1,)),
         **dict.fromkeys(("OBJECTS", "OBJECT_ENTRIES"), (2,)),
+        **{"FURTHER_FROM": (0,), "OBJECTS_FROM": (0, 1)},
     },
 }
 

@@ -1,7 +1,7 @@
 -- The parts of the table: where the line of a number stands in them.
-use Rattle.std.proofs.Common.{◌≡◌, ◌≤◌, ◌<◌, ◌-◌, ◌++◌, ◌∙◌, ℕ, zero, suc, List, [], ◌∷◌, refl, ap, length, arith}
+use Rattle.std.proofs.Common.{◌≡◌, ◌≤◌, ◌<◌, ◌+◌, ◌-◌, ◌++◌, ◌∙◌, ℕ, zero, suc, List, [], ◌∷◌, refl, ap, length, arith}
 use Rattle.std.specs.Prelude.{slice_get}
-use Rattle.spv_ops.specs.declared.table.TheConstants.{TABLE, FURTHER, OBJECTS}
+use Rattle.spv_ops.specs.declared.table.TheConstants.{TABLE, FURTHER, OBJECTS, FURTHER_FROM, OBJECTS_FROM}
 use Rattle.spv_ops.specs.Table.{Line, lines}
 
 in_front : (xs ys : List Line) (k : ℕ) → k < length xs → slice_get (xs ++ ys) k ≡ slice_get xs k
@@ -16,31 +16,31 @@ behind (x ∷ xs) ys (suc k) h =
     let e : k - length xs ≡ suc k - length (x ∷ xs) = omega arith in
     behind xs ys k (omega (arith, h)) ∙ ap (slice_get ys) e
 
-first_length : length TABLE ≡ 46
+first_length : length TABLE ≡ FURTHER_FROM
 first_length = refl
 
-further_length : length FURTHER ≡ 36
+further_length : FURTHER_FROM + length FURTHER ≡ OBJECTS_FROM
 further_length = refl
 
-pub first_part : (k : ℕ) → k < 46 → slice_get lines k ≡ slice_get TABLE k
+pub first_part : (k : ℕ) → k < FURTHER_FROM → slice_get lines k ≡ slice_get TABLE k
 unfolding lines
 first_part k h = in_front TABLE (FURTHER ++ OBJECTS) k (let e = first_length in omega (arith, e, h))
 
-past_first : (k : ℕ) → 46 ≤ k → slice_get lines k ≡ slice_get (FURTHER ++ OBJECTS) (k - 46)
+past_first : (k : ℕ) → FURTHER_FROM ≤ k → slice_get lines k ≡ slice_get (FURTHER ++ OBJECTS) (k - FURTHER_FROM)
 unfolding lines
 past_first k h =
     let e = first_length in
     behind TABLE (FURTHER ++ OBJECTS) k (omega (arith, e, h)) ∙ ap (λ m. slice_get (FURTHER ++ OBJECTS) (k - m)) e
 
-pub further_part : (k : ℕ) → 46 ≤ k → k < 82 → slice_get lines k ≡ slice_get FURTHER (k - 46)
+pub further_part : (k : ℕ) → FURTHER_FROM ≤ k → k < OBJECTS_FROM
+    → slice_get lines k ≡ slice_get FURTHER (k - FURTHER_FROM)
 further_part k h l =
     let e = further_length in
-    past_first k h ∙ in_front FURTHER OBJECTS (k - 46) (omega (arith, e, h, l))
+    past_first k h ∙ in_front FURTHER OBJECTS (k - FURTHER_FROM) (omega (arith, e, h, l))
 
-pub last_part : (k : ℕ) → 82 ≤ k → slice_get lines k ≡ slice_get OBJECTS (k - 82)
+pub last_part : (k : ℕ) → OBJECTS_FROM ≤ k → slice_get lines k ≡ slice_get OBJECTS (k - OBJECTS_FROM)
 last_part k h =
     let e = further_length in
-    let low : 46 ≤ k = omega (arith, h) in
-    let less : (k - 46) - 36 ≡ k - 82 = omega (arith, h) in
-    past_first k low ∙ behind FURTHER OBJECTS (k - 46) (omega (arith, e, h))
-    ∙ ap (λ m. slice_get OBJECTS ((k - 46) - m)) e ∙ ap (slice_get OBJECTS) less
+    let low : FURTHER_FROM ≤ k = omega (arith, e, h) in
+    let less : (k - FURTHER_FROM) - length FURTHER ≡ k - OBJECTS_FROM = omega (arith, e, h) in
+    past_first k low ∙ behind FURTHER OBJECTS (k - FURTHER_FROM) (omega (arith, e, h)) ∙ ap (slice_get OBJECTS) less

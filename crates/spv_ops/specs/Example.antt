@@ -1,7 +1,7 @@
 -- Instructions over the types, constants and variables of a small module.
 use Rattle.std.specs.Prelude.{ℕ, List, [], ◌∷◌}
 use Rattle.spv_module.specs.declared.opcode.TheConstants as opcode
-use Rattle.spv_module.specs.Operand.{OfType, Result, Id, Word, Value, Mask, PlainInst}
+use Rattle.spv_module.specs.Operand.{Plain, OfType, Result, Id, Word, Value, Mask, PlainInst}
 use Rattle.spv_type_forms.specs.Example.{inst, lone_variable, objects, small}
 
 -- %9 = OpAccessChain %4 %8 %5: to the member 1
@@ -85,6 +85,8 @@ with_images =
     inst opcode.TYPE_EVENT (Result 27 ∷ []) ∷  -- %27 = OpTypeEvent
     inst opcode.TYPE_POINTER (Result 28 ∷ Value 0 4 ∷ Id 3 ∷ []) ∷  -- %28 = OpTypePointer Workgroup %3
     inst opcode.TYPE_POINTER (Result 29 ∷ Value 0 5 ∷ Id 3 ∷ []) ∷  -- %29 = OpTypePointer CrossWorkgroup %3
+    -- %30 = OpTypeImage %3 2D 0 0 1 1 Unknown
+    inst opcode.TYPE_IMAGE (Result 30 ∷ Id 3 ∷ Value 5 1 ∷ Word 0 ∷ Word 0 ∷ Word 1 ∷ Word 1 ∷ Value 6 0 ∷ []) ∷
     objects
 
 -- %20 = OpImageSampleExplicitLod %21 %9 %9 Lod %9
@@ -92,12 +94,30 @@ abbrev pub sample : PlainInst
 sample =
     inst opcode.IMAGE_SAMPLE_EXPLICIT_LOD (OfType 21 ∷ Result 20 ∷ Id 9 ∷ Id 9 ∷ Mask 0 2 ∷ Id 9 ∷ [])
 
+-- %20 = OpImageFetch %21 %9 %9 Sample %9
+abbrev pub fetch : PlainInst
+fetch = inst opcode.IMAGE_FETCH (OfType 21 ∷ Result 20 ∷ Id 9 ∷ Id 9 ∷ Mask 0 64 ∷ Id 9 ∷ [])
+
 -- OpExecutionModeId %9 SubgroupsPerWorkgroupId %8, and without the id
 abbrev pub mode_id : PlainInst
 mode_id = inst opcode.EXECUTION_MODE_ID (Id 9 ∷ Value 0 37 ∷ Id 8 ∷ [])
 
 abbrev pub no_mode_id : PlainInst
 no_mode_id = inst opcode.EXECUTION_MODE_ID (Id 9 ∷ Value 0 37 ∷ [])
+
+-- OpDecorateId %9 AlignmentId .., and OpDecorateString %9 UserSemantic .., with these operands behind
+abbrev pub decorate_id : List Plain → PlainInst
+decorate_id os = inst opcode.DECORATE_ID (Id 9 ∷ Value 0 46 ∷ os)
+
+abbrev pub decorate_string : List Plain → PlainInst
+decorate_string os = inst opcode.DECORATE_STRING (Id 9 ∷ Value 0 5635 ∷ os)
+
+-- OpGroupDecorate %4 %x, and OpGroupMemberDecorate %4 %6 k
+abbrev pub group_decorate : ℕ → PlainInst
+group_decorate x = inst opcode.GROUP_DECORATE (Id 4 ∷ Id x ∷ [])
+
+abbrev pub group_member_decorate : ℕ → PlainInst
+group_member_decorate k = inst opcode.GROUP_MEMBER_DECORATE (Id 4 ∷ Id 6 ∷ Word k ∷ [])
 
 -- functions of blocks, %45 with a size of local memory, and %50 without, and the types of `objects` after them
 abbrev pub with_blocks : List PlainInst

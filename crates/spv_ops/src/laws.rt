@@ -2,7 +2,7 @@
 
 ghost use Rattle.std.specs.Prelude.{◌≡◌, ◌≢◌, ◌↔◌, ℕ, List, [], ◌∷◌, Some, None, slice_get};
 ghost use Rattle.spv_table.specs.Table.{Table};
-ghost use Rattle.spv_module.specs.Operand.{Id, PlainInst, Word};
+ghost use Rattle.spv_module.specs.Operand.{Id, PlainInst, Text, Word};
 ghost use Rattle.spv_module.specs.Example.{small as table};
 ghost use Rattle.spv_module.specs.declared.opcode.TheConstants as opcode;
 ghost use Rattle.spv_layout.specs.Shape.{FitsShape};
@@ -10,10 +10,12 @@ ghost use Rattle.spv_type_forms.specs.Example.{inst, small, twins};
 ghost use Rattle.spv_type_forms.specs.Form.{form_of};
 ghost use Rattle.spv_type_kinds.specs.Operands.{ids_in, after_head};
 ghost use Rattle.spv_type_forms.specs.Values.{AreValues, types_of};
+ghost use Rattle.spv_conditions.specs.Example.{call, sets};
 ghost use Rattle.spv_ops.specs.declared.table.Places.TheVariants as places;
 ghost use Rattle.spv_ops.specs.Example.{add, add_floats, by_element, label, pointed_variable, to_member, variable};
 ghost use Rattle.spv_ops.specs.Example.{cast, clusters, packed, scan, swap, with_double, with_images, with_objects};
-ghost use Rattle.spv_ops.specs.Example.{count_groups, enqueue, mode_id, no_mode_id, sample, with_blocks, work_size};
+ghost use Rattle.spv_ops.specs.Example.{count_groups, enqueue, fetch, mode_id, no_mode_id, sample, with_blocks};
+ghost use Rattle.spv_ops.specs.Example.{decorate_id, decorate_string, group_decorate, group_member_decorate, work_size};
 ghost use Rattle.spv_ops.specs.Table.{places_of};
 ghost use Rattle.spv_ops.specs.Values.{value_ids, values_of};
 ghost use Rattle.spv_ops.specs.Typed.{LineHolds, Typed, IsTyped, IsTypedAt};
@@ -289,13 +291,40 @@ pub fn cluster_examples()
     ensures no_constant { ¬ (LineHolds small 8 (swap 8) opcode.GROUP_NON_UNIFORM_QUAD_SWAP (Some 1) (1 ∷ 1 ∷ 1 ∷ [])) }
 {}
 
-/// What events, queues, pipes and named barriers ask: `%23` is an event type and `%24` a pointer to it, `%25` a device
-/// event type and `%32` a pointer to it, `%26` a reserve id type, `%27` a queue type, `%28` and `%29` types of pipes
-/// that are read and written, `%30` a pipe storage type, `%31` a named barrier type.
+/// What events, queues and named barriers ask: `%23` is an event type and `%24` a pointer to it, `%25` a device event
+/// type and `%32` a pointer to it, `%27` a queue type, `%31` a named barrier type.
 #[tactic(auto, unfolding(crate::specs::Table::lines))]
 pub fn object_examples()
     ensures wait { LineHolds with_objects 8 label opcode.GROUP_WAIT_EVENTS None (1 ∷ 1 ∷ 24 ∷ []) }
     ensures no_events { ¬ (LineHolds with_objects 8 label opcode.GROUP_WAIT_EVENTS None (1 ∷ 1 ∷ 32 ∷ [])) }
+    ensures marker { LineHolds with_objects 8 label opcode.ENQUEUE_MARKER (Some 1) (27 ∷ 1 ∷ 32 ∷ 32 ∷ []) }
+    ensures no_marker { ¬ (LineHolds with_objects 8 label opcode.ENQUEUE_MARKER (Some 1) (27 ∷ 1 ∷ 32 ∷ 24 ∷ [])) }
+    ensures retain { LineHolds with_objects 8 label opcode.RETAIN_EVENT None (25 ∷ []) }
+    ensures retain_event { ¬ (LineHolds with_objects 8 label opcode.RETAIN_EVENT None (23 ∷ [])) }
+    ensures create { LineHolds with_objects 8 label opcode.CREATE_USER_EVENT (Some 25) [] }
+    ensures create_event { ¬ (LineHolds with_objects 8 label opcode.CREATE_USER_EVENT (Some 23) []) }
+    ensures valid { LineHolds with_objects 8 label opcode.IS_VALID_EVENT (Some 12) (25 ∷ []) }
+    ensures not_valid { ¬ (LineHolds with_objects 8 label opcode.IS_VALID_EVENT (Some 12) (23 ∷ [])) }
+    ensures status { LineHolds with_objects 8 label opcode.SET_USER_EVENT_STATUS None (25 ∷ 1 ∷ []) }
+    ensures wide_status { ¬ (LineHolds with_objects 8 label opcode.SET_USER_EVENT_STATUS None (25 ∷ 14 ∷ [])) }
+    ensures profile { LineHolds with_objects 8 label opcode.CAPTURE_EVENT_PROFILING_INFO None (25 ∷ 1 ∷ 4 ∷ []) }
+    ensures no_profile { ¬ (LineHolds with_objects 8 label
+        opcode.CAPTURE_EVENT_PROFILING_INFO None (25 ∷ 1 ∷ 16 ∷ [])) }
+    ensures own_queue { LineHolds with_objects 8 label opcode.GET_DEFAULT_QUEUE (Some 27) [] }
+    ensures no_queue { ¬ (LineHolds with_objects 8 label opcode.GET_DEFAULT_QUEUE (Some 25) []) }
+    ensures initialize { LineHolds with_objects 8 label opcode.NAMED_BARRIER_INITIALIZE (Some 31) (1 ∷ []) }
+    ensures wide_count { ¬ (LineHolds with_objects 8 label opcode.NAMED_BARRIER_INITIALIZE (Some 31) (14 ∷ [])) }
+    ensures barrier { LineHolds with_objects 8 label opcode.MEMORY_NAMED_BARRIER None (31 ∷ 1 ∷ 1 ∷ []) }
+    ensures no_barrier { ¬ (LineHolds with_objects 8 label opcode.MEMORY_NAMED_BARRIER None (1 ∷ 1 ∷ 1 ∷ [])) }
+    // A queue is data, and is not selected.
+    ensures queue { LineHolds with_objects 8 label opcode.COPY_OBJECT (Some 27) (27 ∷ []) }
+    ensures no_choice { ¬ (LineHolds with_objects 8 label opcode.SELECT (Some 27) (12 ∷ 27 ∷ 27 ∷ [])) }
+{}
+
+/// What pipes ask: `%28` and `%29` are types of pipes that are read and written, `%26` is a reserve id type, `%30` a
+/// pipe storage type, `%16` a pointer of Generic.
+#[tactic(auto, unfolding(crate::specs::Table::lines))]
+pub fn pipe_examples()
     ensures read { LineHolds with_objects 8 label opcode.READ_PIPE (Some 1) (28 ∷ 16 ∷ 1 ∷ 1 ∷ []) }
     ensures read_written { ¬ (LineHolds with_objects 8 label opcode.READ_PIPE (Some 1) (29 ∷ 16 ∷ 1 ∷ 1 ∷ [])) }
     ensures write { LineHolds with_objects 8 label opcode.WRITE_PIPE (Some 1) (29 ∷ 16 ∷ 1 ∷ 1 ∷ []) }
@@ -304,35 +333,53 @@ pub fn object_examples()
         opcode.RESERVED_READ_PIPE (Some 1) (28 ∷ 26 ∷ 1 ∷ 16 ∷ 1 ∷ 1 ∷ []) }
     ensures no_reserve { ¬ (LineHolds with_objects 8 label
         opcode.RESERVED_READ_PIPE (Some 1) (28 ∷ 1 ∷ 1 ∷ 16 ∷ 1 ∷ 1 ∷ [])) }
-    ensures reserve { LineHolds with_objects 8 label
-        opcode.RESERVE_WRITE_PIPE_PACKETS (Some 26) (29 ∷ 1 ∷ 1 ∷ 1 ∷ []) }
+    ensures reserved_write { LineHolds with_objects 8 label
+        opcode.RESERVED_WRITE_PIPE (Some 1) (29 ∷ 26 ∷ 1 ∷ 16 ∷ 1 ∷ 1 ∷ []) }
+    ensures reserved_read { ¬ (LineHolds with_objects 8 label
+        opcode.RESERVED_WRITE_PIPE (Some 1) (28 ∷ 26 ∷ 1 ∷ 16 ∷ 1 ∷ 1 ∷ [])) }
+    ensures reserve_read { LineHolds with_objects 8 label
+        opcode.RESERVE_READ_PIPE_PACKETS (Some 26) (28 ∷ 1 ∷ 1 ∷ 1 ∷ []) }
+    ensures reserve_written { ¬ (LineHolds with_objects 8 label
+        opcode.RESERVE_READ_PIPE_PACKETS (Some 26) (29 ∷ 1 ∷ 1 ∷ 1 ∷ [])) }
+    ensures reserve { LineHolds with_objects 8 label opcode.RESERVE_WRITE_PIPE_PACKETS (Some 26) (29 ∷ 1 ∷ 1 ∷ 1 ∷ []) }
     ensures int_reserve { ¬ (LineHolds with_objects 8 label
         opcode.RESERVE_WRITE_PIPE_PACKETS (Some 1) (29 ∷ 1 ∷ 1 ∷ 1 ∷ [])) }
     ensures commit { LineHolds with_objects 8 label opcode.COMMIT_READ_PIPE None (28 ∷ 26 ∷ 1 ∷ 1 ∷ []) }
     ensures no_commit { ¬ (LineHolds with_objects 8 label opcode.COMMIT_READ_PIPE None (28 ∷ 1 ∷ 1 ∷ 1 ∷ [])) }
+    ensures commit_write { LineHolds with_objects 8 label opcode.COMMIT_WRITE_PIPE None (29 ∷ 26 ∷ 1 ∷ 1 ∷ []) }
+    ensures commit_read { ¬ (LineHolds with_objects 8 label opcode.COMMIT_WRITE_PIPE None (28 ∷ 26 ∷ 1 ∷ 1 ∷ [])) }
+    ensures valid { LineHolds with_objects 8 label opcode.IS_VALID_RESERVE_ID (Some 12) (26 ∷ []) }
+    ensures not_valid { ¬ (LineHolds with_objects 8 label opcode.IS_VALID_RESERVE_ID (Some 12) (1 ∷ [])) }
     ensures packets { LineHolds with_objects 8 label opcode.GET_NUM_PIPE_PACKETS (Some 1) (29 ∷ 1 ∷ 1 ∷ []) }
     ensures no_packets { ¬ (LineHolds with_objects 8 label opcode.GET_NUM_PIPE_PACKETS (Some 1) (30 ∷ 1 ∷ 1 ∷ [])) }
-    ensures marker { LineHolds with_objects 8 label opcode.ENQUEUE_MARKER (Some 1) (27 ∷ 1 ∷ 32 ∷ 32 ∷ []) }
-    ensures no_marker { ¬ (LineHolds with_objects 8 label opcode.ENQUEUE_MARKER (Some 1) (27 ∷ 1 ∷ 32 ∷ 24 ∷ [])) }
-    ensures retain { LineHolds with_objects 8 label opcode.RETAIN_EVENT None (25 ∷ []) }
-    ensures retain_event { ¬ (LineHolds with_objects 8 label opcode.RETAIN_EVENT None (23 ∷ [])) }
-    ensures create { LineHolds with_objects 8 label opcode.CREATE_USER_EVENT (Some 25) [] }
-    ensures create_event { ¬ (LineHolds with_objects 8 label opcode.CREATE_USER_EVENT (Some 23) []) }
-    ensures profile { LineHolds with_objects 8 label opcode.CAPTURE_EVENT_PROFILING_INFO None (25 ∷ 1 ∷ 4 ∷ []) }
-    ensures no_profile { ¬ (LineHolds with_objects 8 label
-        opcode.CAPTURE_EVENT_PROFILING_INFO None (25 ∷ 1 ∷ 16 ∷ [])) }
     ensures pipe { LineHolds with_objects 8 label opcode.CREATE_PIPE_FROM_PIPE_STORAGE (Some 28) (30 ∷ []) }
     ensures no_pipe { ¬ (LineHolds with_objects 8 label opcode.CREATE_PIPE_FROM_PIPE_STORAGE (Some 28) (28 ∷ [])) }
-    ensures barrier { LineHolds with_objects 8 label opcode.MEMORY_NAMED_BARRIER None (31 ∷ 1 ∷ 1 ∷ []) }
-    ensures no_barrier { ¬ (LineHolds with_objects 8 label opcode.MEMORY_NAMED_BARRIER None (1 ∷ 1 ∷ 1 ∷ [])) }
-    // A queue is data, and is not selected.
-    ensures queue { LineHolds with_objects 8 label opcode.COPY_OBJECT (Some 27) (27 ∷ []) }
-    ensures no_choice { ¬ (LineHolds with_objects 8 label opcode.SELECT (Some 27) (12 ∷ 27 ∷ 27 ∷ [])) }
+{}
+
+/// What pipes ask of which a group has packets reserved.
+#[tactic(auto, unfolding(crate::specs::Table::lines))]
+pub fn group_pipe_examples()
+    ensures reserve_read { LineHolds with_objects 8 label
+        opcode.GROUP_RESERVE_READ_PIPE_PACKETS (Some 26) (1 ∷ 28 ∷ 1 ∷ 1 ∷ 1 ∷ []) }
+    ensures reserve_written { ¬ (LineHolds with_objects 8 label
+        opcode.GROUP_RESERVE_READ_PIPE_PACKETS (Some 26) (1 ∷ 29 ∷ 1 ∷ 1 ∷ 1 ∷ [])) }
+    ensures reserve { LineHolds with_objects 8 label
+        opcode.GROUP_RESERVE_WRITE_PIPE_PACKETS (Some 26) (1 ∷ 29 ∷ 1 ∷ 1 ∷ 1 ∷ []) }
+    ensures int_reserve { ¬ (LineHolds with_objects 8 label
+        opcode.GROUP_RESERVE_WRITE_PIPE_PACKETS (Some 1) (1 ∷ 29 ∷ 1 ∷ 1 ∷ 1 ∷ [])) }
+    ensures commit { LineHolds with_objects 8 label opcode.GROUP_COMMIT_READ_PIPE None (1 ∷ 28 ∷ 26 ∷ 1 ∷ 1 ∷ []) }
+    ensures no_commit { ¬ (LineHolds with_objects 8 label
+        opcode.GROUP_COMMIT_READ_PIPE None (1 ∷ 28 ∷ 1 ∷ 1 ∷ 1 ∷ [])) }
+    ensures commit_write { LineHolds with_objects 8 label
+        opcode.GROUP_COMMIT_WRITE_PIPE None (1 ∷ 29 ∷ 26 ∷ 1 ∷ 1 ∷ []) }
+    ensures commit_read { ¬ (LineHolds with_objects 8 label
+        opcode.GROUP_COMMIT_WRITE_PIPE None (1 ∷ 28 ∷ 26 ∷ 1 ∷ 1 ∷ [])) }
 {}
 
 /// What images ask, of types of the module `objects` of spv_type_forms, and more: `%4` is a type of images of two
-/// dimensions and `%5` its sampled image type, `%24` a sampler type; `%21` and `%23` are vectors of four and two
-/// floats, `%22` one of two ints; `%26` is a pointer to `%4`, `%25` one of the class Image to `%3`, a float.
+/// dimensions and `%5` its sampled image type, `%30` one of images that have several samples and are used with a
+/// sampler, `%24` a sampler type; `%21` and `%23` are vectors of four and two floats, `%22` one of two ints; `%26` is a
+/// pointer to `%4`, `%25` one of the class Image to `%3`, a float.
 #[tactic(auto, unfolding(crate::specs::Table::lines))]
 pub fn image_examples()
     ensures sampled { LineHolds with_images 8 label opcode.SAMPLED_IMAGE (Some 5) (4 ∷ 24 ∷ []) }
@@ -341,7 +388,8 @@ pub fn image_examples()
     ensures no_lod { ¬ (LineHolds with_images 8 label opcode.IMAGE_SAMPLE_EXPLICIT_LOD (Some 21) (5 ∷ 23 ∷ [])) }
     ensures read { LineHolds with_images 8 label opcode.IMAGE_READ (Some 21) (4 ∷ 22 ∷ []) }
     ensures float_place { ¬ (LineHolds with_images 8 label opcode.IMAGE_READ (Some 21) (4 ∷ 23 ∷ [])) }
-    ensures fetch { ¬ (LineHolds with_images 8 label opcode.IMAGE_FETCH (Some 21) (4 ∷ 22 ∷ [])) }
+    ensures fetch { LineHolds with_images 8 fetch opcode.IMAGE_FETCH (Some 21) (30 ∷ 22 ∷ 1 ∷ []) }
+    ensures no_sample { ¬ (LineHolds with_images 8 label opcode.IMAGE_FETCH (Some 21) (30 ∷ 22 ∷ [])) }
     ensures write { LineHolds with_images 8 label opcode.IMAGE_WRITE None (4 ∷ 22 ∷ 21 ∷ []) }
     ensures int_texel { ¬ (LineHolds with_images 8 label opcode.IMAGE_WRITE None (4 ∷ 22 ∷ 22 ∷ [])) }
     ensures image { LineHolds with_images 8 label opcode.IMAGE (Some 4) (5 ∷ []) }
@@ -354,13 +402,14 @@ pub fn image_examples()
     ensures no_size { ¬ (LineHolds with_images 8 label opcode.IMAGE_QUERY_SIZE (Some 22) (6 ∷ [])) }
     ensures levels { LineHolds with_images 8 label opcode.IMAGE_QUERY_LEVELS (Some 1) (4 ∷ []) }
     ensures no_levels { ¬ (LineHolds with_images 8 label opcode.IMAGE_QUERY_LEVELS (Some 1) (6 ∷ [])) }
+    ensures samples { LineHolds with_images 8 label opcode.IMAGE_QUERY_SAMPLES (Some 1) (30 ∷ []) }
     ensures one_sample { ¬ (LineHolds with_images 8 label opcode.IMAGE_QUERY_SAMPLES (Some 1) (4 ∷ [])) }
     ensures texel { LineHolds with_images 8 label opcode.IMAGE_TEXEL_POINTER (Some 25) (26 ∷ 22 ∷ 1 ∷ []) }
     ensures no_texel { ¬ (LineHolds with_images 8 label opcode.IMAGE_TEXEL_POINTER (Some 26) (26 ∷ 22 ∷ 1 ∷ [])) }
 {}
 
-/// What copies of groups, ranges, and instructions outside blocks ask: `%28` and `%29` are pointers of Workgroup and
-/// CrossWorkgroup to `%3`, `%27` is an event type; `%2` is a size and `%10` the struct of a range; `%8` is a constant.
+/// What copies of groups and ranges ask: `%28` and `%29` are pointers of Workgroup and CrossWorkgroup to `%3`, `%27` is
+/// an event type; `%2` is a size and `%10` the struct of a range.
 #[tactic(auto, unfolding(crate::specs::Table::lines))]
 pub fn range_examples()
     ensures copy { LineHolds with_images 8 label
@@ -369,8 +418,24 @@ pub fn range_examples()
         opcode.GROUP_ASYNC_COPY (Some 27) (1 ∷ 28 ∷ 28 ∷ 2 ∷ 2 ∷ 27 ∷ [])) }
     ensures range { LineHolds with_images 8 label opcode.BUILD_ND_RANGE (Some 10) (2 ∷ 2 ∷ 2 ∷ []) }
     ensures no_sizes { ¬ (LineHolds with_images 8 label opcode.BUILD_ND_RANGE (Some 10) (1 ∷ 1 ∷ 1 ∷ [])) }
+{}
+
+/// What instructions outside blocks ask: `%8` is a constant. In the module `sets` of spv_conditions `%1` is a set
+/// without meaning and `%3` that of OpenCL, `%2` is void, `%4` a decoration group and `%6` a struct of two members.
+#[tactic(auto, unfolding(crate::specs::Table::lines))]
+pub fn outside_examples()
     ensures mode { LineHolds with_images 8 mode_id opcode.EXECUTION_MODE_ID None [] }
     ensures no_id { ¬ (LineHolds with_images 8 no_mode_id opcode.EXECUTION_MODE_ID None []) }
+    ensures with_id { LineHolds with_images 8 (decorate_id (Id 8 ∷ [])) opcode.DECORATE_ID None [] }
+    ensures without_id { ¬ (LineHolds with_images 8 (decorate_id []) opcode.DECORATE_ID None []) }
+    ensures text { LineHolds with_images 8 (decorate_string (Text [] ∷ [])) opcode.DECORATE_STRING None [] }
+    ensures no_text { ¬ (LineHolds with_images 8 (decorate_string []) opcode.DECORATE_STRING None []) }
+    ensures silent { LineHolds sets 8 (call 1) opcode.EXT_INST (Some 2) [] }
+    ensures loud { ¬ (LineHolds sets 8 (call 3) opcode.EXT_INST (Some 2) []) }
+    ensures group { LineHolds sets 8 (group_decorate 6) opcode.GROUP_DECORATE None [] }
+    ensures of_group { ¬ (LineHolds sets 8 (group_decorate 4) opcode.GROUP_DECORATE None []) }
+    ensures member { LineHolds sets 8 (group_member_decorate 1) opcode.GROUP_MEMBER_DECORATE None [] }
+    ensures past { ¬ (LineHolds sets 8 (group_member_decorate 2) opcode.GROUP_MEMBER_DECORATE None []) }
 {}
 
 /// What the instructions of device enqueue ask: `%45` and `%50` are functions of blocks, with a size of local memory

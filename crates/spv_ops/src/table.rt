@@ -389,6 +389,12 @@ macro_rules! firsts {
     };
 }
 
+/// How many lines come before those of the second part, and before those of the last one. Written by
+/// `tests/rows-of-opcodes`.
+const FURTHER_FROM: usize = 46;
+
+const OBJECTS_FROM: usize = 82;
+
 /// The table as definitions read it, and its two further parts.
 pub static TABLE: [Line; 46] = table!(lines);
 
@@ -554,12 +560,12 @@ fn found_object(number: usize) -> Found
 fn found_at(number: usize) -> Found
     ensures { result ≡ found_by (slice_get spec.lines number) }
 {
-    if number < 46 {
+    if number < FURTHER_FROM {
         found_first(number)
-    } else if number < 82 {
-        found_further(number - 46)
+    } else if number < OBJECTS_FROM {
+        found_further(number - FURTHER_FROM)
     } else {
-        found_object(number - 82)
+        found_object(number - OBJECTS_FROM)
     }
 }
 
@@ -620,12 +626,12 @@ fn asked_object(number: usize) -> &'static [Asks]
 fn asked_at(number: usize) -> &'static [Asks]
     ensures { result.now ≡ asked_by (slice_get spec.lines number) }
 {
-    if number < 46 {
+    if number < FURTHER_FROM {
         asked_first(number)
-    } else if number < 82 {
-        asked_further(number - 46)
+    } else if number < OBJECTS_FROM {
+        asked_further(number - FURTHER_FROM)
     } else {
-        asked_object(number - 82)
+        asked_object(number - OBJECTS_FROM)
     }
 }
 

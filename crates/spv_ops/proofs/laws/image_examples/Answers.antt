@@ -21,6 +21,13 @@ unfolding lines
 returns-clause-read c =
     ((refl, refl), (refl, ((refl, omega arith), ((inr refl, inr refl), (refl, (tt, ((tt, tt, tt, tt), tt)))))))
 
+pub returns-clause-fetch : goal.returns-clause-fetch
+unfolding lines
+returns-clause-fetch c = (
+  (refl, refl),
+  (refl, ((refl, omega arith), ((3, refl), ((inr refl, inr refl), (refl, (tt, ((tt, tt, tt, (32, refl)), tt))))))),
+)
+
 pub returns-clause-write : goal.returns-clause-write
 unfolding lines
 returns-clause-write c =
@@ -41,6 +48,10 @@ returns-clause-size c = ((tt, refl), (refl, ((refl, refl), tt)))
 pub returns-clause-levels : goal.returns-clause-levels
 unfolding lines
 returns-clause-levels c = ((tt, refl), (refl, ((32, refl), tt)))
+
+pub returns-clause-samples : goal.returns-clause-samples
+unfolding lines
+returns-clause-samples c = ((tt, refl), (refl, ((32, refl), tt)))
 
 pub returns-clause-texel : goal.returns-clause-texel
 unfolding lines

@@ -11,7 +11,3 @@ pub returns-clause-range : goal.returns-clause-range
 unfolding lines
 returns-clause-range c =
     ((tt, refl), ((refl, (refl, (refl, refl), (refl, refl), (refl, refl))), (inl refl, (refl, (refl, tt)))))
-
-pub returns-clause-mode : goal.returns-clause-mode
-unfolding lines
-returns-clause-mode c = ((λ e. cc, ((refl, (32, refl)), tt)), tt)

@@ -3,7 +3,7 @@ use Rattle.std.specs.Prelude.{slice_get, option_map, unwrap_or}
 use Rattle.std.proofs.lemmas.Bool.{ltb-true}
 use Rattle.std.proofs.lemmas.Option.{slice_get-map, slice_get_read, slice_get_within}
 use Rattle.spv_ops.specs.declared.table.Found.{Found}
-use Rattle.spv_ops.specs.declared.table.TheConstants.{NUMBERS, FIRSTS, TABLE}
+use Rattle.spv_ops.specs.declared.table.TheConstants.{NUMBERS, FIRSTS, FURTHER_FROM, TABLE}
 use Rattle.spv_ops.specs.Table.{Line, lines}
 use Rattle.spv_ops.specs.inner.Table.{first_from, found_by}
 use Rattle.spv_ops.proofs.Parting.{first_part}
@@ -21,8 +21,8 @@ told None k e = cc
 first_at : (n k : ℕ) → slice_get FIRSTS n ≡ Some k → (found_by (slice_get lines n)).first ≡ k
 first_at n k e =
     let within = slice_get_within FIRSTS n k e in
-    let count : length FIRSTS ≡ 46 = refl in
-    let low : n < 46 = omega (arith, within, count) in
+    let count : length FIRSTS ≡ FURTHER_FROM = refl in
+    let low : n < FURTHER_FROM = omega (arith, within, count) in
     let here =
     sym (slice_get-map (λ (l : Line). first_from l.0.now) TABLE n) ∙ ap (λ ks. slice_get ks n) firsts_of ∙ e in
     ap (λ o. (found_by o).first) (first_part n low) ∙ told (slice_get TABLE n) k here
