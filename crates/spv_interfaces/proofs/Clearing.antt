@@ -19,6 +19,7 @@ use Rattle.spv_interfaces.specs.inner.Marks.{Grows, IsMarked, word_of}
 use Rattle.spv_interfaces.proofs.Bits.{none_of_zero}
 use Rattle.spv_interfaces.proofs.Entering.{entry_here, no_entry, same_entry}
 use Rattle.spv_interfaces.proofs.Marking.{moved, split}
+use Rattle.spv_interfaces.proofs.Naming.{names_back, names_kept, names_split}
 
 -- A word that is cleared; none is.
 pub clears_set : (words : List ℕ) (number : ℕ) → number < length words
@@ -100,41 +101,22 @@ clears_defined is x n old new o c =
 pub names_none : (is : List PlainInst) (os : List Plain) (words : List ℕ) → Clears (NamesBefore is os 0) words words
 names_none is os words = clears_not (NamesBefore is os 0) words (λ v n. let l = n.below in absurd (omega (arith, l)))
 
-one_there : (os : List Plain) (i x y : ℕ) → slice_get os i ≡ Some (Id x) → slice_get os i ≡ Some (Id y) → x ≡ y
-one_there os i x y h g = cc
-
 pub names_more : (is : List PlainInst) (os : List Plain) (i x : ℕ) (a b c : List ℕ) → slice_get os i ≡ Some (Id x)
     → Clears (NamesBefore is os i) a b → Clears (IsDefinedAt is x) b c → Clears (NamesBefore is os (i + 1)) a c
 names_more is os i x a b c at p q =
     clears_both (NamesBefore is os i) (IsDefinedAt is x) (NamesBefore is os (i + 1)) a b c
-    (λ v n. elim (cases_lt n.place i) [
-      | inl less ↦
-          inl (record { place = n.place; below = less; id = n.id; there = n.there; defined = n.defined })
-      | inr last ↦
-          let l = n.below in
-          let e : n.place ≡ i = omega (arith, l, last) in
-          let same = one_there os i n.id x (subst (λ (k : ℕ). slice_get os k ≡ Some (Id n.id)) e n.there) at in
-          inr (subst (λ (y : ℕ). IsDefinedAt is y v) same n.defined)
-    ]) p q
+    (λ v n. names_split is os i x v at n) p q
 
 pub names_past : (is : List PlainInst) (os : List Plain) (i : ℕ) (a b : List ℕ)
     → ((x : ℕ) → slice_get os i ≡ Some (Id x) → ⊥) → Clears (NamesBefore is os i) a b
     → Clears (NamesBefore is os (i + 1)) a b
 names_past is os i a b none p = clears_same (NamesBefore is os i) (NamesBefore is os (i + 1)) a b
-    (λ v n. elim (cases_lt n.place i) [
-      | inl less ↦ record { place = n.place; below = less; id = n.id; there = n.there; defined = n.defined }
-      | inr last ↦
-          let l = n.below in
-          let e : n.place ≡ i = omega (arith, l, last) in
-          absurd (none n.id (subst (λ (k : ℕ). slice_get os k ≡ Some (Id n.id)) e n.there))
-    ]) p
+    (λ v n. names_kept is os i v none n) p
 
 pub names_all : (is : List PlainInst) (os : List Plain) (n : ℕ) (a b : List ℕ) → length os ≤ n
     → Clears (NamesBefore is os n) a b → Clears (NamesIn is os) a b
-names_all is os n a b l p = clears_same (NamesBefore is os n) (NamesIn is os) a b
-    (λ v h.
-    let w = slice_get_within os h.named.0 (Id h.id) h.named.1 in
-    record { place = h.named.0; below = omega (arith, w, l); id = h.id; there = h.named.1; defined = h.defined }) p
+names_all is os n a b l p =
+    clears_same (NamesBefore is os n) (NamesIn is os) a b (λ v h. names_back is os n v l h) p
 
 -- An entry point.
 pub begins_by : (is : List PlainInst) (n f : ℕ) (os : List Plain) (i : PlainInst) (a b : List ℕ)

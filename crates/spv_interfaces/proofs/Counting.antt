@@ -1,5 +1,5 @@
 -- The variables that all entry points name.
-use Rattle.std.proofs.Common.{◌≡◌, ◌<◌, ◌≤◌, ◌+◌, ◌∙◌, inl, inr, ℕ, List, Some, None}
+use Rattle.std.proofs.Common.{◌≡◌, ◌<◌, ◌≤◌, ◌+◌, ◌++◌, ◌∙◌, ◌⊎◌, inl, inr, ℕ, List, [], ◌∷◌, Some, None}
 use Rattle.std.proofs.Common.{sym, subst, arith, length}
 use Rattle.std.specs.Prelude.{slice_get, slice_set, replicate}
 use Rattle.std.proofs.lemmas.Bool.{cases_lt}
@@ -9,11 +9,13 @@ use Rattle.spv_module.specs.Operand.{Id, Plain, PlainInst, result_in}
 use Rattle.spv_ids.specs.Definition.{IsDefinedAt}
 use Rattle.spv_type_forms.specs.Definitions.{IsGlobal}
 use Rattle.spv_flow.proofs.lemmas.calls.Insts.{same_inst}
+use Rattle.spv_flow.proofs.lemmas.calls.Lists.{pushed_keeps, pushed_last}
 use Rattle.spv_interfaces.specs.declared.used.Use.{Use}
 use Rattle.spv_interfaces.specs.Interface.{faced_by}
-use Rattle.spv_interfaces.specs.inner.Counted.{AreCounts, AreFull, AreSettled, Counts}
+use Rattle.spv_interfaces.specs.inner.Counted.{AreCounts, AreRest, AreSettled, Counts, IsListed, Settles}
 use Rattle.spv_interfaces.specs.inner.Early.{AreBetween}
 use Rattle.spv_interfaces.specs.inner.Entries.{IsFirstAmong, IsUnnamed, Names, NamesIn}
+use Rattle.spv_interfaces.specs.inner.Lacking.{AreAll}
 use Rattle.spv_interfaces.specs.inner.Uses.{AreUses}
 use Rattle.spv_interfaces.specs.inner.Wanted.{IsWanted}
 use Rattle.spv_interfaces.proofs.Entering.{entry_here}
@@ -71,7 +73,7 @@ pub counted_none : (is : List PlainInst) (entries counts : List ℕ) (count : �
 counted_none is entries counts count e = record {
   each = λ v m h k n l at.
       let g : slice_get (replicate count 0) v ≡ Some m = subst (λ (xs : List ℕ). slice_get xs v ≡ Some m) e h in
-      let z = all_same count 0 v m g in
+      let z : m ≡ 0 = all_same {A = ℕ} count 0 v m g in
       absurd (omega (arith, l, z));
 }
 
@@ -154,12 +156,80 @@ none_settled G minor is entries counts a s k n at u =
     not_named G minor is n g.place u g.defined
     (full_named is entries counts g.place k n a (s.each u.id g u.wanted) at)
 
-pub none_full : (G : Table) (minor : ℕ) (is : List PlainInst) (entries counts : List ℕ) (uses : List Use)
-    → AreCounts is entries counts → AreFull uses counts (length entries) → AreUses G minor is (length is) uses
-    → IsFirstAmong (IsUnnamed G minor is) entries None
-none_full G minor is entries counts uses a f used k n at w =
-    let u = used_there G minor is n uses w used in
-    let v = w.used.variable.place in
-    let h : slice_get counts v ≡ Some (length entries) =
-    subst (λ (j : ℕ). slice_get counts j ≡ Some (length entries)) u.variable (f.each u.place u.use_there u.there) in
-    not_named G minor is n v w w.used.variable.defined (full_named is entries counts v k n a h at)
+-- One variable that is used.
+pub settles_not : (number all : ℕ) (counts rest : List ℕ) → slice_get counts number ≡ Some all
+    → Settles number all counts counts rest rest
+settles_not number all counts rest full = record { here = inl full; kept = λ v l. l; counts = λ v h. inl h }
+
+pub settles_on : (number all : ℕ) (old new rest : List ℕ) → new ≡ slice_set old number all
+    → Settles number all old new rest (rest ++ number ∷ [])
+settles_on number all old new rest e =
+    let last : IsListed (rest ++ number ∷ []) number =
+    record { place = length rest; there = pushed_last rest number } in
+    record {
+      here = inr last;
+      kept = λ v l. record { place = l.place; there = pushed_keeps rest number l.place v l.there };
+      counts = λ v h.
+          let g : slice_get (slice_set old number all) v ≡ Some all =
+          subst (λ (xs : List ℕ). slice_get xs v ≡ Some all) e h in
+          elim (put_set old all number v all g) [
+            | inl o ↦ inl o
+            | inr p ↦ inr (subst (λ (w : ℕ). IsListed (rest ++ number ∷ []) w) (sym p.0) last)
+          ];
+    }
+
+-- All of them, one after another.
+abbrev pub AreKnown : ℕ → List ℕ → List ℕ → List ℕ → Type 0
+AreKnown all first counts rest =
+    (v : ℕ) → slice_get counts v ≡ Some all → (slice_get first v ≡ Some all) ⊎ IsListed rest v
+
+pub rest_none : (uses : List Use) (counts rest : List ℕ) (all : ℕ) → AreRest uses counts all 0 rest
+rest_none uses counts rest all = record { each = λ k u l h. absurd (omega (arith, l)) }
+
+module _ (uses : List Use) (first old new less more : List ℕ) (all i : ℕ) (u : Use)
+    (settles : Settles u.variable all old new less more) (known : AreKnown all first old less) where
+  still : (v : ℕ) → (slice_get first v ≡ Some all) ⊎ IsListed less v → (slice_get first v ≡ Some all) ⊎ IsListed more v
+  still v h = elim h [ inl o ↦ inl o | inr n ↦ inr (settles.kept v n) ]
+
+  pub known_more : AreKnown all first new more
+  known_more v h = elim (settles.counts v h) [ inl o ↦ still v (known v o) | inr n ↦ inr n ]
+
+  pub rest_more : slice_get uses i ≡ Some u → AreRest uses first all i less → AreRest uses first all (i + 1) more
+  rest_more at a = record {
+    each = λ k w l there. elim (cases_lt k i) [
+      | inl before ↦ still w.variable (a.each k w before there)
+      | inr last ↦
+          let e : k ≡ i = omega (arith, l, last) in
+          let s : u ≡ w = sym (same_Some w u
+          (sym (subst (λ (j : ℕ). slice_get uses j ≡ Some w) e there) ∙ at)) in
+          let here : (slice_get first u.variable ≡ Some all) ⊎ IsListed more u.variable =
+          elim settles.here [ inl o ↦ still u.variable (known u.variable o) | inr n ↦ inr n ] in
+          subst (λ (x : Use). (slice_get first x.variable ≡ Some all) ⊎ IsListed more x.variable) s here
+    ];
+  }
+
+-- What an entry point lacks is used, and not named by all.
+pub all_of : (G : Table) (minor : ℕ) (is : List PlainInst) (entries counts rest : List ℕ) (uses : List Use)
+    → AreCounts is entries counts → AreRest uses counts (length entries) (length uses) rest
+    → AreUses G minor is (length is) uses → AreAll G minor is entries rest
+all_of G minor is entries counts rest uses c a used = record {
+  each = λ k n at w.
+      let u = used_there G minor is n uses w used in
+      let v = w.used.variable.place in
+      let within = slice_get_within uses u.place u.use_there u.there in
+      elim (a.each u.place u.use_there within u.there) [
+        | inl full ↦
+            let h : slice_get counts v ≡ Some (length entries) =
+            subst (λ (j : ℕ). slice_get counts j ≡ Some (length entries)) u.variable full in
+            absurd (not_named G minor is n v w w.used.variable.defined (full_named is entries counts v k n c h at))
+        | inr l ↦ subst (λ (j : ℕ). IsListed rest j) u.variable l
+      ];
+}
+
+pub none_lacked : (G : Table) (minor : ℕ) (is : List PlainInst) (entries rest : List ℕ) → rest ≡ []
+    → AreAll G minor is entries rest → IsFirstAmong (IsUnnamed G minor is) entries None
+none_lacked G minor is entries rest e a k n at w =
+    let l = a.each k n at w in
+    let h : slice_get [] l.place ≡ Some w.used.variable.place =
+    subst (λ (xs : List ℕ). slice_get xs l.place ≡ Some w.used.variable.place) e l.there in
+    cc

@@ -8,5 +8,7 @@ pub mod Entering
 pub mod Naming
 pub mod Clearing
 pub mod Unused
+pub mod Turning
+pub mod Missing
 pub mod Counting
 pub mod Worked

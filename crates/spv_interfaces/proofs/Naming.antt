@@ -89,7 +89,7 @@ pub names_none : (bits : ℕ) (is : List PlainInst) (os : List Plain) (words : L
 names_none bits is os words = adds_not bits (NamesBefore is os 0) words
     (λ v n. let l = n.below in absurd (omega (arith, l)))
 
-names_later : (is : List PlainInst) (os : List Plain) (i j v : ℕ) → i ≤ j → NamesBefore is os i v
+pub names_later : (is : List PlainInst) (os : List Plain) (i j v : ℕ) → i ≤ j → NamesBefore is os i v
     → NamesBefore is os j v
 names_later is os i j v l n =
     let b = n.below in
@@ -98,47 +98,64 @@ names_later is os i j v l n =
 one_there : (os : List Plain) (i x y : ℕ) → slice_get os i ≡ Some (Id x) → slice_get os i ≡ Some (Id y) → x ≡ y
 one_there os i x y h g = cc
 
+-- what the first operands name, with one more
+pub names_split : (is : List PlainInst) (os : List Plain) (i x v : ℕ) → slice_get os i ≡ Some (Id x)
+    → NamesBefore is os (i + 1) v → NamesBefore is os i v ⊎ IsDefinedAt is x v
+names_split is os i x v at n = elim (cases_lt n.place i) [
+  | inl less ↦ inl (record { place = n.place; below = less; id = n.id; there = n.there; defined = n.defined })
+  | inr last ↦
+      let l = n.below in
+      let e : n.place ≡ i = omega (arith, l, last) in
+      let same = one_there os i n.id x (subst (λ (k : ℕ). slice_get os k ≡ Some (Id n.id)) e n.there) at in
+      inr (subst (λ (y : ℕ). IsDefinedAt is y v) same n.defined)
+]
+
+pub names_join : (is : List PlainInst) (os : List Plain) (i x v : ℕ) → slice_get os i ≡ Some (Id x)
+    → NamesBefore is os i v ⊎ IsDefinedAt is x v → NamesBefore is os (i + 1) v
+names_join is os i x v at h = elim h [
+  | inl n ↦ names_later is os i (i + 1) v (omega arith) n
+  | inr d ↦ record { place = i; below = omega arith; id = x; there = at; defined = d }
+]
+
+pub names_kept : (is : List PlainInst) (os : List Plain) (i v : ℕ)
+    → ((x : ℕ) → slice_get os i ≡ Some (Id x) → ⊥) → NamesBefore is os (i + 1) v → NamesBefore is os i v
+names_kept is os i v none n = elim (cases_lt n.place i) [
+  | inl less ↦ record { place = n.place; below = less; id = n.id; there = n.there; defined = n.defined }
+  | inr last ↦
+      let l = n.below in
+      let e : n.place ≡ i = omega (arith, l, last) in
+      absurd (none n.id (subst (λ (k : ℕ). slice_get os k ≡ Some (Id n.id)) e n.there))
+]
+
+-- of all of them
+pub names_to : (is : List PlainInst) (os : List Plain) (n v : ℕ) → NamesBefore is os n v → NamesIn is os v
+names_to is os n v h = record { id = h.id; named = (h.place, h.there); defined = h.defined }
+
+pub names_back : (is : List PlainInst) (os : List Plain) (n v : ℕ) → length os ≤ n → NamesIn is os v
+    → NamesBefore is os n v
+names_back is os n v l h =
+    let w = slice_get_within os h.named.0 (Id h.id) h.named.1 in
+    record { place = h.named.0; below = omega (arith, w, l); id = h.id; there = h.named.1; defined = h.defined }
+
 pub names_more : (bits : ℕ) (is : List PlainInst) (os : List Plain) (i x : ℕ) (a b c : List ℕ)
     → slice_get os i ≡ Some (Id x) → Adds bits (NamesBefore is os i) a b → Adds bits (IsDefinedAt is x) b c
     → Adds bits (NamesBefore is os (i + 1)) a c
 names_more bits is os i x a b c at p q =
     adds_both bits (NamesBefore is os i) (IsDefinedAt is x) (NamesBefore is os (i + 1)) a b c
-    (λ v h. elim h [
-      | inl n ↦ names_later is os i (i + 1) v (omega arith) n
-      | inr d ↦ record { place = i; below = omega arith; id = x; there = at; defined = d }
-    ])
-    (λ v n. elim (cases_lt n.place i) [
-      | inl less ↦
-          inl (record { place = n.place; below = less; id = n.id; there = n.there; defined = n.defined })
-      | inr last ↦
-          let l = n.below in
-          let e : n.place ≡ i = omega (arith, l, last) in
-          let same = one_there os i n.id x (subst (λ (k : ℕ). slice_get os k ≡ Some (Id n.id)) e n.there) at in
-          inr (subst (λ (y : ℕ). IsDefinedAt is y v) same n.defined)
-    ]) p q
+    (λ v h. names_join is os i x v at h) (λ v n. names_split is os i x v at n) p q
 
 pub names_past : (bits : ℕ) (is : List PlainInst) (os : List Plain) (i : ℕ) (a b : List ℕ)
     → ((x : ℕ) → slice_get os i ≡ Some (Id x) → ⊥) → Adds bits (NamesBefore is os i) a b
     → Adds bits (NamesBefore is os (i + 1)) a b
 names_past bits is os i a b none p =
     adds_same bits (NamesBefore is os i) (NamesBefore is os (i + 1)) a b
-    (λ v n. names_later is os i (i + 1) v (omega arith) n)
-    (λ v n. elim (cases_lt n.place i) [
-      | inl less ↦ record { place = n.place; below = less; id = n.id; there = n.there; defined = n.defined }
-      | inr last ↦
-          let l = n.below in
-          let e : n.place ≡ i = omega (arith, l, last) in
-          absurd (none n.id (subst (λ (k : ℕ). slice_get os k ≡ Some (Id n.id)) e n.there))
-    ]) p
+    (λ v n. names_later is os i (i + 1) v (omega arith) n) (λ v n. names_kept is os i v none n) p
 
 pub names_all : (bits : ℕ) (is : List PlainInst) (os : List Plain) (n : ℕ) (a b : List ℕ) → length os ≤ n
     → Adds bits (NamesBefore is os n) a b → Adds bits (NamesIn is os) a b
 names_all bits is os n a b l p =
-    adds_same bits (NamesBefore is os n) (NamesIn is os) a b
-    (λ v h. record { id = h.id; named = (h.place, h.there); defined = h.defined })
-    (λ v h.
-    let w = slice_get_within os h.named.0 (Id h.id) h.named.1 in
-    record { place = h.named.0; below = omega (arith, w, l); id = h.id; there = h.named.1; defined = h.defined }) p
+    adds_same bits (NamesBefore is os n) (NamesIn is os) a b (λ v h. names_to is os n v h)
+    (λ v h. names_back is os n v l h) p
 
 -- an entry point
 pub begins_by : (bits : ℕ) (is : List PlainInst) (n f : ℕ) (os : List Plain) (i : PlainInst) (a b : List ℕ)
@@ -225,7 +242,7 @@ entered_more R few i n count old new at within e a h f k = (
 )
 
 -- What the marks tell of one of them.
-calls_from : (is : List PlainInst) (n : ℕ) (calls : List Call) → AreCalls is n calls → (f g : ℕ) → HasCall calls f g
+pub calls_from : (is : List PlainInst) (n : ℕ) (calls : List Call) → AreCalls is n calls → (f g : ℕ) → HasCall calls f g
     → Calls is f g
 calls_from is n calls a f g h =
     let s = (a.sound h.place h.call h.there).0.call in

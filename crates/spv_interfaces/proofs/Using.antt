@@ -1,9 +1,10 @@
 -- Uses of variables, as they are gathered.
 use Rattle.std.proofs.Common.{◌≡◌, ◌<◌, ◌≤◌, ◌+◌, ◌++◌, ◌∙◌, ◌⊎◌, inl, inr, ℕ, zero, suc, List, [], ◌∷◌, Option}
-use Rattle.std.proofs.Common.{Some, refl, sym, ap, subst, arith, length}
+use Rattle.std.proofs.Common.{Some, None, refl, sym, ap, subst, arith, length}
 use Rattle.std.proofs.Common.{get_or}
 use Rattle.std.specs.Prelude.{slice_get, slice_set, replicate, option_and_then, MatchOption}
 use Rattle.std.proofs.lemmas.Bool.{cases_lt}
+use Rattle.std.proofs.lemmas.Option.{same_Some}
 use Rattle.spv_table.specs.Table.{Table}
 use Rattle.spv_module.specs.declared.opcode.TheConstants as opcode
 use Rattle.spv_module.specs.declared.operand.Operand.{Operand}
@@ -84,19 +85,8 @@ use_again uses g w h f v = (
   λ k. elim k [ inl o ↦ o | inr e ↦ use_moved uses g w f v (sym e.0) (sym e.1) h ],
 )
 
--- What is noted, with one use more.
-pub noted_more : (old new : List ℕ) (uses : List Use) (u : Use) → AreNoted old uses
-    → ((v f : ℕ) → slice_get new v ≡ Some f
-    → (slice_get old v ≡ Some f) ⊎ ((v ≡ u.variable) × (f ≡ u.function)))
-    → AreNoted new (uses ++ u ∷ [])
-noted_more old new uses u noted put = record {
-  each = λ v f h some. elim (put v f h) [
-    | inl o ↦ has_kept uses u f v (noted.each v f o some)
-    | inr e ↦ use_moved (uses ++ u ∷ []) u.function u.variable f v (sym e.1) (sym e.0) (has_last uses u)
-  ];
-}
-
-pub put_set : (old : List ℕ) (g w v f : ℕ) → slice_get (slice_set old w g) v ≡ Some f
+-- an element of a list in which one was set
+pub put_set : {A : Type 0} (old : List A) (g : A) (w v : ℕ) (f : A) → slice_get (slice_set old w g) v ≡ Some f
     → (slice_get old v ≡ Some f) ⊎ ((v ≡ w) × (f ≡ g))
 put_set [] g w v f h = cc
 put_set (o ∷ os) g zero zero f h = inr (refl, (let e : g ≡ f = cc in sym e))
@@ -107,17 +97,34 @@ put_set (o ∷ os) g (suc w) (suc v) f h = elim (put_set os g w v f h) [
   | inr e ↦ inr (ap suc e.0, e.1)
 ]
 
+-- What is noted, with one use more.
+pub noted_more : (old new : List (Option ℕ)) (uses : List Use) (u : Use) → AreNoted old uses
+    → new ≡ slice_set old u.variable (Some u.function) → AreNoted new (uses ++ u ∷ [])
+noted_more old new uses u noted e = record {
+  each = λ v f h.
+      let g : slice_get (slice_set old u.variable (Some u.function)) v ≡ Some (Some f) =
+      subst (λ (xs : List (Option ℕ)). slice_get xs v ≡ Some (Some f)) e h in
+      elim (put_set old (Some u.function) u.variable v (Some f) g) [
+        | inl o ↦ has_kept uses u f v (noted.each v f o)
+        | inr p ↦
+            let same : u.function ≡ f = same_Some u.function f (sym p.1) in
+            use_moved (uses ++ u ∷ []) u.function u.variable f v same (sym p.0) (has_last uses u)
+      ];
+}
+
 -- at first nothing is noted
-pub all_same : (n x v y : ℕ) → slice_get (replicate n x) v ≡ Some y → y ≡ x
+pub all_same : {A : Type 0} (n : ℕ) (x : A) (v : ℕ) (y : A) → slice_get (replicate n x) v ≡ Some y → y ≡ x
 all_same zero x v y h = cc
 all_same (suc n) x zero y h = (let e : x ≡ y = cc in sym e)
 all_same (suc n) x (suc v) y h = all_same n x v y h
 
-pub none_noted : (last : List ℕ) (n : ℕ) (uses : List Use) → last ≡ replicate n 0 → AreNoted last uses
+pub none_noted : (last : List (Option ℕ)) (n : ℕ) (uses : List Use) → last ≡ replicate n None → AreNoted last uses
 none_noted last n uses e = record {
-  each = λ v f h some.
-      let g : slice_get (replicate n 0) v ≡ Some f = subst (λ (xs : List ℕ). slice_get xs v ≡ Some f) e h in
-      absurd (some (all_same n 0 v f g));
+  each = λ v f h.
+      let g : slice_get (replicate n None) v ≡ Some (Some f) =
+      subst (λ (xs : List (Option ℕ)). slice_get xs v ≡ Some (Some f)) e h in
+      let no : Some f ≡ None = all_same n None v (Some f) g in
+      absurd (cc);
 }
 
 -- Nothing is added, or by other words.

@@ -7,3 +7,5 @@ pub mod Entries
 pub mod Early
 pub mod Counted
 pub mod Cleared
+pub mod Turned
+pub mod Lacking

@@ -1,10 +1,10 @@
 //! The variables that all entry points have in their interfaces: these are not asked for by calls.
 
-ghost use Rattle.std.specs.Prelude.{◌≡◌, ◌<◌, ◌^◌, ℕ, Some, IfOk, IsTrue, length, slice_get};
+ghost use Rattle.std.specs.Prelude.{◌≡◌, ◌<◌, ◌^◌, ℕ, Some, IfOk, IsTrue, OnOk, length, slice_get, slice_set};
 ghost use Rattle.spv_module.specs.Module.{plain_operands};
 ghost use Rattle.spv_ids.specs.Definition.{IsDefinedAt};
 ghost use Rattle.spv_type_forms.specs.Definitions.{IsGlobal};
-ghost use Rattle.spv_interfaces.specs.inner.Counted.{AreCounts, AreFull, AreSettled, Counts};
+ghost use Rattle.spv_interfaces.specs.inner.Counted.{AreCounts, AreRest, AreSettled, Counts, Settles};
 ghost use Rattle.spv_interfaces.specs.inner.Early.{AreBetween};
 ghost use Rattle.spv_interfaces.specs.inner.Entries.{Names, NamesIn};
 ghost use Rattle.spv_interfaces.specs.inner.Wanted.{IsWanted};
@@ -145,14 +145,48 @@ pub fn are_settled(
     true
 }
 
-/// Whether each variable that is used has this count.
-pub fn are_full(uses: &[Use], counts: &[usize], all: usize) -> bool
-    ensures { IsTrue result → AreFull uses.now counts.now all }
+/// Gives an instruction this count.
+#[inline(always)]
+fn put_count(counts: &mut Vec<usize>, number: u32, all: usize)
+    ensures { counts.new.items ≡ slice_set counts.old.items number all }
 {
-    for found in uses {
-        if !is_full(counts, found.variable, all) {
-            return false;
-        }
+    let at = number as usize;
+    if at < counts.len() {
+        counts[at] = all;
     }
-    true
+}
+
+/// Takes a variable into a list and gives it this count, if it has another.
+fn settle(
+    rest: &mut Vec<u32>,
+    counts: &mut Vec<usize>,
+    number: u32,
+    all: usize,
+) -> Result<(), AllocError>
+    ensures { OnOk result (Settles number all counts.old.items counts.new.items rest.old.items rest.new.items) }
+{
+    if is_full(counts.as_slice(), number, all) {
+        return Ok(());
+    }
+    rest.push(number)?;
+    put_count(counts, number, all);
+    Ok(())
+}
+
+/// The variables that are used and have not this count, each once. They are given it.
+///
+/// An `AllocError` comes only where a growth of memory was refused.
+pub fn rest_of(
+    alloc: Global,
+    uses: &[Use],
+    counts: &mut Vec<usize>,
+    all: usize,
+) -> Result<Vec<u32>, AllocError>
+    ensures { IfOk result (λ rest. AreRest uses.now counts.old.items all (length uses.now) rest.items) }
+{
+    let mut rest = Vec::new(alloc);
+    for found in uses {
+        settle(&mut rest, counts, found.variable, all)?;
+    }
+    Ok(rest)
 }

@@ -5,11 +5,14 @@ mod classes;
 mod cleared;
 mod counted;
 mod entries;
+mod lacking;
 pub mod laws;
 mod marks;
 mod misfaced;
 mod named;
 mod order;
+mod tree;
+mod turned;
 mod used;
 
 pub use misfaced::first_misfaced;

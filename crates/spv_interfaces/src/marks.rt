@@ -1,27 +1,51 @@
-//! What is known of some entry points together: each has a bit of a word.
+//! What is known of some entry points, or variables, together: each has a bit of a word.
 
-ghost use Rattle.std.specs.Prelude.{◌≡◌, ◌+◌, ◌≤◌, ◌<◌, ◌↔◌, ◌⊎◌, ℕ, length, IfOk, IsTrue, MatchOption, Some};
+ghost use Rattle.std.specs.Prelude.{◌≡◌, ◌+◌, ◌≤◌, ◌<◌, ◌^◌, ◌↔◌, ◌⊎◌, ℕ, length, IfOk, IsTrue, MatchOption, Some};
 ghost use Rattle.std.specs.Prelude.{slice_get};
+ghost use Rattle.spv_ids.specs.Definition.{IsDefinedAt};
 ghost use Rattle.spv_flow.specs.calls.inner.Graph.{AreWithin};
 ghost use Rattle.spv_interfaces.specs.inner.Marks.{Adds, Grows, HasBit, IsClosed, IsMarked, IsMissing, IsOpen, Rises};
 ghost use Rattle.spv_interfaces.specs.inner.Marks.{word_of};
 
 use crate::used::Use;
 use spv_flow::calls::Call;
+use spv_type_forms::Definitions;
 use std::alloc::{AllocError, Global};
 
-/// Of instructions the entry points that reach them.
+/// How many entry points or variables are looked at together: as many as a word has bits.
+pub const TOGETHER: usize = 64;
+
+/// The bits of instructions: of entry points, or of variables.
 #[derive(Drop)]
 pub struct Marks {
-    /// Of each instruction that is an OpFunction the entry points from which a chain of calls leads to it.
+    /// Of each instruction that is an OpFunction the entry points from which a chain of calls leads to it; or the
+    /// variables that it uses, itself or by calls.
     pub reached: Vec<u64>,
-    /// Of each instruction that is a variable the entry points that have it in their interface.
+    /// Of each instruction that is a variable the entry points that have it in their interface; or itself.
     pub named: Vec<u64>,
+}
+
+/// The word of one bit.
+pub fn bit(k: usize) -> u64
+    requires { k < 64 }
+    ensures { result ≡ 2 ^ k }
+{
+    1 << k
+}
+
+/// Words for so many instructions, without a bit.
+///
+/// An `AllocError` comes only where a growth of memory was refused.
+pub fn blank(alloc: Global, total: usize) -> Result<Vec<u64>, AllocError>
+    ensures count { IfOk result (λ words. length words.items ≡ total) }
+    ensures blank { IfOk result (λ words. (f k : ℕ) → ¬ (IsMarked words.items f k)) }
+{
+    Ok(vec![in alloc; 0u64; total]?)
 }
 
 /// The word of an instruction.
 #[inline(always)]
-fn word_at(words: &[u64], number: u32) -> u64
+pub fn word_at(words: &[u64], number: u32) -> u64
     ensures { result ≡ word_of words.now number }
 {
     match words.get(number as usize) {
@@ -39,6 +63,16 @@ pub fn set(words: &mut Vec<u64>, number: u32, bits: u64)
     let at = number as usize;
     if at < words.len() {
         words[at] |= bits;
+    }
+}
+
+/// Sets bits where an id is defined.
+#[inline(always)]
+pub fn enter(words: &mut Vec<u64>, definitions: &Definitions, x: u32, bits: u64)
+    ensures { Adds bits (IsDefinedAt definitions.now x) words.old.items words.new.items }
+{
+    if let Some(number) = definitions.number(x) {
+        set(words, number, bits);
     }
 }
 
@@ -73,7 +107,7 @@ fn follow_in_order(words: &mut Vec<u64>, calls: &[Call], order: &[u32])
     }
 }
 
-/// Whether a call leads from a function that more entry points reach than its callee.
+/// Whether a call leads from a function that has a bit which its callee has not.
 #[inline(always)]
 fn is_open(words: &[u64], call: Call) -> bool
     ensures { IsTrue result ↔ ((k : ℕ) × IsMarked words.now call.caller k × ¬ (IsMarked words.now call.callee k)) }
@@ -81,7 +115,7 @@ fn is_open(words: &[u64], call: Call) -> bool
     word_at(words, call.caller) & !word_at(words, call.callee) != 0
 }
 
-/// A call from a function that more entry points reach than its callee.
+/// A call from a function that has a bit which its callee has not.
 fn open_call(words: &[u64], calls: &[Call]) -> Option<Call>
     ensures { MatchOption result (IsClosed calls.now words.now) (IsOpen calls.now words.now) }
 {
@@ -116,8 +150,8 @@ impl Marks {
         ensures not_named { IfOk result (λ m. (f k : ℕ) → ¬ (IsMarked m.named.items f k)) }
     {
         Ok(Marks {
-            reached: vec![in alloc; 0u64; total]?,
-            named: vec![in alloc; 0u64; total]?,
+            reached: blank(alloc, total)?,
+            named: blank(alloc, total)?,
         })
     }
 

@@ -1,44 +1,33 @@
 //! The first entry point that does not name a variable which its call tree uses.
 
-ghost use Rattle.std.specs.Prelude.{◌≡◌, ◌≤◌, ◌<◌, ◌^◌, ◌∷◌, [], ◌↔◌, ℕ, IfOk, IsTrue, MatchOption, Some, length, map};
+ghost use Rattle.std.specs.Prelude.{◌≡◌, ◌≤◌, ◌<◌, ◌∷◌, [], ◌↔◌, ℕ, IfOk, IsTrue, MatchOption, Some, length, map};
 ghost use Rattle.std.specs.Prelude.{slice_get};
 ghost use Rattle.spv_table.specs.Table.{Table};
 ghost use Rattle.spv_module.specs.Module.{plain_inst, plain_operands};
 ghost use Rattle.spv_layout.specs.Place.{AreFew};
 ghost use Rattle.spv_layout.specs.Plan.{IsPlan};
-ghost use Rattle.spv_ids.specs.Definition.{IsDefinedAt};
 ghost use Rattle.spv_ids.specs.Outcome.{IsDefinitionOf, definition_in};
 ghost use Rattle.spv_flow.specs.calls.inner.Found.{AreCalls};
 ghost use Rattle.spv_interfaces.specs.inner.Cleared.{AreFresh};
 ghost use Rattle.spv_interfaces.specs.inner.Entries.{Begins, IsEntered, IsFirstAmong, IsUnnamed, Names, NamesIn};
+ghost use Rattle.spv_interfaces.specs.inner.Lacking.{AreAll};
 ghost use Rattle.spv_interfaces.specs.inner.Marks.{Adds, HasBit, IsMarked};
 ghost use Rattle.spv_interfaces.specs.inner.Uses.{AreUses};
 
 use crate::cleared::{clear_calls, end_all};
-use crate::counted::{are_full, are_settled, counts_of};
+use crate::counted::{are_settled, counts_of, rest_of};
 use crate::entries::{entry, id_of};
-use crate::marks::{Marks, set, spread};
+use crate::lacking::first_by_variables;
+use crate::marks::{Marks, TOGETHER, bit, enter, spread};
 use crate::order::callers_first;
+use crate::tree::Tree;
 use crate::used::{Use, first_variable, past_variables, uses_of};
-use spv_flow::calls::{Call, calls_of, entries_of};
+use spv_flow::calls::calls_of;
 use spv_ids::Ids;
 use spv_layout::Plan;
 use spv_module::{Inst, Operand};
 use spv_type_forms::Definitions;
 use std::alloc::{AllocError, Global};
-
-/// How many entry points are looked at together: as many as a word has bits.
-const TOGETHER: usize = 64;
-
-/// Sets bits where an id is defined.
-#[inline(always)]
-fn enter(words: &mut Vec<u64>, definitions: &Definitions, x: u32, bits: u64)
-    ensures { Adds bits (IsDefinedAt definitions.now x) words.old.items words.new.items }
-{
-    if let Some(number) = definitions.number(x) {
-        set(words, number, bits);
-    }
-}
 
 /// Takes note of the ids in an interface.
 fn name_all(named: &mut Vec<u64>, definitions: &Definitions, interface: &[Operand<'_>], bits: u64)
@@ -62,14 +51,6 @@ fn begin(marks: &mut Marks, definitions: &Definitions, number: u32, bits: u64)
     };
     enter(&mut marks.reached, definitions, f, bits);
     name_all(&mut marks.named, definitions, interface, bits);
-}
-
-/// The word of one bit.
-fn bit(k: usize) -> u64
-    requires { k < 64 }
-    ensures { result ≡ 2 ^ k }
-{
-    1 << k
 }
 
 /// Whether a word has a bit.
@@ -109,14 +90,6 @@ fn first_of(few: &[u32], bits: u64) -> Option<u32>
         }
     }
     None
-}
-
-/// What the entry points are looked at by: the calls, an order in which callers come first, and the uses.
-#[derive(Drop)]
-struct Tree<'t> {
-    calls: &'t [Call],
-    order: &'t [u32],
-    uses: &'t [Use],
 }
 
 /// The first of at most 64 OpEntryPoints that does not name a variable which its call tree uses. No mark is set before,
@@ -169,7 +142,36 @@ fn first_missing(
     None
 }
 
-/// The first of some OpEntryPoints that does not name a variable which its call tree uses, by all uses.
+/// The first of some OpEntryPoints that does not name a variable which its call tree uses. `rest` has what they lack.
+///
+/// Time is linear in the words of the module times a 64th of the entry points, or of `rest`, whichever are fewer. An
+/// `AllocError` comes only where a growth of memory was refused.
+fn first_by_tree(
+    alloc: Global,
+    definitions: &Definitions,
+    total: usize,
+    tree: &Tree<'_>,
+    rest: &[u32],
+    entries: &[u32],
+) -> Result<Option<u32>, AllocError>
+    requires total { total ≡ length definitions.now }
+    requires within { (k n : ℕ) → slice_get entries.now k ≡ Some n → n < length definitions.now }
+    requires calls { AreCalls definitions.now (length definitions.now) tree.now.calls.now }
+    ensures { (G : Table) (minor : ℕ)
+        → AreUses G minor definitions.now (length definitions.now) tree.now.uses.now
+        → AreAll G minor definitions.now entries.now rest.now
+        → IfOk result (IsFirstAmong (IsUnnamed G minor definitions.now) entries.now) }
+{
+    if rest.len() / TOGETHER < entries.len() / TOGETHER {
+        let found = first_by_variables(alloc, definitions, total, tree, rest, entries)?;
+        return Ok(found);
+    }
+    let mut marks = Marks::new(alloc, total)?;
+    Ok(first_missing(&mut marks, definitions, tree, entries))
+}
+
+/// The first of some OpEntryPoints that does not name a variable which its call tree uses, by all uses. `rest` has what
+/// they lack.
 fn first_by_calls(
     alloc: Global,
     definitions: &Definitions,
@@ -177,6 +179,7 @@ fn first_by_calls(
     plan: &Plan,
     ids: &Ids,
     uses: &[Use],
+    rest: &[u32],
     entries: &[u32],
 ) -> Result<Option<u32>, AllocError>
     requires few { AreFew insts.now }
@@ -185,18 +188,18 @@ fn first_by_calls(
     requires ids { (x : ℕ) → IsDefinitionOf (map plain_inst insts.now) x (definition_in ids.now x) }
     requires within { (k n : ℕ) → slice_get entries.now k ≡ Some n → n < length definitions.now }
     ensures { (G : Table) (minor : ℕ) → AreUses G minor definitions.now (length definitions.now) uses.now
+        → AreAll G minor definitions.now entries.now rest.now
         → IfOk result (IsFirstAmong (IsUnnamed G minor definitions.now) entries.now) }
 {
     let calls = calls_of(alloc, insts, plan, ids)?;
-    let functions = entries_of(alloc, insts, ids)?;
-    let order = callers_first(alloc, insts.len(), calls.as_slice(), functions.as_slice())?;
+    let order = callers_first(alloc, insts.len(), calls.as_slice())?;
     let tree = Tree {
         calls: calls.as_slice(),
         order: order.as_slice(),
         uses,
     };
-    let mut marks = Marks::new(alloc, insts.len())?;
-    Ok(first_missing(&mut marks, definitions, &tree, entries))
+    let found = first_by_tree(alloc, definitions, insts.len(), &tree, rest, entries)?;
+    Ok(found)
 }
 
 /// The first of some OpEntryPoints that does not name a variable which its call tree uses, in a module of version
@@ -223,14 +226,15 @@ pub fn first_unnamed(
         return Ok(None);
     };
     let end = past_variables(definitions, first, start);
-    let counts = counts_of(alloc, definitions, end, entries)?;
+    let mut counts = counts_of(alloc, definitions, end, entries)?;
     let all = entries.len();
     if are_settled(definitions, minor, first, end, counts.as_slice(), all) {
         return Ok(None);
     }
     let total = insts.len() as u32;
     let uses = uses_of(alloc, definitions, minor, first, end, start, total)?;
-    if are_full(uses.as_slice(), counts.as_slice(), all) {
+    let rest = rest_of(alloc, uses.as_slice(), &mut counts, all)?;
+    if rest.is_empty() {
         return Ok(None);
     }
     let found = first_by_calls(
@@ -240,6 +244,7 @@ pub fn first_unnamed(
         plan,
         ids,
         uses.as_slice(),
+        rest.as_slice(),
         entries,
     )?;
     Ok(found)

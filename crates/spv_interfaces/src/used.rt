@@ -1,6 +1,6 @@
 //! The variables that definitions use.
 
-ghost use Rattle.std.specs.Prelude.{◌≡◌, ◌≢◌, ◌+◌, ◌↔◌, ◌⊎◌, ◌≤◌, ◌<◌, ℕ, length, slice_get, IfOk, IsTrue};
+ghost use Rattle.std.specs.Prelude.{◌≡◌, ◌≢◌, ◌+◌, ◌↔◌, ◌≤◌, ◌<◌, ℕ, length, slice_get, slice_set, IfOk, IsTrue};
 ghost use Rattle.std.specs.Prelude.{MatchOption, OnOk};
 ghost use Rattle.std.specs.Prelude.{◌∷◌, [], Some};
 ghost use Rattle.spv_table.specs.Table.{Table};
@@ -126,44 +126,43 @@ fn definition_of(definitions: &Definitions, number: u32) -> Option<u32>
     }
 }
 
-/// In place of the number of an OpFunction: there is none. No OpFunction stands first.
-const NONE: u32 = 0;
-
 /// Whether it is noted that the use of a variable that was noted last is one in this definition.
 #[inline(always)]
-fn is_noted(last: &[u32], function: u32, variable: u32) -> bool
-    ensures { IsTrue result → (slice_get last.now variable ≡ Some function) × (function ≢ 0) }
+fn is_noted(last: &[Option<u32>], function: u32, variable: u32) -> bool
+    ensures { IsTrue result → slice_get last.now variable ≡ Some (Some function) }
 {
     match last.get(variable as usize) {
-        Some(other) => *other == function && function != NONE,
+        Some(noted) => match *noted {
+            Some(other) => other == function,
+            None => false,
+        },
         None => false,
     }
 }
 
 /// Notes that a variable was used last in this definition.
 #[inline(always)]
-fn put_last(last: &mut Vec<u32>, function: u32, variable: u32)
-    ensures { (v f : ℕ) → slice_get last.new.items v ≡ Some f
-        → (slice_get last.old.items v ≡ Some f) ⊎ ((v ≡ variable) × (f ≡ function)) }
+fn put_last(last: &mut Vec<Option<u32>>, function: u32, variable: u32)
+    ensures { last.new.items ≡ slice_set last.old.items variable (Some function) }
 {
     let at = variable as usize;
     if at < last.len() {
-        last[at] = function;
+        last[at] = Some(function);
     }
 }
 
 /// Nothing noted of so many instructions.
-fn nothing_noted(alloc: Global, count: u32) -> Result<Vec<u32>, AllocError>
+fn nothing_noted(alloc: Global, count: u32) -> Result<Vec<Option<u32>>, AllocError>
     ensures { IfOk result (λ last. AreNoted last.items []) }
 {
-    Ok(vec![in alloc; NONE; count as usize]?)
+    Ok(vec![in alloc; None; count as usize]?)
 }
 
 /// What is gathered of uses.
 #[derive(Drop)]
 struct Uses {
-    /// At each variable the OpFunction of the definition whose use of it was noted last, or `NONE`.
-    last: Vec<u32>,
+    /// At each variable the OpFunction of the definition whose use of it was noted last.
+    last: Vec<Option<u32>>,
     found: Vec<Use>,
 }
 

@@ -16,9 +16,23 @@ pub record AreCounts (is : List PlainInst) (entries counts : List ℕ) : Type 0 
   pub each : (v m : ℕ) → slice_get counts v ≡ Some m → (k n : ℕ) → k < m → slice_get entries k ≡ Some n
       → Names is n v
 
--- Each variable that has to be in the interface where it is used has this count; each that is used has it.
+-- Each variable that has to be in the interface where it is used has this count.
 pub record AreSettled (minor : ℕ) (is : List PlainInst) (counts : List ℕ) (all : ℕ) : Type 0 where
   pub each : (x : ℕ) (g : IsGlobal is x) → IsWanted minor is x → slice_get counts g.place ≡ Some all
 
-pub record AreFull (uses : List Use) (counts : List ℕ) (all : ℕ) : Type 0 where
-  pub each : (k : ℕ) (u : Use) → slice_get uses k ≡ Some u → slice_get counts u.variable ≡ Some all
+-- The list has the number.
+pub record IsListed (list : List ℕ) (v : ℕ) : Type 0 where
+  pub place : ℕ
+  pub there : slice_get list place ≡ Some v
+
+-- The variable of each of the first uses has this count, or is in the list.
+pub record AreRest (uses : List Use) (counts : List ℕ) (all to : ℕ) (rest : List ℕ) : Type 0 where
+  pub each : (k : ℕ) (u : Use) → k < to → slice_get uses k ≡ Some u
+      → (slice_get counts u.variable ≡ Some all) ⊎ IsListed rest u.variable
+
+-- The instruction had this count, or is in the longer list, which has what the shorter one has; and what has this count
+-- now had it before, or is in that list.
+pub record Settles (number all : ℕ) (old new less more : List ℕ) : Type 0 where
+  pub here : (slice_get old number ≡ Some all) ⊎ IsListed more number
+  pub kept : (v : ℕ) → IsListed less v → IsListed more v
+  pub counts : (v : ℕ) → slice_get new v ≡ Some all → (slice_get old v ≡ Some all) ⊎ IsListed more v

@@ -17,6 +17,12 @@ word_of words f = slice_index_or words f 0
 abbrev pub IsMarked : List ℕ → ℕ → ℕ → Type 0
 IsMarked words f k = HasBit (word_of words f) k
 
+-- Of some instruction something is so, and its word has the bit.
+pub record HasMarked (P : ℕ → Type 0) (words : List ℕ) (k : ℕ) : Type 0 where
+  pub number : ℕ
+  pub so : P number
+  pub marked : IsMarked words number k
+
 -- The bit is one of these, and the instruction one that has a word and of which something is so.
 pub record IsAdded (bits : ℕ) (P : ℕ → Type 0) (count f k : ℕ) : Type 0 where
   pub bit : HasBit bits k

@@ -1,5 +1,5 @@
 -- Uses of variables in definitions. (For the code alone.)
-use Rattle.std.specs.Prelude.{◌≡◌, ◌≢◌, ◌<◌, ◌⊎◌, ◌↔◌, ℕ, List, Some, slice_get}
+use Rattle.std.specs.Prelude.{◌≡◌, ◌<◌, ◌⊎◌, ◌↔◌, ℕ, List, Option, Some, slice_get}
 use Rattle.spv_table.specs.Table.{Table}
 use Rattle.spv_module.specs.Operand.{PlainInst}
 use Rattle.spv_layout.specs.declared.form.Role.{Role}
@@ -21,9 +21,9 @@ pub record HasUse (uses : List Use) (f v : ℕ) : Type 0 where
 abbrev pub AddsUses : (ℕ → ℕ → Type 0) → List Use → List Use → Type 0
 AddsUses P old new = (f v : ℕ) → HasUse new f v ↔ (HasUse old f v ⊎ P f v)
 
--- What is noted last at a variable is of the list; 0 says nothing.
-pub record AreNoted (last : List ℕ) (uses : List Use) : Type 0 where
-  pub each : (v f : ℕ) → slice_get last v ≡ Some f → f ≢ 0 → HasUse uses f v
+-- What is noted last at a variable is of the list.
+pub record AreNoted (last : List (Option ℕ)) (uses : List Use) : Type 0 where
+  pub each : (v f : ℕ) → slice_get last v ≡ Some (Some f) → HasUse uses f v
 
 -- The instruction is in the definition.
 pub record IsInDefinition (is : List PlainInst) (n f : ℕ) : Type 0 where

@@ -1,14 +1,16 @@
-use Rattle.std.proofs.Common.{ℕ, List, [], ◌∷◌, map, length, sym, subst, arith}
+use Rattle.std.proofs.Common.{◌∙◌, ℕ, List, [], ◌∷◌, map, length, sym, subst, arith, vec_len}
+use Rattle.std.proofs.lemmas.Bool.{eqb-true}
 use Rattle.spv_module.specs.Module.{plain_inst}
 use Rattle.spv_module.specs.Operand.{PlainInst}
 use Rattle.spv_layout.specs.declared.class.Class.TheVariants.{Function}
 use Rattle.spv_layout.specs.Place.{IsAt}
 use Rattle.spv_interfaces.specs.declared.used.Use.{Use}
-use Rattle.spv_interfaces.specs.inner.Counted.{AreFull, AreSettled}
+use Rattle.spv_interfaces.specs.inner.Counted.{AreRest, AreSettled}
+use Rattle.spv_interfaces.specs.inner.Lacking.{AreAll}
 use Rattle.spv_interfaces.specs.inner.Uses.{AreUses}
 use Rattle.spv_interfaces.proofs.Early.{early_of}
-use Rattle.spv_interfaces.proofs.Counting.{none_full, none_settled}
-use Rattle.spv_interfaces.proofs.Unused.{fit_by, none_without, same_length}
+use Rattle.spv_interfaces.proofs.Counting.{all_of, none_lacked, none_settled}
+use Rattle.spv_interfaces.proofs.Unused.{fit_by, no_numbers, none_without, same_length}
 use Rattle.spv_interfaces.proofs.named.first_unnamed.Goals as goal
 
 pub first_variable-requires : goal.first_variable-requires
@@ -40,17 +42,18 @@ returns-then-are_settled c = λ G plan.
     (subst (λ (xs : List ℕ). AreSettled c.args.minor c.args.definitions.now xs (length c.args.entries.now))
     c.as_slice.ensures.value (c.are_settled.ensures c.if-are_settled.true))
 
-pub returns-then-are_full : goal.returns-then-are_full
-returns-then-are_full c = λ G plan.
+pub returns-then-is_empty : goal.returns-then-is_empty
+returns-then-is_empty c = λ G plan.
     let is = c.args.definitions.now in
-    let uses = c.in_ok-uses.uses.items in
-    let counts = c.in_ok-counts.counts.items in
-    let fit = fit_by G is (map plain_inst c.args.insts.now) c.args.plan.now c.requires.same plan in
-    let all = length c.args.entries.now in
-    let f = subst (λ (us : List Use). AreFull us c.as_slice-3.result.now all) c.as_slice-2.ensures.value
-    (c.are_full.ensures c.if-are_full.true) in
-    let g = subst (λ (xs : List ℕ). AreFull uses xs all) c.as_slice-3.ensures.value f in
-    none_full G c.args.minor is c.args.entries.now counts uses c.in_ok-counts.ensures g (c.in_ok-uses.ensures G fit)
+    let rest = c.in_ok-rest.rest in
+    let z = eqb-true (vec_len rest) 0 (sym c.is_empty.ensures ∙ c.if-is_empty.true) in
+    let k = rest.ok.0 in
+    none_lacked G c.args.minor is c.args.entries.now rest.items (no_numbers rest.items (omega (arith, z, k)))
+    (all_of G c.args.minor is c.args.entries.now c.in_ok-counts.counts.items rest.items c.in_ok-uses.uses.items
+    c.in_ok-counts.ensures
+    (subst (λ (us : List Use). AreRest us c.in_ok-counts.counts.items (length c.args.entries.now) (length us) rest.items)
+    c.as_slice-2.ensures.value c.in_ok-rest.ensures)
+    (c.in_ok-uses.ensures G (fit_by G is (map plain_inst c.args.insts.now) c.args.plan.now c.requires.same plan)))
 
 pub first_by_calls-requires-clause-within : goal.first_by_calls-requires-clause-within
 first_by_calls-requires-clause-within c = λ k n h.
@@ -61,7 +64,14 @@ first_by_calls-requires-clause-within c = λ k n h.
 pub returns : goal.returns
 returns c = λ G plan.
     let is = c.args.definitions.now in
+    let entries = c.args.entries.now in
+    let counts = c.in_ok-counts.counts.items in
+    let rest = c.in_ok-rest.rest.items in
     let fit = fit_by G is (map plain_inst c.args.insts.now) c.args.plan.now c.requires.same plan in
+    let used = c.in_ok-uses.ensures G fit in
+    let all = all_of G c.args.minor is entries counts rest c.in_ok-uses.uses.items c.in_ok-counts.ensures
+    (subst (λ (us : List Use). AreRest us counts (length entries) (length us) rest) c.as_slice-2.ensures.value
+    c.in_ok-rest.ensures) used in
     c.in_ok-found.ensures G c.args.minor
-    (subst (λ (us : List Use). AreUses G c.args.minor is (length is) us) (sym c.as_slice-4.ensures.value)
-    (c.in_ok-uses.ensures G fit))
+    (subst (λ (us : List Use). AreUses G c.args.minor is (length is) us) (sym c.as_slice-3.ensures.value) used)
+    (subst (λ (vs : List ℕ). AreAll G c.args.minor is entries vs) (sym c.as_slice-4.ensures.value) all)

@@ -5,7 +5,7 @@ pub returns-then-is_noted-clause-added : goal.returns-then-is_noted-clause-added
 returns-then-is_noted-clause-added c =
     let h = c.is_noted.ensures c.if-is_noted.true in
     use_again c.args.self.now.found.items c.args.function c.args.variable
-    (c.requires.each c.args.variable c.args.function (rw c.as_slice.ensures.value at h.0) h.1)
+    (c.requires.each c.args.variable c.args.function (rw c.as_slice.ensures.value at h))
 
 pub returns-clause-noted : goal.returns-clause-noted
 returns-clause-noted c =
