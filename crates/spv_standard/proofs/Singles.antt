@@ -1,7 +1,7 @@
 -- The first of the rules that single instructions break, by what is told at one instruction after the other.
 use Rattle.std.proofs.Common.{◌≡◌, ◌<◌, ◌≤◌, ◌⊎◌, ◌+◌, ℕ, List, Bool, true, false, not, Option, Some, None, inl, inr, length}
 use Rattle.std.proofs.Common.{refl, sym, subst, arith}
-use Rattle.std.specs.Prelude.{slice_get}
+use Rattle.std.specs.Prelude.{is_some, slice_get}
 use Rattle.std.proofs.lemmas.Bool.{cases_order}
 use Rattle.spv_table.specs.Table.{Table}
 use Rattle.spv_module.specs.Operand.{PlainInst}
@@ -173,3 +173,17 @@ nothing_at G minor is n i a counts at asked x y z up_to =
       ],
       l.1,
     )
+
+-- an answer that is none; and where all three are none at an instruction
+pub nothing_found : (o : Option Found) → is_some o ≡ false → o ≡ None
+nothing_found None e = refl
+nothing_found (Some f) e = cc
+
+pub none_of_three : (G : Table) (minor : ℕ) (is : List PlainInst) (n : ℕ) (operands version limits : Option Found)
+    → operands ≡ None → version ≡ None → limits ≡ None → IsFirstIn (At n (by_operands.Broken G is)) operands
+    → IsFirstIn (At n (by_versions.Broken G minor is)) version → IsFirstIn (At n (by_limits.Broken is)) limits
+    → IsFirstIn (At n (Alone G minor is)) None
+none_of_three G minor is n operands version limits x y z a b c =
+    alone_at G minor is n None None None None None (by_none (At n (by_operands.Broken G is)) operands x a)
+    (by_none (At n (by_versions.Broken G minor is)) version y b) (by_none (At n (by_limits.Broken is)) limits z c)
+    (refl, refl) (refl, refl)

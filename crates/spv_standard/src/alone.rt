@@ -115,6 +115,9 @@ fn found_by_all(
     let operands = operands_at(alloc, capabilities, definitions, number, asked.operands)?;
     let version = version_at(late, definitions, number, asked.version);
     let limits = limits_at(counts, definitions, number, asked.limits)?;
+    if operands.is_none() && version.is_none() && limits.is_none() {
+        return Ok(None);
+    }
     let found = earlier(operands, version);
     Ok(earlier(found, limits))
 }

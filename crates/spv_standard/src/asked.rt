@@ -13,6 +13,8 @@ use spv_versions::Late;
 /// Which of the rules on single instructions there are to ask of an instruction, by its opcode.
 #[derive(Clone, Copy)]
 pub struct Asked {
+    /// Whether it is known what there is to ask.
+    is_known: bool,
     /// O14 to O20, and O23.
     pub operands: bool,
     /// O21.
@@ -37,6 +39,7 @@ fn asked_of(late: &Late, opcode: u16) -> Asked
         → IsAskedBy G minor is opcode result }
 {
     Asked {
+        is_known: true,
         operands: !spv_kernel_operands::is_quiet(opcode),
         version: !(is_unkinded(opcode) && late.is_quiet(opcode)),
         limits: !(is_textless(opcode) && spv_limits::is_quiet(opcode)),
@@ -46,10 +49,18 @@ fn asked_of(late: &Late, opcode: u16) -> Asked
 /// Of how many opcodes it is noted what there is to ask: nearly all instructions have lower ones.
 const NOTED: usize = 512;
 
+/// Of an opcode of which nothing is noted.
+const UNKNOWN: Asked = Asked {
+    is_known: false,
+    operands: false,
+    version: false,
+    limits: false,
+};
+
 /// What is noted of the opcodes below that number.
 #[derive(Drop)]
 pub struct Notes {
-    notes: [Option<Asked>; NOTED],
+    notes: [Asked; NOTED],
 }
 
 impl Notes {
@@ -58,7 +69,7 @@ impl Notes {
         ensures { (G : Table) (minor : ℕ) (is : List PlainInst) → AreNoted G minor is result.notes }
     {
         Notes {
-            notes: [None; NOTED],
+            notes: [UNKNOWN; NOTED],
         }
     }
 
@@ -72,7 +83,8 @@ impl Notes {
     {
         let place = usize::from(opcode);
         if place < NOTED {
-            if let Some(asked) = self.notes[place] {
+            let asked = self.notes[place];
+            if asked.is_known {
                 return asked;
             }
         }
@@ -90,7 +102,7 @@ impl Notes {
         let asked = asked_of(late, opcode);
         let place = usize::from(opcode);
         if place < NOTED {
-            self.notes[place] = Some(asked);
+            self.notes[place] = asked;
         }
         asked
     }

@@ -1,5 +1,5 @@
 -- What there is to ask of the instructions of an opcode. (For the code alone.)
-use Rattle.std.specs.Prelude.{◌≡◌, ◌+◌, ℕ, List, Option, Some, false, slice_get}
+use Rattle.std.specs.Prelude.{◌≡◌, ◌+◌, ℕ, List, Some, true, false, slice_get}
 use Rattle.spv_table.specs.Table.{Table}
 use Rattle.spv_module.specs.Operand.{PlainInst}
 use Rattle.spv_module.specs.declared.fault.Rule.{Rule}
@@ -25,6 +25,7 @@ pub record IsAskedBy (G : Table) (minor : ℕ) (is : List PlainInst) (opcode : �
   pub limits : a.limits ≡ false → (n : ℕ) (i : PlainInst) (counts : Counts) → slice_get is n ≡ Some i
       → i.opcode ≡ opcode → IsUpTo is n counts → (¬ (IsPast is n)) × IsUpTo is (n + 1) counts
 
--- so it is of each opcode of which something is noted
-abbrev pub AreNoted : Table → ℕ → List PlainInst → List (Option Asked) → Type 0
-AreNoted G minor is notes = (k : ℕ) (a : Asked) → slice_get notes k ≡ Some (Some a) → IsAskedBy G minor is k a
+-- so it is of each opcode of which it is known
+abbrev pub AreNoted : Table → ℕ → List PlainInst → List Asked → Type 0
+AreNoted G minor is notes = (k : ℕ) (a : Asked) → slice_get notes k ≡ Some a → a.is_known ≡ true
+    → IsAskedBy G minor is k a

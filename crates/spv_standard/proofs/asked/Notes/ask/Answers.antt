@@ -5,9 +5,9 @@ use Rattle.spv_standard.proofs.Noting.{one_noted}
 use Rattle.spv_standard.proofs.asked.Notes.ask.Goals as goal
 
 pub returns-then-place-lt-NOTED-clause-noted : goal.returns-then-place-lt-NOTED-clause-noted
-returns-then-place-lt-NOTED-clause-noted c = λ G minor is late fit noted k a e.
+returns-then-place-lt-NOTED-clause-noted c = λ G minor is late fit noted k a e known.
     elim (one_noted c.args.self.now.notes c.asked_of-asked.result c.from-place.result k a e) [
-      | inl old ↦ noted k a old
+      | inl old ↦ noted k a old known
       | inr own ↦
           let q : k ≡ c.args.opcode = own.0 ∙ c.from-place.ensures in
           subst (λ (b : Asked). IsAskedBy G minor is k b) (sym own.1)
