@@ -1,7 +1,7 @@
 -- One instruction more, by its opcode.
-use Rattle.std.proofs.Common.{◌≡◌, ◌⊎◌, ◌∙◌, ◌↔◌, ◌<◌, ◌+◌, ◌||◌, ℕ, List, Bool, true, false, Option, Some, None, IsTrue}
-use Rattle.std.proofs.Common.{if◌then◌else◌, nat_eq, refl, sym, ap, subst, inl, inr, eq-eqb, ne_eqb}
-use Rattle.std.specs.Prelude.{is_some, not, slice_get}
+use Rattle.std.proofs.Common.{◌≡◌, ◌⊎◌, ◌∙◌, ◌↔◌, ◌<◌, ◌≤◌, ◌+◌, ◌||◌, ℕ, List, Bool, true, false, Some, None, IsTrue}
+use Rattle.std.proofs.Common.{if◌then◌else◌, length, nat_eq, refl, sym, ap, subst, inl, inr, arith, eq-eqb, ne_eqb}
+use Rattle.std.specs.Prelude.{slice_get}
 use Rattle.std.specs.BTreeMap.{BTreeMap}
 use Rattle.std.proofs.lemmas.Bool.{false≢true}
 use Rattle.std.proofs.lemmas.Option.{none-some}
@@ -139,15 +139,30 @@ none_alone : (is : List PlainInst) (i : PlainInst) → ¬ (AreLong i.operands) �
     → (i.opcode ≡ opcode.EXT_INST → ⊥) → ¬ (PassesAlone is i)
 none_alone is i short f never = none_many is i short (few i f) never
 
--- an opcode that need not be asked
-pub none_of : (o p : Option ℕ) (b : Bool) → o ≡ p → is_some o ≡ not b → IsTrue b → p ≡ None
-none_of None p b e told t = sym e
-none_of (Some n) p b e told t = absurd (false≢true (sym (told ∙ ap not t)))
+-- so few operands pass no limit on how many there are
+few_many : (i : PlainInst) → length i.operands ≤ 255 → ¬ (HasTooMany i)
+few_many i l (alone.of_members e h) = absurd (let m : most limit.Members ≡ 16383 = refl in omega (arith, l, h, m))
+few_many i l (alone.of_parameters e h) = absurd (let m : most limit.Parameters ≡ 255 = refl in omega (arith, l, h, m))
+few_many i l (alone.of_pairs e h) = absurd (let m : most limit.Pairs ≡ 16383 = refl in omega (arith, l, h, m))
+few_many i l (alone.of_indexes h) =
+    absurd (let m : most limit.Indexes ≡ 255 = refl in let many = h.2 in omega (arith, l, many, m))
+
+few_alone : (is : List PlainInst) (i : PlainInst) → ¬ (AreLong i.operands) → length i.operands ≤ 255
+    → ¬ (PassesAlone is i)
+few_alone is i short l h = elim h [
+  | inl many ↦ few_many i l many
+  | inr other ↦ elim other [
+    | inl long ↦ short long
+    | inr args ↦
+        let m : most limit.Arguments ≡ 255 = refl in
+        let many = args.1 in absurd (omega (arith, l, many, m))
+  ]
+]
 
 pub quiet_step : (is : List PlainInst) (n : ℕ) (i : PlainInst) (counts : Counts) → slice_get is n ≡ Some i
-    → IsUncounted i.opcode → IsFew i.opcode → (i.opcode ≡ opcode.EXT_INST → ⊥) → ¬ (AreLong i.operands)
-    → IsUpTo is n counts → (¬ (IsPast is n)) × IsUpTo is (n + 1) counts
-quiet_step is n i counts at u f never short h = uncounted is n i counts at u (none_alone is i short f never) h
+    → IsUncounted i.opcode → length i.operands ≤ 255 → ¬ (AreLong i.operands) → IsUpTo is n counts
+    → (¬ (IsPast is n)) × IsUpTo is (n + 1) counts
+quiet_step is n i counts at u l short h = uncounted is n i counts at u (few_alone is i short l) h
 
 -- an OpTypeStruct
 pub struct_answer : (i : PlainInst) (b : Bool) (P R : Type 0) → ¬ (HasTooMany i) → IsAnswer b P R

@@ -1,5 +1,4 @@
 -- Definitions that serve the code alone.
-pub mod First
 pub mod Kept
 pub mod Alone
 pub mod Counting

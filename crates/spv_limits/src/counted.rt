@@ -18,6 +18,7 @@ fn begins_character(octet: u8) -> bool
 }
 
 /// How many characters a text has.
+#[inline(never)]
 fn count_characters(text: &[u8]) -> usize
     ensures { result ≡ spec.character_count text.now }
 {
@@ -38,6 +39,7 @@ fn is_over(count: usize, limit: Limit) -> bool
 }
 
 /// Whether a text has too many characters. A text has no more of them than octets.
+#[inline(always)]
 fn is_long(text: &str) -> bool
     ensures { IsTrue result ↔ (table.most limit.Characters < spec.character_count text.now) }
 {
@@ -48,7 +50,8 @@ fn is_long(text: &str) -> bool
 }
 
 /// Whether an operand is a text with too many characters.
-fn is_long_text(operand: Operand<'_>) -> bool
+#[inline(always)]
+pub fn is_long_text(operand: Operand<'_>) -> bool
     ensures { IsTrue result ↔ alone.IsLong (plain_operand operand.entry) }
 {
     match operand {

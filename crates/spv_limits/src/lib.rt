@@ -9,6 +9,6 @@ mod past;
 mod table;
 mod tallies;
 
-pub use counted::has_long_text;
-pub use past::{Counts, is_quiet};
+pub use counted::{has_long_text, is_long_text};
+pub use past::{Counts, FEW, is_quiet};
 pub use table::{Limit, most};

@@ -1,6 +1,6 @@
 //! The instructions that pass a limit.
 
-ghost use Rattle.std.specs.Prelude.{◌≡◌, ◌↔◌, ◌⊎◌, ◌<◌, ◌+◌, ℕ, List, Some, IsTrue, IfOk, length, slice_get};
+ghost use Rattle.std.specs.Prelude.{◌≡◌, ◌↔◌, ◌⊎◌, ◌<◌, ◌≤◌, ◌+◌, ℕ, List, Some, IsTrue, IfOk, length, slice_get};
 ghost use Rattle.spv_module.specs.Module.{plain_inst, plain_operands};
 ghost use Rattle.spv_module.specs.Operand.{PlainInst};
 ghost use Rattle.spv_extended.specs.declared.set.Set.TheVariants.{OpenClStd, Other};
@@ -11,7 +11,7 @@ ghost use Rattle.spv_limits.specs.declared.past.Counts.{Counts};
 ghost use Rattle.spv_limits.specs.inner.Alone.{AreLong, HasTooMany, IsStdCall};
 ghost use Rattle.spv_limits.specs.inner.Counting.{AreDepths, IsAnswer, IsTooDeep, IsUpTo};
 
-use crate::counted::{before_indexes, has_long_text, has_too_many, has_too_many_arguments};
+use crate::counted::{has_long_text, has_too_many, has_too_many_arguments};
 use crate::depths::is_too_deep;
 use crate::kept::empty_map;
 use crate::tallies::{Variables, has_mode_too_many};
@@ -98,22 +98,23 @@ fn is_struct_past(
     Ok(is_too_deep(depths, definitions, number, inst)?)
 }
 
-/// Whether no instruction of an opcode passes a limit but by a text, and none of them is counted.
+/// So many operands, or fewer, pass no limit on how many there are.
+pub const FEW: usize = 255;
+
+/// Whether no instruction of an opcode that has `FEW` operands at most passes a limit but by a text, and none of them
+/// is counted.
 pub fn is_quiet(number: u16) -> bool
     ensures { IsTrue result → (is : List PlainInst) (n : ℕ) (i : PlainInst) (counts : Counts)
-        → slice_get is n ≡ Some i → i.opcode ≡ number → ¬ (AreLong i.operands) → IsUpTo is n counts
-        → (¬ (IsPast is n)) × IsUpTo is (n + 1) counts }
+        → slice_get is n ≡ Some i → i.opcode ≡ number → ¬ (AreLong i.operands) → length i.operands ≤ 255
+        → IsUpTo is n counts → (¬ (IsPast is n)) × IsUpTo is (n + 1) counts }
 {
     match number {
         opcode::TYPE_STRUCT
-        | opcode::TYPE_FUNCTION
-        | opcode::SWITCH
-        | opcode::EXT_INST
         | opcode::EXECUTION_MODE
         | opcode::EXECUTION_MODE_ID
         | opcode::VARIABLE
         | opcode::FUNCTION => false,
-        _ => before_indexes(number).is_none(),
+        _ => true,
     }
 }
 
@@ -144,7 +145,8 @@ impl Counts {
 
     /// Takes note of the instruction of a number, from 0, and answers whether it passes a limit (O22; SPIR-V
     /// Specification 1.6, section 2.17). All before it have been noted, but those of an opcode that `is_quiet`, which
-    /// have no text that is too long. Behind a yes or an error nothing is known of what is counted.
+    /// have no text that is too long and `FEW` operands at most. Behind a yes or an error nothing is known of what is
+    /// counted.
     ///
     /// Time is near-linear in the words of the instruction. An `AllocError` comes only where a growth of memory was
     /// refused.

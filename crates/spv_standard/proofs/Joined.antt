@@ -1,6 +1,5 @@
 -- The first broken rule of stage O, by what each crate answers; and what is told of it.
-use Rattle.std.proofs.Common.{◌≡◌, ◌⊎◌, ◌<◌, ◌≤◌, ◌∙◌, ℕ, List, Option, Some, None, inl, inr, length, refl, sym, ap, subst, arith}
-use Rattle.std.specs.Prelude.{slice_get}
+use Rattle.std.proofs.Common.{◌≡◌, ◌∙◌, ℕ, List, Option, Some, None, inl, inr, refl, sym, ap, subst, arith}
 use Rattle.std.proofs.lemmas.Bool.{cases_order}
 use Rattle.spv_table.specs.Table.{Table}
 use Rattle.spv_module.specs.Operand.{PlainInst}
@@ -18,7 +17,7 @@ use Rattle.spv_declarations.specs.Broken as by_declarations
 use Rattle.spv_interfaces.specs.Broken as by_interfaces
 use Rattle.spv_interfaces.specs.Interface.{IsMisfaced}
 use Rattle.spv_interfaces.specs.inner.First as misfaced_first
-use Rattle.spv_standard.specs.Broken.{Broken, KernelBroken, IsRefusal}
+use Rattle.spv_standard.specs.Broken.{KernelBroken, IsRefusal}
 use Rattle.spv_standard.specs.declared.found.Found.{Found}
 use Rattle.spv_standard.specs.inner.Alone.{Alone}
 use Rattle.spv_standard.specs.inner.Earlier.{IsEarlier}

@@ -2,8 +2,8 @@ pub mod Earlier
 pub mod Joined
 pub mod Lower
 pub mod Noting
+pub mod Silences
 pub mod Singles
 pub mod Stages
-pub mod Texts
 pub mod Within
 pub mod Worked

@@ -1,5 +1,5 @@
 -- The structs that are members of a struct stand before it, where the stages before break no rule.
-use Rattle.std.proofs.Common.{◌≡◌, ◌<◌, ◌≤◌, ◌⊎◌, ◌+◌, ◌++◌, ◌∙◌, ℕ, zero, suc, List, [], ◌∷◌, Option, Some, None, inl, inr}
+use Rattle.std.proofs.Common.{◌≡◌, ◌<◌, ◌++◌, ◌∙◌, ℕ, zero, suc, List, [], ◌∷◌, Some, None, inr}
 use Rattle.std.proofs.Common.{true, length, refl, sym, ap, subst, arith}
 use Rattle.std.specs.Prelude.{slice_get}
 use Rattle.std.proofs.lemmas.Option.{same_Some, slice_get-get_or, slice_get_within}
@@ -20,13 +20,13 @@ use Rattle.spv_layout.specs.Row.{PlainRow, repeated}
 use Rattle.spv_layout.specs.Rows.{row_of, class_of, rows}
 use Rattle.spv_layout.specs.Shape.{AreOf, Ends, FitsShape, HasForms, IsUse}
 use Rattle.spv_ids.specs.Definition.{IsDefinedAt, IsUsedAt}
-use Rattle.spv_ids.specs.Order.{Announces, HasOpcode, IsInOrder}
+use Rattle.spv_ids.specs.Order.{Announces, IsInOrder}
 use Rattle.spv_ids.specs.Sound.{IsSoundUse}
 use Rattle.spv_type_forms.specs.Form.{form_in}
 use Rattle.spv_type_forms.specs.Types.{class_in}
 use Rattle.spv_declarations.proofs.Early.{class_at, never_behind}
 use Rattle.spv_declarations.specs.inner.Early.{is_early}
-use Rattle.spv_limits.specs.Depth.{AreLower, IsMemberOf, IsStruct}
+use Rattle.spv_limits.specs.Depth.{AreLower}
 
 -- an id that a pointer type defines
 pub record IsPointerType (is : List PlainInst) (x : ℕ) : Type 0 where

@@ -1,10 +1,10 @@
 -- The first of the rules that single instructions break, by what is told at one instruction after the other.
-use Rattle.std.proofs.Common.{◌≡◌, ◌<◌, ◌≤◌, ◌⊎◌, ◌+◌, ℕ, List, Bool, true, false, not, Option, Some, None, inl, inr, length}
+use Rattle.std.proofs.Common.{◌≡◌, ◌<◌, ◌≤◌, ◌+◌, ℕ, List, Bool, true, false, not, Option, Some, None, inl, inr, length}
 use Rattle.std.proofs.Common.{refl, sym, subst, arith}
-use Rattle.std.specs.Prelude.{slice_get}
+use Rattle.std.specs.Prelude.{is_some, slice_get}
 use Rattle.std.proofs.lemmas.Bool.{cases_order}
 use Rattle.spv_table.specs.Table.{Table}
-use Rattle.spv_module.specs.Operand.{PlainInst}
+use Rattle.spv_module.specs.Operand.{Plain, PlainInst}
 use Rattle.spv_module.specs.declared.fault.Rule.{Rule}
 use Rattle.spv_module.specs.declared.fault.Rule.TheVariants.{O21, O22}
 use Rattle.spv_layout.specs.First.{rank_of, stage_of}
@@ -14,17 +14,20 @@ use Rattle.spv_kernel_operands.specs.inner.First as operands_first
 use Rattle.spv_kernel_operands.proofs.Firsts.{broken_there}
 use Rattle.spv_versions.specs.Broken as by_versions
 use Rattle.spv_versions.specs.Missing.{IsLateAt}
+use Rattle.spv_versions.specs.declared.late.Late.{Late}
 use Rattle.spv_limits.specs.Broken as by_limits
 use Rattle.spv_limits.specs.Past.{IsPast}
 use Rattle.spv_limits.specs.declared.past.Counts.{Counts}
 use Rattle.spv_limits.specs.inner.Counting.{IsUpTo}
 use Rattle.spv_standard.specs.declared.asked.Asked.{Asked}
-use Rattle.spv_standard.specs.inner.Asked.{IsAskedBy}
+use Rattle.spv_standard.specs.inner.Asked.{IsAskedAt, IsAskedBy}
 use Rattle.spv_standard.specs.declared.found.Found.{Found}
 use Rattle.spv_standard.specs.inner.Alone.{Alone, At}
 use Rattle.spv_standard.specs.inner.Earlier.{IsEarlier}
 use Rattle.spv_standard.specs.inner.First.{Either, IsFirstIn}
+use Rattle.spv_standard.specs.inner.Told.{AreTold}
 use Rattle.spv_standard.proofs.Earlier.{earlier_first, first_same}
+use Rattle.spv_standard.proofs.Silences.{hit_told, long_told}
 use Rattle.spv_standard.proofs.Stages.{of_operands}
 use Rattle.spv_standard.proofs.Within.{limits_within, versions_within}
 
@@ -159,17 +162,46 @@ pub never_so : {P : Type 0} (b : Bool) → b ≡ false → b ≡ true → P
 never_so true f t = let no : true ≡ false = f in absurd (cc)
 never_so false f t = let no : false ≡ true = t in absurd (cc)
 
-pub nothing_at : (G : Table) (minor : ℕ) (is : List PlainInst) (n : ℕ) (i : PlainInst) (a : Asked) (counts : Counts)
-    → slice_get is n ≡ Some i → IsAskedBy G minor is i.opcode a → a.operands ≡ false → a.version ≡ false
-    → a.limits ≡ false → IsUpTo is n counts → IsFirstIn (At n (Alone G minor is)) None × IsUpTo is (n + 1) counts
-nothing_at G minor is n i a counts at asked x y z up_to =
-    let l = asked.limits z n i counts at refl up_to in (
+-- what there is to ask of an instruction, where none of its operands calls for more than its opcode does
+pub none_same : (l : Late) (i : PlainInst) (os : List Plain) → os ≡ i.operands
+    → (¬ (AreTold l os)) × (length os ≤ 255) → (¬ (AreTold l i.operands)) × (length i.operands ≤ 255)
+none_same l i os e h = subst (λ (xs : List Plain). (¬ (AreTold l xs)) × (length xs ≤ 255)) e h
+
+pub asked_at : (G : Table) (minor : ℕ) (is : List PlainInst) (n : ℕ) (l : Late) (i : PlainInst) (a : Asked)
+    → slice_get is n ≡ Some i → IsAskedBy G minor is l i.opcode a
+    → (¬ (AreTold l i.operands)) × (length i.operands ≤ 255) → IsAskedAt G minor is n a
+asked_at G minor is n l i a at asked none = record {
+  operands = λ e r. asked.operands e n i at refl r;
+  version = λ e. asked.version e n i at refl (λ h. none.0 (hit_told l i.operands h));
+  limits = λ e counts up_to.
+      asked.limits e n i counts at refl (λ h. none.0 (long_told l i.operands h)) none.1 up_to;
+}
+
+pub nothing_at : (G : Table) (minor : ℕ) (is : List PlainInst) (n : ℕ) (a : Asked) (counts : Counts)
+    → IsAskedAt G minor is n a → a.operands ≡ false → a.version ≡ false → a.limits ≡ false → IsUpTo is n counts
+    → IsFirstIn (At n (Alone G minor is)) None × IsUpTo is (n + 1) counts
+nothing_at G minor is n a counts asked x y z up_to =
+    let l = asked.limits z counts up_to in (
       λ r m s h. elim h.1 [
         | inl h ↦ elim h [
-          | inl b ↦ asked.operands x n i at refl r b
-          | inr b ↦ asked.version y n i at refl (not_late G minor is n r b)
+          | inl b ↦ asked.operands x r b
+          | inr b ↦ asked.version y (not_late G minor is n r b)
         ]
         | inr b ↦ l.0 (not_past is n r b)
       ],
       l.1,
     )
+
+-- an answer that is none; and where all three are none at an instruction
+pub nothing_found : (o : Option Found) → is_some o ≡ false → o ≡ None
+nothing_found None e = refl
+nothing_found (Some f) e = cc
+
+pub none_of_three : (G : Table) (minor : ℕ) (is : List PlainInst) (n : ℕ) (operands version limits : Option Found)
+    → operands ≡ None → version ≡ None → limits ≡ None → IsFirstIn (At n (by_operands.Broken G is)) operands
+    → IsFirstIn (At n (by_versions.Broken G minor is)) version → IsFirstIn (At n (by_limits.Broken is)) limits
+    → IsFirstIn (At n (Alone G minor is)) None
+none_of_three G minor is n operands version limits x y z a b c =
+    alone_at G minor is n None None None None None (by_none (At n (by_operands.Broken G is)) operands x a)
+    (by_none (At n (by_versions.Broken G minor is)) version y b) (by_none (At n (by_limits.Broken is)) limits z c)
+    (refl, refl) (refl, refl)

@@ -4,4 +4,5 @@ pub mod Asked
 pub mod Earlier
 pub mod First
 pub mod Found
-pub mod Textless
+pub mod Silent
+pub mod Told

@@ -1,8 +1,7 @@
 //! The first of the rules that single instructions break: O14 to O23.
 
-ghost use Rattle.std.specs.Prelude.{◌≡◌, ◌+◌, ◌<◌, ℕ, Some, None, false, IfOk, length, slice_get};
+ghost use Rattle.std.specs.Prelude.{◌≡◌, ◌+◌, ◌<◌, ℕ, None, false, IfOk, length};
 ghost use Rattle.spv_table.specs.Table.{Table};
-ghost use Rattle.spv_module.specs.Operand.{PlainInst};
 ghost use Rattle.spv_module.specs.declared.fault.Rule.{Rule};
 ghost use Rattle.spv_kernel_operands.specs.Broken as operands;
 ghost use Rattle.spv_versions.specs.Broken as versions;
@@ -13,7 +12,7 @@ ghost use Rattle.spv_limits.specs.Depth.{AreLower};
 ghost use Rattle.spv_limits.specs.Past.{IsPast};
 ghost use Rattle.spv_limits.specs.inner.Counting.{IsUpTo};
 ghost use Rattle.spv_standard.specs.inner.Alone.{Alone, At};
-ghost use Rattle.spv_standard.specs.inner.Asked.{AreFit, IsAskedBy};
+ghost use Rattle.spv_standard.specs.inner.Asked.{AreFit, IsAskedAt};
 ghost use Rattle.spv_standard.specs.inner.First.{IsFirstIn};
 
 use crate::asked::{Asked, Notes};
@@ -106,15 +105,17 @@ fn found_by_all(
     requires lower { AreLower definitions.now }
     requires number { number < length definitions.now }
     requires counted { IsUpTo definitions.now number counts.old }
-    ensures { (minor : ℕ) (i : PlainInst) → IsLateBy capabilities.now.table minor definitions.now late.now
-        → slice_get definitions.now number ≡ Some i
-        → IsAskedBy capabilities.now.table minor definitions.now i.opcode asked
+    ensures { (minor : ℕ) → IsLateBy capabilities.now.table minor definitions.now late.now
+        → IsAskedAt capabilities.now.table minor definitions.now number asked
         → IfOk result (λ o. IsFirstIn (At number (Alone capabilities.now.table minor definitions.now)) o
         × (o ≡ None → IsUpTo definitions.now (number + 1) counts.new)) }
 {
     let operands = operands_at(alloc, capabilities, definitions, number, asked.operands)?;
     let version = version_at(late, definitions, number, asked.version);
     let limits = limits_at(counts, definitions, number, asked.limits)?;
+    if operands.is_none() && version.is_none() && limits.is_none() {
+        return Ok(None);
+    }
     let found = earlier(operands, version);
     Ok(earlier(found, limits))
 }
@@ -134,9 +135,8 @@ fn found_at(
     requires lower { AreLower definitions.now }
     requires number { number < length definitions.now }
     requires counted { IsUpTo definitions.now number counts.old }
-    ensures { (minor : ℕ) (i : PlainInst) → IsLateBy capabilities.now.table minor definitions.now late.now
-        → slice_get definitions.now number ≡ Some i
-        → IsAskedBy capabilities.now.table minor definitions.now i.opcode asked
+    ensures { (minor : ℕ) → IsLateBy capabilities.now.table minor definitions.now late.now
+        → IsAskedAt capabilities.now.table minor definitions.now number asked
         → IfOk result (λ o. IsFirstIn (At number (Alone capabilities.now.table minor definitions.now)) o
         × (o ≡ None → IsUpTo definitions.now (number + 1) counts.new)) }
 {
@@ -154,11 +154,12 @@ fn found_at(
     )
 }
 
-/// The first of the rules O14 to O23 that is broken, by instruction and then by number. `late` is what the module has too
-/// early, and `count` how many instructions there are.
+/// The first of the rules O14 to O23 that is broken, by instruction and then by number. `late` is what the module has
+/// too early, and `count` how many instructions there are.
 ///
-/// What there is to ask of an instruction is noted by its opcode, so that most instructions take one look. Time is
-/// near-linear in the words of the module. An `AllocError` comes only where a growth of memory was refused.
+/// What there is to ask of an instruction is noted by its opcode, so that of most instructions the operands alone are
+/// looked at, or nothing. Time is near-linear in the words of the module. An `AllocError` comes only where a growth of
+/// memory was refused.
 pub fn first_alone(
     alloc: Global,
     capabilities: &Capabilities<'_, '_>,
@@ -177,7 +178,7 @@ pub fn first_alone(
     let mut notes = Notes::new();
     let mut counts = Counts::new(alloc);
     for number in 0..count {
-        let asked = notes.asked(late, definitions.inst(number).opcode);
+        let asked = notes.asked_at(late, definitions.inst(number));
         if let Some(found) = found_at(
             alloc,
             capabilities,

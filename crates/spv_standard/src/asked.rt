@@ -1,97 +1,155 @@
 //! What there is to ask of the instructions of an opcode.
 
-ghost use Rattle.std.specs.Prelude.{◌≡◌, ℕ, List, IsTrue, false};
+ghost use Rattle.std.specs.Prelude.{◌≡◌, ℕ, List, Some, IsTrue, false, slice_get};
 ghost use Rattle.spv_table.specs.Table.{Table};
+ghost use Rattle.spv_module.specs.Module.{plain_inst};
 ghost use Rattle.spv_module.specs.Operand.{PlainInst};
+ghost use Rattle.spv_versions.specs.declared.late.Late.{Late};
 ghost use Rattle.spv_versions.specs.inner.Late.{IsLateBy};
-ghost use Rattle.spv_standard.specs.inner.Asked.{AreFit, AreNoted, IsAskedBy};
+ghost use Rattle.spv_standard.specs.inner.Asked.{AreFit, AreNoted, IsAskedAt, IsAskedBy};
 
-use crate::textless::is_textless;
-use spv_layout::is_unkinded;
+use crate::silent::is_silent;
+use crate::told::are_told;
+use spv_module::Inst;
 use spv_versions::Late;
 
-/// Which of the rules on single instructions there are to ask of an instruction, by its opcode.
+/// Which of the rules on single instructions there are to ask of an instruction.
 #[derive(Clone, Copy)]
 pub struct Asked {
+    /// Whether it is known what there is to ask.
+    is_known: bool,
     /// O14 to O20, and O23.
     pub operands: bool,
     /// O21.
     pub version: bool,
     /// O22.
     pub limits: bool,
+    /// Of an opcode: O21 and O22, if the operands of an instruction call for it.
+    words: bool,
 }
 
 impl Asked {
-    /// Whether there is nothing to ask.
+    /// Whether there is nothing to ask of an instruction.
     #[inline(always)]
     pub fn is_nothing(self) -> bool
         ensures { IsTrue result → (self.operands ≡ false) × (self.version ≡ false) × (self.limits ≡ false) }
     {
         !self.operands && !self.version && !self.limits
     }
+
+    /// What there is to ask of an instruction, by that of its opcode.
+    #[inline(always)]
+    fn at(self, late: &Late, inst: &Inst<'_>) -> Asked
+        ensures { (G : Table) (minor : ℕ) (is : List PlainInst) (n : ℕ) → IsLateBy G minor is late.now
+            → slice_get is n ≡ Some (plain_inst inst.now)
+            → IsAskedBy G minor is late.now (plain_inst inst.now).opcode self → IsAskedAt G minor is n result }
+    {
+        if !self.words {
+            return self;
+        }
+        if !are_told(late, inst.operands.as_slice()) {
+            return self;
+        }
+        Asked {
+            is_known: true,
+            operands: self.operands,
+            version: true,
+            limits: true,
+            words: true,
+        }
+    }
 }
 
-/// Those of an opcode.
+/// What there is to ask of the instructions of an opcode.
 fn asked_of(late: &Late, opcode: u16) -> Asked
     ensures { (G : Table) (minor : ℕ) (is : List PlainInst) → IsLateBy G minor is late.now → AreFit G is
-        → IsAskedBy G minor is opcode result }
+        → IsAskedBy G minor is late.now opcode result }
 {
+    let is_kept = spv_kernel_operands::is_quiet(opcode);
+    let is_timely = late.is_quiet(opcode);
+    let is_uncounted = spv_limits::is_quiet(opcode);
+    let has_silence = is_silent(opcode);
     Asked {
-        operands: !spv_kernel_operands::is_quiet(opcode),
-        version: !(is_unkinded(opcode) && late.is_quiet(opcode)),
-        limits: !(is_textless(opcode) && spv_limits::is_quiet(opcode)),
+        is_known: true,
+        operands: !is_kept,
+        version: !is_timely,
+        limits: !is_uncounted,
+        words: !has_silence,
     }
 }
 
 /// Of how many opcodes it is noted what there is to ask: nearly all instructions have lower ones.
 const NOTED: usize = 512;
 
+/// Of an opcode of which nothing is noted.
+const UNKNOWN: Asked = Asked {
+    is_known: false,
+    operands: false,
+    version: false,
+    limits: false,
+    words: false,
+};
+
 /// What is noted of the opcodes below that number.
 #[derive(Drop)]
 pub struct Notes {
-    notes: [Option<Asked>; NOTED],
+    notes: [Asked; NOTED],
 }
 
 impl Notes {
     /// Nothing is noted yet.
     pub fn new() -> Notes
-        ensures { (G : Table) (minor : ℕ) (is : List PlainInst) → AreNoted G minor is result.notes }
+        ensures { (G : Table) (minor : ℕ) (is : List PlainInst) (late : Late) → AreNoted G minor is late result.notes }
     {
         Notes {
-            notes: [None; NOTED],
+            notes: [UNKNOWN; NOTED],
         }
     }
 
-    /// What there is to ask of an instruction of an opcode, which is noted.
+    /// What there is to ask of the instructions of an opcode, which is noted.
     #[inline(always)]
-    pub fn asked(&mut self, late: &Late, opcode: u16) -> Asked
+    fn asked(&mut self, late: &Late, opcode: u16) -> Asked
         ensures asked { (G : Table) (minor : ℕ) (is : List PlainInst) → IsLateBy G minor is late.now → AreFit G is
-            → AreNoted G minor is self.old.notes → IsAskedBy G minor is opcode result }
+            → AreNoted G minor is late.now self.old.notes → IsAskedBy G minor is late.now opcode result }
         ensures noted { (G : Table) (minor : ℕ) (is : List PlainInst) → IsLateBy G minor is late.now → AreFit G is
-            → AreNoted G minor is self.old.notes → AreNoted G minor is self.new.notes }
+            → AreNoted G minor is late.now self.old.notes → AreNoted G minor is late.now self.new.notes }
     {
         let place = usize::from(opcode);
         if place < NOTED {
-            if let Some(asked) = self.notes[place] {
+            let asked = self.notes[place];
+            if asked.is_known {
                 return asked;
             }
         }
         self.ask(late, opcode)
     }
 
-    /// What there is to ask of an instruction of an opcode of which nothing is noted.
+    /// What there is to ask of the instructions of an opcode of which nothing is noted.
     #[inline(never)]
     fn ask(&mut self, late: &Late, opcode: u16) -> Asked
         ensures asked { (G : Table) (minor : ℕ) (is : List PlainInst) → IsLateBy G minor is late.now → AreFit G is
-            → IsAskedBy G minor is opcode result }
+            → IsAskedBy G minor is late.now opcode result }
         ensures noted { (G : Table) (minor : ℕ) (is : List PlainInst) → IsLateBy G minor is late.now → AreFit G is
-            → AreNoted G minor is self.old.notes → AreNoted G minor is self.new.notes }
+            → AreNoted G minor is late.now self.old.notes → AreNoted G minor is late.now self.new.notes }
     {
         let asked = asked_of(late, opcode);
         let place = usize::from(opcode);
         if place < NOTED {
-            self.notes[place] = Some(asked);
+            self.notes[place] = asked;
         }
         asked
+    }
+
+    /// What there is to ask of an instruction. That of its opcode is noted.
+    #[inline(always)]
+    pub fn asked_at(&mut self, late: &Late, inst: &Inst<'_>) -> Asked
+        ensures asked { (G : Table) (minor : ℕ) (is : List PlainInst) (n : ℕ) → IsLateBy G minor is late.now
+            → AreFit G is → AreNoted G minor is late.now self.old.notes → slice_get is n ≡ Some (plain_inst inst.now)
+            → IsAskedAt G minor is n result }
+        ensures noted { (G : Table) (minor : ℕ) (is : List PlainInst) → IsLateBy G minor is late.now → AreFit G is
+            → AreNoted G minor is late.now self.old.notes → AreNoted G minor is late.now self.new.notes }
+    {
+        let asked = self.asked(late, inst.opcode);
+        asked.at(late, inst)
     }
 }

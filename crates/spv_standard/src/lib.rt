@@ -8,6 +8,7 @@ mod check;
 mod found;
 pub mod laws;
 mod passes;
-mod textless;
+mod silent;
+mod told;
 
 pub use check::standard_check;

@@ -1,18 +1,16 @@
 -- What is asked of an instruction, by what is told of its module.
-use Rattle.std.proofs.Common.{◌≡◌, ◌⊎◌, ℕ, List, [], ◌∷◌, Bool, Option, Some, sym, subst, inl, inr}
+use Rattle.std.proofs.Common.{◌≡◌, ◌⊎◌, ℕ, List, Some, sym, subst, inl, inr}
 use Rattle.std.specs.Prelude.{slice_get}
-use Rattle.std.specs.List.{AllByRecursion}
 use Rattle.spv_table.specs.Table.{Table}
-use Rattle.spv_module.specs.Operand.{Plain, Value, Mask, PlainInst}
-use Rattle.spv_layout.specs.inner.Unkinded.{IsUnkinded}
+use Rattle.spv_module.specs.Operand.{PlainInst}
 use Rattle.spv_versions.specs.declared.late.Late.{Late}
 use Rattle.spv_versions.specs.declared.table.Kind.TheVariants as kind
 use Rattle.spv_versions.specs.Missing.{IsLateAt}
 use Rattle.spv_versions.specs.Table.{lines}
-use Rattle.spv_versions.specs.inner.Late.{IsLateBy}
+use Rattle.spv_versions.specs.inner.Late.{AreHitIn, IsLateBy}
 use Rattle.spv_versions.specs.inner.Lines.{IsListed}
 use Rattle.spv_versions.specs.inner.Shapes.{HasLateForm}
-use Rattle.spv_versions.specs.inner.Told.{AreHit, IsInstHit, IsOperandHit}
+use Rattle.spv_versions.specs.inner.Told.{IsInstHit}
 use Rattle.spv_versions.proofs.Lateness.{hit_late, late_at, late_hit, late_inst}
 
 -- the instruction has what is missing, or a form that the version does not have
@@ -37,26 +35,15 @@ told_late G minor is l n i by e h =
     (late_hit G minor is l.missing.lines l.missing.is_without_meaning l.kinds.numbers i by.told by.numbers
     (late_inst G minor is n i e h))
 
--- no operand that is neither a value nor a mask is missing
-none_of : (flags : List Bool) (ns : List (Option ℕ)) (o : Plain) → IsUnkinded o → ¬ (IsOperandHit flags ns o)
-none_of flags ns (Value k v) u = absurd u
-none_of flags ns (Mask k m) u = absurd u
-none_of flags ns o u = λ h. h
-
-none_hit : (flags : List Bool) (ns : List (Option ℕ)) (os : List Plain) → AllByRecursion IsUnkinded os
-    → ¬ (AreHit flags ns os)
-none_hit flags ns [] u = λ h. h
-none_hit flags ns (o ∷ os) u = λ h. elim h [ inl a ↦ none_of flags ns o u.0 a | inr b ↦ none_hit flags ns os u.1 b ]
-
 pub quiet : (G : Table) (minor : ℕ) (is : List PlainInst) (l : Late) (number n : ℕ) (i : PlainInst)
     → IsLateBy G minor is l → ¬ (IsListed lines l.missing.lines kind.Opcode number)
     → ((js : List PlainInst) (j : PlainInst) → j.opcode ≡ number
     → ¬ (HasLateForm js l.minor l.missing.is_without_meaning j)) → slice_get is n ≡ Some i → i.opcode ≡ number
-    → AllByRecursion IsUnkinded i.operands → ¬ (IsLateAt G minor is n)
-quiet G minor is l number n i by listed form e same alone = λ late. elim (told_late G minor is l n i by e late) [
+    → ¬ (AreHitIn l i.operands) → ¬ (IsLateAt G minor is n)
+quiet G minor is l number n i by listed form e same none = λ late. elim (told_late G minor is l n i by e late) [
   | inl a ↦ elim a [
     | inl o ↦ listed (subst (λ (m : ℕ). IsListed lines l.missing.lines kind.Opcode m) same o)
-    | inr os ↦ none_hit l.missing.lines l.kinds.numbers i.operands alone os
+    | inr os ↦ none os
   ]
   | inr f ↦ form is i same f
 ]

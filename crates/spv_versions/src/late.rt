@@ -1,15 +1,13 @@
 //! Which instructions have what their module's version does not have.
 
 ghost use Rattle.std.specs.Prelude.{◌≡◌, ◌≤◌, ◌<◌, ◌↔◌, ℕ, Bool, Some, IsTrue, List, length, slice_get, slice_index};
-ghost use Rattle.std.specs.List.{AllByRecursion};
 ghost use Rattle.spv_table.specs.Table.{Table};
 ghost use Rattle.spv_module.specs.declared.opcode.TheConstants as opcode;
 ghost use Rattle.spv_module.specs.Module.{plain_inst, plain_operand, plain_operands};
 ghost use Rattle.spv_module.specs.Operand.{PlainInst};
-ghost use Rattle.spv_layout.specs.inner.Unkinded.{IsUnkinded};
 ghost use Rattle.spv_versions.specs.Missing.{IsLateAt};
-ghost use Rattle.spv_versions.specs.inner.Late.{AreFloors, IsLateBy};
-ghost use Rattle.spv_versions.specs.inner.Told.{AreHit, AreLeast, IsAnyHit, IsInstHit, IsOperandHit, kinds as all_kinds};
+ghost use Rattle.spv_versions.specs.inner.Late.{AreFloored, AreFloors, AreHitIn, IsHitIn, IsLateBy};
+ghost use Rattle.spv_versions.specs.inner.Told.{AreHit, AreLeast, IsAnyHit, IsInstHit, kinds as all_kinds};
 ghost use Rattle.spv_versions.specs.inner.Told.{place_of};
 
 use crate::kinds::Kinds;
@@ -105,12 +103,10 @@ impl Late {
         self.kinds.is_any_hit(&self.missing, kind, is_mask, value)
     }
 
-    /// Whether an operand is a value, or has a set bit, that is missing.
+    /// Whether an operand is a value, or has a set bit, that is missing: each instruction that has it breaks O21.
     #[inline(always)]
-    fn is_operand_missing(&self, operand: Operand<'_>) -> bool
-        ensures { AreFloors self.now.missing.lines self.now.kinds.numbers self.now.floors
-            → IsTrue result
-            ↔ IsOperandHit self.now.missing.lines self.now.kinds.numbers (plain_operand operand.entry) }
+    pub fn is_operand_missing(&self, operand: Operand<'_>) -> bool
+        ensures { AreFloored self.now → IsTrue result ↔ IsHitIn self.now (plain_operand operand.entry) }
     {
         match operand {
             Operand::Value { kind, value } => self.is_any_hit(kind, false, value),
@@ -152,7 +148,7 @@ impl Late {
     pub fn is_quiet(&self, number: u16) -> bool
         ensures { IsTrue result → (G : Table) (minor : ℕ) (is : List PlainInst) → IsLateBy G minor is self.now
             → (n : ℕ) (i : PlainInst) → slice_get is n ≡ Some i → i.opcode ≡ number
-            → AllByRecursion IsUnkinded i.operands → ¬ (IsLateAt G minor is n) }
+            → ¬ (AreHitIn self.now i.operands) → ¬ (IsLateAt G minor is n) }
     {
         !self.missing.has_opcode(number) && !may_have_late_form(&self.missing, self.minor, number)
     }

@@ -169,7 +169,8 @@ impl Kind {
 /// How many kinds of numbers there are.
 pub const ALL_KINDS: usize = 10;
 
-/// By the place of a kind a number that no number of the kind in table X is below.
+/// By the place of a kind a number that no number of the kind in table X is below. It is reckoned from the table by
+/// hand, and compared with it by a proof: a new line of table X may lower a number here.
 pub static UNDATED: [u32; ALL_KINDS] = [
     u32::MAX,
     4423,

@@ -1,5 +1,5 @@
 -- Which of two broken rules is told. (For the code alone.)
-use Rattle.std.specs.Prelude.{◌≡◌, ◌<◌, ◌≤◌, ◌⊎◌, ℕ, Option, Some, None, IfSome, MatchOption}
+use Rattle.std.specs.Prelude.{◌≡◌, ◌<◌, ◌≤◌, ◌⊎◌, Option, Some, None, IfSome, MatchOption}
 use Rattle.spv_layout.specs.First.{rank_of}
 use Rattle.spv_standard.specs.declared.found.Found.{Found}
 

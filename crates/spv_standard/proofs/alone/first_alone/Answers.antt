@@ -1,5 +1,4 @@
 use Rattle.std.proofs.Common.{◌≤◌, length, arith}
-use Rattle.spv_module.specs.Module.{plain_inst}
 use Rattle.spv_standard.proofs.Singles.{first_here, none_alone, none_further}
 use Rattle.spv_standard.proofs.alone.first_alone.Goals as goal
 
@@ -7,7 +6,7 @@ pub loop-number-init : goal.loop-number-init
 loop-number-init c = (
   λ minor late. (
     λ r m s l b. absurd (omega (arith, l)),
-    c.new-notes.ensures c.args.capabilities.now.table minor c.args.definitions.now,
+    c.new-notes.ensures c.args.capabilities.now.table minor c.args.definitions.now c.args.late.now,
   ),
   c.new-counts.ensures c.args.definitions.now,
 )
@@ -19,28 +18,29 @@ pub returns-in-Some : goal.returns-in-Some
 returns-in-Some c = λ minor late.
     let G = c.args.capabilities.now.table in
     let is = c.args.definitions.now in
+    let n = c.loop-number.number in
     let inv = c.loop-number.invariant.0 minor late in
-    let asked = c.asked-asked.ensures.asked G minor is late c.requires.fit inv.1 in
-    let found = c.in_ok-found.ensures minor (plain_inst c.inst.result.now) late c.inst.ensures asked in
-    first_here G minor is c.loop-number.number c.in_ok-found.field-0 c.in-Some.found c.in-Some.is found.0 inv.0
+    let asked = c.asked_at-asked.ensures.asked G minor is n late c.requires.fit inv.1 c.inst.ensures in
+    let found = c.in_ok-found.ensures minor late asked in
+    first_here G minor is n c.in_ok-found.field-0 c.in-Some.found c.in-Some.is found.0 inv.0
 
 pub loop-number-preserved : goal.loop-number-preserved
 loop-number-preserved c =
     let G = c.args.capabilities.now.table in
     let is = c.args.definitions.now in
-    let i = plain_inst c.inst.result.now in (
+    let n = c.loop-number.number in (
       λ minor late.
           let inv = c.loop-number.invariant.0 minor late in
-          let asked = c.asked-asked.ensures.asked G minor is late c.requires.fit inv.1 in
-          let found = c.in_ok-found.ensures minor i late c.inst.ensures asked in (
-            none_further G minor is c.loop-number.number c.in_ok-found.field-0 c.in_default.is found.0 inv.0,
-            c.asked-asked.ensures.noted G minor is late c.requires.fit inv.1,
+          let asked = c.asked_at-asked.ensures.asked G minor is n late c.requires.fit inv.1 c.inst.ensures in
+          let found = c.in_ok-found.ensures minor late asked in (
+            none_further G minor is n c.in_ok-found.field-0 c.in_default.is found.0 inv.0,
+            c.asked_at-asked.ensures.noted G minor is late c.requires.fit inv.1,
           ),
       let minor = c.requires.late.0 in
           let late = c.requires.late.1 in
           let inv = c.loop-number.invariant.0 minor late in
-          let asked = c.asked-asked.ensures.asked G minor is late c.requires.fit inv.1 in
-          (c.in_ok-found.ensures minor i late c.inst.ensures asked).1 c.in_default.is,
+          let asked = c.asked_at-asked.ensures.asked G minor is n late c.requires.fit inv.1 c.inst.ensures in
+          (c.in_ok-found.ensures minor late asked).1 c.in_default.is,
     )
 
 pub returns : goal.returns

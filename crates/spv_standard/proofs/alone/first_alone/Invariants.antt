@@ -9,5 +9,5 @@ abbrev pub invariant-loop-number : goal.invariant-loop-number
 invariant-loop-number l =
     ((minor : ℕ) → IsLateBy l.capabilities.table minor l.definitions l.late
     → NoneBelow l.capabilities.table minor l.definitions l.number
-    × AreNoted l.capabilities.table minor l.definitions l.notes.notes)
+    × AreNoted l.capabilities.table minor l.definitions l.late l.notes.notes)
     × IsUpTo l.definitions l.number l.counts

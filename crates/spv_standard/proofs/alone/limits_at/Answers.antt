@@ -1,4 +1,3 @@
-use Rattle.std.proofs.Common.{◌≡◌}
 use Rattle.spv_limits.proofs.Passing.{answer_no, answer_yes}
 use Rattle.spv_standard.proofs.Singles.{limits_at, no_limits_at}
 use Rattle.spv_standard.proofs.alone.limits_at.Goals as goal

@@ -1,0 +1,96 @@
+-- An instruction whose row asks for no text, no value and no mask has none, and so none by which it breaks a rule.
+use Rattle.std.proofs.Common.{◌≡◌, ◌≤◌, ◌<◌, ◌+◌, ◌∙◌, ◌++◌, suc, List, [], ◌∷◌, inl, inr, refl, ap, true}
+use Rattle.std.proofs.Common.{Some, length, arith, length-append}
+use Rattle.std.specs.List.{AllByRecursion}
+use Rattle.spv_table.specs.Table.{Table}
+use Rattle.spv_module.specs.Operand.{Plain, PlainInst}
+use Rattle.spv_module.specs.Operand as operand
+use Rattle.spv_layout.specs.declared.form.Form.{Form}
+use Rattle.spv_layout.specs.declared.form.Form.TheVariants as form
+use Rattle.spv_layout.specs.Row.{PlainRow, RowEnding}
+use Rattle.spv_layout.specs.Rows.{row_of}
+use Rattle.spv_layout.specs.Shape.{is_of, AreOf, Ends, FitsShape}
+use Rattle.spv_layout.proofs.Derivatives.{both_hold, both_true}
+use Rattle.spv_limits.specs.inner.Alone.{AreLong}
+use Rattle.spv_versions.specs.declared.late.Late.{Late}
+use Rattle.spv_versions.specs.inner.Late.{AreHitIn}
+use Rattle.spv_standard.specs.inner.Silent.{IsSilent, are_silent, is_silent, is_silent_ending}
+use Rattle.spv_standard.specs.inner.Told.{AreTold}
+
+one_silent : (G : Table) (f : Form) (o : Plain) → is_silent f ≡ true → is_of G f o ≡ true → IsSilent o
+one_silent G form.Text o h k = cc
+one_silent G form.Other o h k = cc
+one_silent G (form.Kind name) o h k = cc
+one_silent G f (operand.Text t) h k = cc
+one_silent G f (operand.Value kind x) h k = cc
+one_silent G f (operand.Mask kind x) h k = cc
+one_silent G f o h k = tt
+
+each_silent : (G : Table) (fs : List Form) (os : List Plain) → are_silent fs ≡ true → AreOf G fs os
+    → AllByRecursion IsSilent os
+each_silent G _ _ h AreOf.none = tt
+each_silent G _ _ h (AreOf.more f o fs os k r) =
+    let p = both_hold (is_silent f) (are_silent fs) h in
+    (one_silent G f o p.0 k, each_silent G fs os p.1 r)
+
+silent_joined : (fs gs : List Form) → are_silent fs ≡ true → are_silent gs ≡ true → are_silent (fs ++ gs) ≡ true
+silent_joined [] gs h g = g
+silent_joined (f ∷ fs) gs h g =
+    let p = both_hold (is_silent f) (are_silent fs) h in
+    both_true (is_silent f) (are_silent (fs ++ gs)) p.0 (silent_joined fs gs p.1 g)
+
+silent_ends : (e : RowEnding) (fs : List Form) → Ends e fs → is_silent_ending e ≡ true → are_silent fs ≡ true
+silent_ends _ _ Ends.nothing h = refl
+silent_ends _ _ (Ends.absent f) h = refl
+silent_ends _ _ (Ends.present f) h = both_true (is_silent f) true h refl
+silent_ends _ _ _ h = cc
+
+-- such an ending has one operand at most
+short_ends : (e : RowEnding) (fs : List Form) → Ends e fs → is_silent_ending e ≡ true → length fs ≤ 1
+short_ends _ _ Ends.nothing h = omega arith
+short_ends _ _ (Ends.absent f) h = omega arith
+short_ends _ _ (Ends.present f) h = omega arith
+short_ends _ _ _ h = cc
+
+-- there are as many operands as forms
+as_many : (G : Table) (fs : List Form) (os : List Plain) → AreOf G fs os → length os ≡ length fs
+as_many G _ _ AreOf.none = refl
+as_many G _ _ (AreOf.more f o fs os k r) = ap suc (as_many G fs os r)
+
+-- the operands of an instruction that fits such a row
+pub silent_operands : (G : Table) (i : PlainInst) (r : PlainRow) → row_of i.opcode ≡ Some r
+    → length r.fixed < 255 → are_silent r.fixed ≡ true → is_silent_ending r.ending ≡ true → FitsShape G i
+    → AllByRecursion IsSilent i.operands × (length i.operands ≤ 255)
+silent_operands G i r k l a b f =
+    let x = f.has in
+    let e : x.row ≡ r = (let known = x.known in cc) in
+    let l' : length x.row.fixed < 255 = rw e l in
+    let a' : are_silent x.row.fixed ≡ true = rw e a in
+    let b' : is_silent_ending x.row.ending ≡ true = rw e b in
+    let s = silent_joined x.row.fixed x.rest a' (silent_ends x.row.ending x.rest x.ending b') in
+    let s' : are_silent f.forms ≡ true = rw x.forms s in
+    let short : length x.rest ≤ 1 = short_ends x.row.ending x.rest x.ending b' in
+    let whole : length f.forms ≡ length x.row.fixed + length x.rest =
+    ap length x.forms ∙ length-append x.row.fixed x.rest in
+    let same : length i.operands ≡ length f.forms = as_many G f.forms i.operands x.each in
+    (each_silent G f.forms i.operands s' x.each, omega (arith, l', short, whole, same))
+
+-- none of them breaks a rule by itself
+pub never_told : (l : Late) (os : List Plain) → AllByRecursion IsSilent os → ¬ (AreTold l os)
+never_told l [] h a = a
+never_told l (operand.Text t ∷ os) h a = h.0
+never_told l (operand.Value k v ∷ os) h a = h.0
+never_told l (operand.Mask k m ∷ os) h a = h.0
+never_told l (o ∷ os) h a = elim a [
+  | inl own ↦ elim own [ inl long ↦ absurd long | inr hit ↦ absurd hit ]
+  | inr more ↦ never_told l os h.1 more
+]
+
+-- what a crate finds among operands is found among them
+pub hit_told : (l : Late) (os : List Plain) → AreHitIn l os → AreTold l os
+hit_told l [] h = h
+hit_told l (o ∷ os) h = elim h [ inl own ↦ inl (inr own) | inr more ↦ inr (hit_told l os more) ]
+
+pub long_told : (l : Late) (os : List Plain) → AreLong os → AreTold l os
+long_told l [] h = h
+long_told l (o ∷ os) h = elim h [ inl own ↦ inl (inl own) | inr more ↦ inr (long_told l os more) ]
