@@ -270,6 +270,7 @@ class Evidence:
     other_operand: Optional[Operand] = None
     on_the_way: Optional[int] = None
     given: Optional[Instruction] = None
+    used_by: Optional[Instruction] = None
     since: Optional[str] = None
 
     def __bool__(self) -> bool:
@@ -366,6 +367,7 @@ _MEMBERS: Dict[str, Tuple[str, Callable[[Any], Any]]] = {
     "otherOperand": ("other_operand", _made_of(Operand)),
     "onTheWay": ("on_the_way", _same),
     "given": ("given", _instruction),
+    "usedBy": ("used_by", _instruction),
     "since": ("since", _same),
 }
 

@@ -192,6 +192,7 @@ LINES = {
     "otherOperand": lambda told, _: [f"other operand: {told['index']}{operand_part(told)}"],
     "onTheWay": result("on the way"),
     "given": inst("given"),
+    "usedBy": inst("used by"),
     "since": text("since"),
 }
 
@@ -595,12 +596,14 @@ def schema_refuses(_program, _folder):
     """The schema refuses what is no object of the program, so that a comparison with it says something."""
     fault = {"verdict": "fault", "code": "A1", "inst": 1, "word": 9, "rule": "A rule. [2.16]", "section": "2.16"}
     fault["profile"] = "own"
+    line = {"inst": 1, "text": "a"}
     good = [
         {"verdict": "valid", "profile": "opencl"},
         {"file": "a", "verdict": "error", "error": "memory"},
         fault,
-        {**fault, "walk": [1], "operand": {"index": 2, "id": 3}, "defined": {"inst": 1, "text": "a"}},
+        {**fault, "walk": [1], "operand": {"index": 2, "id": 3}, "defined": line},
         {**fault, "code": "O22", "most": 255},
+        {**fault, "code": "O4", "defined": line, "calls": [1], "usedBy": line},
     ]
     bad = [
         {},
@@ -615,6 +618,7 @@ def schema_refuses(_program, _folder):
     ]
     bad += [{**fault, "walk": ["%1"]}, {**fault, "walk": [1]}, {**fault, "other": 1}, {**fault, "code": "W2"}]
     bad += [{**fault, "otherOperand": {"index": 2}}, {**fault, "code": "O21", "since": "4"}]
+    bad += [{**fault, "defined": line}, {**fault, "calls": [1]}, {**fault, "defined": line, "usedBy": line}]
     bad += [{name: value for name, value in fault.items() if name != lost} for lost in fault]
     wrong = [it for it in good if not validator().is_valid(it)] + [it for it in bad if validator().is_valid(it)]
     return f"  {wrong}" if wrong else None

@@ -373,6 +373,8 @@ class Judge(ToldOfTargets, extended.ToldOfCalls, opencl_std.ToldOfTypes, standar
         number = self.numbered(text)
         if number is None:
             return False
+        if self.code == "O4":
+            return self.is_lacking(number)
         of = self.inst.operands[self.operand()][1]
         if self.facts.insts[number].result != of:
             return False
@@ -666,6 +668,8 @@ class Judge(ToldOfTargets, extended.ToldOfCalls, opencl_std.ToldOfTypes, standar
         return self.facts.insts[self.facts.places.function[self.number]].result
 
     def is_calls(self, text):
+        if self.code == "O4":
+            return self.is_chain(ids_in(text), *self.ends_of_calls())
         starts = {it.operands[1][1] for it in self.facts.insts if it.opcode == 15}
         return self.is_chain(ids_in(text), starts, self.caller())
 

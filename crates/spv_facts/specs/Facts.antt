@@ -158,7 +158,7 @@ evidence_facts is n (evidence.Miscast k role m) = fact.Operand n k ∷ fact.Role
 evidence_facts is n (evidence.Capability c implied) = fact.Capability c implied ∷ []
 evidence_facts is n (evidence.Needs l) = lister_facts is n l ++ (fact.NeedsOneOf n l ∷ [])
 evidence_facts is n evidence.NoEntry = fact.NoEntry ∷ []
-evidence_facts is n evidence.Alone = []
+evidence_facts is n (evidence.NotInInterface v calls m) = fact.Defined v ∷ fact.Calls calls ∷ fact.UsedBy m ∷ []
 evidence_facts is n (evidence.Entry part) = fact.Part part ∷ []
 evidence_facts is n (evidence.Condition c k m wanted found types) =
     failing_facts n c k m ++ condition_facts is n c k wanted found types

@@ -61,6 +61,7 @@ spelling_of key.Most = (codes "most", codes "most")
 spelling_of key.OtherOperand = (codes "other operand", codes "otherOperand")
 spelling_of key.OnTheWay = (codes "on the way", codes "onTheWay")
 spelling_of key.Given = (codes "given", codes "given")
+spelling_of key.UsedBy = (codes "used by", codes "usedBy")
 spelling_of key.Since = (codes "since", codes "since")
 
 -- in a line, and in JSON
@@ -131,5 +132,6 @@ key_of (fact.Most n) = key.Most
 key_of (fact.OtherOperand n k) = key.OtherOperand
 key_of (fact.OnTheWay b) = key.OnTheWay
 key_of (fact.Given n) = key.Given
+key_of (fact.UsedBy n) = key.UsedBy
 key_of (fact.Since minor) = key.Since
 key_of (fact.Extensions line) = key.NeedsOneOf

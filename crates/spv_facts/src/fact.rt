@@ -233,6 +233,10 @@ pub enum Fact {
     Given {
         inst: u32,
     },
+    /// `used by`: an instruction that uses a variable.
+    UsedBy {
+        inst: u32,
+    },
     /// `since`: the first version that has what an earlier one lacks, by its minor number.
     Since {
         minor: u8,

@@ -51,6 +51,24 @@ fn push_parents(facts: &mut Vec<Fact>, wrong: Fact, blocks: Listed<u32>) -> Resu
     push_two(facts, wrong, Fact::Predecessors { blocks })
 }
 
+/// Adds a variable, functions of which each calls the next, and an instruction of the last that uses the variable.
+fn push_used(
+    facts: &mut Vec<Fact>,
+    variable: u32,
+    calls: Listed<u32>,
+    user: u32,
+) -> Result<(), AllocError>
+    ensures { OnOk result (facts.new.items ≡ facts.old.items ++ (kinds.Defined variable ∷ kinds.Calls calls
+        ∷ kinds.UsedBy user ∷ [])) }
+{
+    push_three(
+        facts,
+        Fact::Defined { inst: variable },
+        Fact::Calls { functions: calls },
+        Fact::UsedBy { inst: user },
+    )
+}
+
 /// The operand that is the width or the count of a type with this opcode.
 fn width_place(code: u16) -> u32
     ensures { result ≡ (if nat_eq code TYPE_VECTOR then 2 else 1) }
@@ -497,6 +515,11 @@ impl<'m, 'a> About<'m, 'a> {
                 Fact::Calls { functions: calls },
                 Fact::Cycle { functions: cycle },
             ),
+            Evidence::NotInInterface {
+                variable,
+                calls,
+                user,
+            } => push_used(facts, variable, calls, user),
             other => self.push_type_facts(facts, inst, &other),
         }
     }

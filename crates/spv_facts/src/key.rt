@@ -59,6 +59,7 @@ pub enum Key {
     OtherOperand,
     OnTheWay,
     Given,
+    UsedBy,
     Since,
 }
 
@@ -79,6 +80,7 @@ impl Key {
             Key::OtherOperand => "other operand",
             Key::OnTheWay => "on the way",
             Key::Given => "given",
+            Key::UsedBy => "used by",
             Key::Since => "since",
             _ => "",
         }
@@ -151,6 +153,7 @@ impl Key {
             Key::NoPredecessor => "noPredecessor",
             Key::OtherOperand => "otherOperand",
             Key::OnTheWay => "onTheWay",
+            Key::UsedBy => "usedBy",
             _ => self.line_name(),
         }
     }
@@ -240,6 +243,7 @@ impl Fact {
             Fact::OtherOperand { .. } => Key::OtherOperand,
             Fact::OnTheWay { .. } => Key::OnTheWay,
             Fact::Given { .. } => Key::Given,
+            Fact::UsedBy { .. } => Key::UsedBy,
             Fact::Since { .. } => Key::Since,
             Fact::Extensions { .. } => Key::NeedsOneOf,
         }

@@ -8,6 +8,7 @@ ghost use Rattle.spv_layout.specs.Place.{IsOfFunction, IsOfBlock};
 ghost use Rattle.spv_layout.specs.Example.{bare, small_function};
 ghost use Rattle.spv_words.specs.declared.words.WordError.TheVariants.{W3, W4};
 ghost use Rattle.spv_evidence.specs.declared.condition.Condition.TheVariants as condition;
+ghost use Rattle.spv_evidence.specs.declared.evidence.Evidence.TheVariants as evidence;
 ghost use Rattle.spv_evidence.specs.declared.evidence.Lister.TheVariants as lister;
 ghost use Rattle.spv_type_kinds.specs.declared.kinds.Object.TheVariants as object;
 ghost use Rattle.spv_type_kinds.specs.declared.kinds.Images.TheVariants as images;
@@ -15,7 +16,7 @@ ghost use Rattle.spv_type_kinds.specs.declared.kinds.Kind.TheVariants as kind;
 ghost use Rattle.spv_type_kinds.specs.declared.kinds.Relation.TheVariants as relation;
 ghost use Rattle.spv_facts.specs.Conditions.{condition_text, image_text, kind_text, object_text};
 ghost use Rattle.spv_facts.specs.Conditions.{pointer_text, relation_text};
-ghost use Rattle.spv_facts.specs.Facts.{lack_facts, lister_facts};
+ghost use Rattle.spv_facts.specs.Facts.{evidence_facts, lack_facts, lister_facts};
 ghost use Rattle.spv_facts.specs.Keys.{line_name, member_name};
 ghost use Rattle.spv_facts.specs.Example.{vector};
 ghost use Rattle.spv_facts.specs.Owners.{operand_type, own_place, places_from, places_in, short_number, size_in};
@@ -64,6 +65,8 @@ pub fn key_examples()
     ensures not_member { ¬ (member_name keys.NeedsOneOf ≡ codes "needs one of") }
     ensures way { line_name keys.OnTheWay ≡ codes "on the way" }
     ensures way_member { member_name keys.OnTheWay ≡ codes "onTheWay" }
+    ensures used { line_name keys.UsedBy ≡ codes "used by" }
+    ensures used_member { member_name keys.UsedBy ≡ codes "usedBy" }
     // Types have one member, and a line each.
     ensures types { member_name keys.Type ≡ codes "types" }
 {}
@@ -81,6 +84,16 @@ pub fn lister_examples()
     // Where a version lacks it, the opcode is told.
     ensures lacked { lack_facts (bare opcode.TYPE_INT ∷ []) 0 lister.Entry ≡ fact.Opcode opcode.TYPE_INT ∷ [] }
     ensures not_operand { ¬ (lack_facts (bare opcode.TYPE_INT ∷ []) 0 (lister.Value 1) ≡ fact.Opcode opcode.TYPE_INT ∷ []) }
+{}
+
+/// What is told of the interface of the OpEntryPoint that is instruction 3.
+pub fn interface_examples()
+    // A variable that is not in it: its definition, a chain of two functions, and what uses it in the second one.
+    ensures missing { evidence_facts [] 3 (evidence.NotInInterface 8 (9 ∷ 14 ∷ []) 16)
+        ≡ fact.Defined 8 ∷ fact.Calls (9 ∷ 14 ∷ []) ∷ fact.UsedBy 16 ∷ [] }
+    ensures not_alone { ¬ (evidence_facts [] 3 (evidence.NotInInterface 8 (9 ∷ []) 11) ≡ fact.Defined 8 ∷ []) }
+    // An id that stands in it twice.
+    ensures twice { evidence_facts [] 3 (evidence.Pair 3 4) ≡ fact.Operand 3 3 ∷ fact.OtherOperand 3 4 ∷ [] }
 {}
 
 /// What lines of the table of versions tell. Line 5 is of the opcodes 5632 and 5633, and the last but one of decoration

@@ -35,6 +35,12 @@ def used_and_called(module):
     return used, calls
 
 
+def is_asked(module, of):
+    """Whether an interface may name a variable, and names it if it is used: from 1.4 on any, before one of the storage
+    classes Input and Output."""
+    return module.minor >= OF_ALL or module.storage_class(of) in (INPUT, OUTPUT)
+
+
 def O4(module):
     """The interface of an entry point does not have the variables of its call tree, or has one twice."""
     used, calls = used_and_called(module)
@@ -45,8 +51,8 @@ def O4(module):
         if module.minor >= OF_ALL:
             is_sound = len(set(interface)) == len(interface)
         else:
-            is_sound = all(module.storage_class(of) in (INPUT, OUTPUT) for of in interface)
-            wanted = {of for of in wanted if module.storage_class(of) in (INPUT, OUTPUT)}
+            is_sound = all(is_asked(module, of) for of in interface)
+            wanted = {of for of in wanted if is_asked(module, of)}
         if not is_sound or not wanted <= set(interface):
             yield at
 

@@ -3,7 +3,7 @@
 from functools import cached_property
 
 from ..forms import STRUCT
-from . import blocks, decorations, limits, values, versions
+from . import blocks, decorations, entries, limits, values, versions
 from .module import (
     DECORATE,
     ENTRY_POINT,
@@ -22,7 +22,7 @@ TOLD = {
     "O1": "on the way;",
     "O2": "operand;defined;",
     "O3 O8 O9": "earlier;",
-    "O4": "",
+    "O4": f"({OPERAND}|{PAIR}|defined;calls;used by;)",
     "O5 O6 O12 O14 O15 O16 O17 O20 O23": OPERAND,
     "O7": "(operand;(given;)?|earlier;)",
     "O10": "(operand;|earlier;)",
@@ -138,6 +138,34 @@ class ToldOfStandard:
 
     def fails_O23(self, at):
         return at == 2
+
+    # Interfaces.
+
+    def fails_O4(self, at):
+        """From 1.4 on an id that stands twice in the interface, before a variable of another storage class."""
+        module, of = self.module, self.id_at(at)
+        if module.minor >= entries.OF_ALL:
+            return at in self.interface() and self.other in self.interface()
+        return at in self.interface() and self.other is None and not entries.is_asked(module, of)
+
+    def interface(self):
+        """The ids of the interface of the entry point that is told: of the number of each operand the id."""
+        return {at: it[1] for at, it in enumerate(self.inst.operands) if at > 2}
+
+    def is_lacking(self, number):
+        """Whether an instruction is a variable that is to be in that interface, if it is used, and is not."""
+        of, module = self.facts.insts[number].result, self.module
+        return module.is_global(of) and entries.is_asked(module, of) and of not in self.interface().values()
+
+    def ends_of_calls(self):
+        """The functions that calls may begin with, that of the entry point that is told, and the one that they lead to,
+        that of the instruction that is told to use the variable."""
+        user = self.facts.places.function[self.numbered(self.one("used by"))]
+        return {self.inst.operands[1][1]}, self.facts.insts[user].result
+
+    def is_used_by(self, text):
+        variable = self.facts.insts[self.numbered(self.one("defined"))].result
+        return variable in [of for of, _ in self.facts.uses(self.numbered(text)).values()]
 
     # Entry points, declarations and decorations.
 

@@ -53,7 +53,7 @@ typed_facts is n (evidence.Mismatch s wanted found of) = fact.Differs s ∷ aske
     ++ (fact.Wanted (side_thing is s wanted) ∷ fact.Found (side_thing is s found) ∷ [])
 typed_facts is n e = standard_facts is n e
 
--- on layout and flow, or on all else
+-- on layout, flow and interfaces, or on all else
 abbrev pub list_facts : List PlainInst → ℕ → Evidence → List Fact
 list_facts is n (evidence.MayCome opcodes end) = fact.MayCome opcodes end ∷ []
 list_facts is n (evidence.MissingParent b ps) = fact.MissingParent b ∷ fact.Predecessors ps ∷ []
@@ -61,6 +61,7 @@ list_facts is n (evidence.NoPredecessor k ps) = fact.NoPredecessor n k ∷ fact.
 list_facts is n (evidence.Twice k l ps) = fact.Twice n l ∷ fact.Predecessors ps ∷ []
 list_facts is n (evidence.Walk k m blocks) = fact.Operand n k ∷ fact.Defined m ∷ fact.Walk blocks ∷ []
 list_facts is n (evidence.Cycle calls cycle) = fact.Calls calls ∷ fact.Cycle cycle ∷ []
+list_facts is n (evidence.NotInInterface v calls m) = fact.Defined v ∷ fact.Calls calls ∷ fact.UsedBy m ∷ []
 list_facts is n e = typed_facts is n e
 
 -- a list with the number of an instruction at the place of its result, if it has that place
@@ -90,5 +91,6 @@ further_name key.Cycle = codes "cycle"
 further_name key.OtherOperand = codes "other operand"
 further_name key.OnTheWay = codes "on the way"
 further_name key.Given = codes "given"
+further_name key.UsedBy = codes "used by"
 further_name key.Since = codes "since"
 further_name k = []
