@@ -24,7 +24,9 @@ use spv_module::Module;
 use std::alloc::{AllocError, Global};
 
 /// The edges between functions that calls are.
-fn edges_of(alloc: Global, calls: &[Call]) -> Result<Vec<Edge>, AllocError>
+///
+/// An `AllocError` comes only where a growth of memory was refused.
+pub fn edges_of(alloc: Global, calls: &[Call]) -> Result<Vec<Edge>, AllocError>
     ensures { IfOk result (λ edges. edges.items ≡ map edge_of calls.now) }
 {
     calls

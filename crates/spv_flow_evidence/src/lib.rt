@@ -7,5 +7,5 @@ mod calls;
 mod walks;
 
 pub use branches::branch_evidence;
-pub use calls::call_evidence;
+pub use calls::{call_evidence, edges_of};
 pub use walks::walk_evidence;

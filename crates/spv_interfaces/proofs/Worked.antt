@@ -39,7 +39,7 @@ of_first : (os : List Plain) (n : ℕ) → 2 ≤ n → n ≤ 6 → IsOfFunction 
 of_first os n l m = within_by (faced os) laid class.Function (class.FunctionEnd ∷ []) n 2 7 6 (laid_classes os)
     (omega (arith, m)) (omega arith) m l refl refl refl
 
-of_second : (os : List Plain) (n : ℕ) → 7 ≤ n → n ≤ 11 → IsOfFunction (faced os) n 7
+pub of_second : (os : List Plain) (n : ℕ) → 7 ≤ n → n ≤ 11 → IsOfFunction (faced os) n 7
 of_second os n l m = within_by (faced os) laid class.Function (class.FunctionEnd ∷ []) n 7 12 11 (laid_classes os)
     (omega (arith, m)) (omega arith) m l refl refl refl
 
@@ -52,12 +52,12 @@ first_definition : (os : List Plain) → IsDefinition (faced os) 2
 first_definition os =
     record { label = 3; there = label_at os 3 refl; of = of_first os 3 (omega arith) (omega arith) }
 
-second_definition : (os : List Plain) → IsDefinition (faced os) 7
+pub second_definition : (os : List Plain) → IsDefinition (faced os) 7
 second_definition os =
     record { label = 8; there = label_at os 8 refl; of = of_second os 8 (omega arith) (omega arith) }
 
 -- the call
-called : (os : List Plain) → Calls (faced os) 2 7
+pub called : (os : List Plain) → Calls (faced os) 2 7
 called os = record {
   place = 4;
   call = record {
@@ -74,7 +74,7 @@ called os = record {
 }
 
 -- the variable
-global : (os : List Plain) → IsGlobal (faced os) 9
+pub global : (os : List Plain) → IsGlobal (faced os) 9
 global os = record {
   place = 1;
   defined = record { inst = variable; there = refl; result = refl };
@@ -100,7 +100,7 @@ negation_forms G r x = record {
       (AreOf.more R (Result r) (v ∷ []) (Id x ∷ []) refl (AreOf.more v (Id x) [] [] refl AreOf.none));
 }
 
-value_used : (G : Table) (r x : ℕ) → IsUse G (negation r x) 2 x role.Value
+pub value_used : (G : Table) (r x : ℕ) → IsUse G (negation r x) 2 x role.Value
 value_used G r x = record {
   forms = T ∷ R ∷ v ∷ [];
   has = negation_forms G r x;
@@ -127,7 +127,7 @@ in_tree G os = record {
   variable = global os;
 }
 
-none_named : (x : ℕ) → ¬ (IsNamedIn [] x)
+pub none_named : (x : ℕ) → ¬ (IsNamedIn [] x)
 none_named x n = let h = n.1 in cc
 
 pub unnamed : (G : Table) → IsMisfaced G 4 (faced []) 0
@@ -155,7 +155,7 @@ twice G = record {
 other : (i j : PlainInst) → Some j ≡ Some i → i.opcode ≡ opcode.VARIABLE → j.opcode ≡ opcode.VARIABLE
 other i j e h = let s : j ≡ i = cc in ap (λ (k : PlainInst). k.opcode) s ∙ h
 
-only_at : (os : List Plain) (k : ℕ) (i : PlainInst) → slice_get (faced os) k ≡ Some i → i.opcode ≡ opcode.VARIABLE
+pub only_at : (os : List Plain) (k : ℕ) (i : PlainInst) → slice_get (faced os) k ≡ Some i → i.opcode ≡ opcode.VARIABLE
     → k ≡ 1
 only_at os zero i e h = absurd (omega (arith, other i (entry os) e h))
 only_at os (suc zero) i e h = refl

@@ -50,7 +50,7 @@ pub fn id_of(operand: Operand<'_>) -> Option<u32>
 }
 
 /// Puts an id into a set; whether it was not there before.
-fn put(seen: &mut BTreeSet<u32>, x: u32) -> Result<bool, AllocError>
+pub fn put(seen: &mut BTreeSet<u32>, x: u32) -> Result<bool, AllocError>
     ensures fresh { IfOk result (λ fresh. fresh ≡ not (contains nat_cmp seen.old x)) }
     ensures kept { OnOk result ((y : ℕ) → IsTrue (contains nat_cmp seen.new y)
         ↔ (IsTrue (contains nat_cmp seen.old y) ⊎ (y ≡ x))) }

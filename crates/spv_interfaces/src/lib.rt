@@ -15,4 +15,7 @@ mod tree;
 mod turned;
 mod used;
 
+pub use classes::{OF_ALL, is_inner, is_wanted};
+pub use entries::{entry, id_of, put};
 pub use misfaced::first_misfaced;
+pub use used::{definition_of, used_id};

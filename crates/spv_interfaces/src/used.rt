@@ -35,7 +35,7 @@ pub struct Use {
 }
 
 /// The id that operand `n` of an instruction uses, in whatever role, if it does.
-fn used(inst: &Inst<'_>, n: usize) -> Option<u32>
+pub fn used_id(inst: &Inst<'_>, n: usize) -> Option<u32>
     ensures { (G : Table) → FitsShape G (plain_inst inst.now)
         → MatchOption result ((x : ℕ) (r : declared.Role) → ¬ (IsUse G (plain_inst inst.now) n x r))
         (λ x. (r : declared.Role) × IsUse G (plain_inst inst.now) n x r) }
@@ -111,7 +111,7 @@ fn variable_of(definitions: &Definitions, wanted: Wanted, x: u32) -> Option<u32>
 }
 
 /// The definition that an instruction is in.
-fn definition_of(definitions: &Definitions, number: u32) -> Option<u32>
+pub fn definition_of(definitions: &Definitions, number: u32) -> Option<u32>
     requires { number < length definitions.now }
     ensures { MatchOption result ((f : ℕ) → ¬ (IsInDefinition definitions.now number f))
         (IsInDefinition definitions.now number) }
@@ -243,7 +243,7 @@ impl Uses {
             self.old.found.items self.new.found.items) }
     {
         for at in 0..inst.operands.as_slice().len() {
-            if let Some(x) = used(inst, at) {
+            if let Some(x) = used_id(inst, at) {
                 self.note_id(definitions, wanted, number, x)?;
             }
         }

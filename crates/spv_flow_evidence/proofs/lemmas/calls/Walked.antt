@@ -29,7 +29,7 @@ use Rattle.spv_flow_evidence.specs.calls.Evidence.{IsCallChain, IsEntryChain, Is
 use Rattle.spv_flow_evidence.specs.calls.inner.Edges.{edge_of, IsListed}
 
 -- a list of functions gives a chain
-chain_of : (is : List PlainInst) (g f : ℕ) (functions : List ℕ) → IsCallChain is g f functions → Chain (Calls is) f g
+pub chain_of : (is : List PlainInst) (g f : ℕ) (functions : List ℕ) → IsCallChain is g f functions → Chain (Calls is) f g
 chain_of is g _ _ IsCallChain.alone = alone
 chain_of is g _ _ (IsCallChain.next f h rest k c) =
     joined (Calls is) f h g (single (Calls is) f h k) (chain_of is g h rest c)
@@ -68,10 +68,10 @@ one_below n b (suc k) c l h = cc
 pub one_within : (n b : ℕ) → b < n → AreBelow n (b ∷ [])
 one_within n b l = record { each = λ k c h. one_below n b k c l h }
 
-there : (xs : List ℕ) (b : ℕ) → (c : Contains xs b) → slice_get xs c.0 ≡ Some b
+pub there : (xs : List ℕ) (b : ℕ) → (c : Contains xs b) → slice_get xs c.0 ≡ Some b
 there xs b c = slice_get_read xs (length xs) c.0 b refl c.1 (sym c.2)
 
-only_at : (g k s : ℕ) → slice_get (g ∷ []) k ≡ Some s → s ≡ g
+pub only_at : (g k s : ℕ) → slice_get (g ∷ []) k ≡ Some s → s ≡ g
 only_at g zero s h = cc
 only_at g (suc k) s h = cc
 

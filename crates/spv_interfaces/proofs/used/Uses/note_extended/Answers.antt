@@ -18,7 +18,7 @@ loop-at-preserved c =
     let i = plain_inst c.args.inst.now in
     let first = c.args.self.now.found.items in
     let old = c.loop-at.self.found.items in
-    elim c.match-used.branch [
+    elim c.match-used_id.branch [
       | in-Some+in_ok-note_id w ↦ rw w.self-is (record {
         noted = w.in_ok-note_id.ensures.noted;
         added = λ G f. used_more G c.args.wanted.minor is i c.args.number c.loop-at.at w.in-Some.x first old
