@@ -414,7 +414,7 @@ TABLES = (
     ("spv_layout", "rows.rt", "shapes (P1, L1, L2, Y1)", r"\$what! \{\n(.*?\n {8}\}\n.*?)\n {8}\}\n", ROW),
     ("spv_ops", "table.rt", "types (Y5)", WORDS, ROW),
     ("spv_std_types", "table.rt", "OpenCL.std (Y10)", WORDS, ROW),
-    ("spv_declarations", "table.rt", "decorations, with `NEVER_ON_MEMBERS` below it (O7)", LINES, r"(?m)^    \("),
+    ("spv_declarations", "table.rt", "decorations, with `NEVER_ON_MEMBERS` below it (O7)", WORDS, ROW),
     ("spv_kernel_operands", "seats.rt", "scopes and memory semantics (O14)", WORDS, ROW),
     ("spv_versions", "table.rt", "versions (O21)", LINES, r"(?m)^    line!\("),
     ("spv_limits", "table.rt", "limits (O22)", LINES, r"(?m)^    \("),

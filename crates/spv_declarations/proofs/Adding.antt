@@ -1,5 +1,6 @@
 -- Sets of ids and of pairs.
-use Rattle.std.proofs.Common.{◌≡◌, ◌↔◌, ◌∙◌, ◌⊎◌, ◌<◌, ◌||◌, inl, inr, ℕ, Bool, true, false, cond, refl, sym, ap, IsTrue, arith, List, [], ◌∷◌, map, nat_eq, Contains}
+use Rattle.std.proofs.Common.{◌≡◌, ◌↔◌, ◌∙◌, ◌⊎◌, ◌<◌, ◌||◌, inl, inr, ℕ, Bool, true, false, cond, refl, sym, ap}
+use Rattle.std.proofs.Common.{IsTrue, arith, List, [], ◌∷◌, map, nat_eq, Contains}
 use Rattle.std.specs.Prelude.{filter}
 use Rattle.std.specs.List.{list_any}
 use Rattle.std.specs.BTreeSet.{contains, BTreeSet, Updates, keys_between}
@@ -11,7 +12,8 @@ use Rattle.std.specs.Cmp.{nat_cmp_total, nat_eq_equiv, IsTotalOrder, tied_itself
 use Rattle.std.proofs.lemmas.Bool.{eqb-true, eq-eqb}
 use Rattle.std.proofs.lemmas.Bool.Decides.{nat_tests}
 use Rattle.std.proofs.lemmas.Map.Lookups.{exact_pairs, exact_unsigned}
-use Rattle.std.proofs.lemmas.Map.Views.{tells_apart, IsInRange-from_range_contains, range_contains-from_IsInRange, Contains-from_any, list_any-from_Contains, exact_unsigned_eq}
+use Rattle.std.proofs.lemmas.Map.Views.{tells_apart, IsInRange-from_range_contains, range_contains-from_IsInRange}
+use Rattle.std.proofs.lemmas.Map.Views.{Contains-from_any, list_any-from_Contains, exact_unsigned_eq}
 use Rattle.spv_declarations.specs.inner.Sets.{pair_cmp, HasBoth, Adds, AddsBoth}
 
 pair_total : IsTotalOrder pair_cmp

@@ -1,5 +1,6 @@
 -- Ids that are in both of two sets.
-use Rattle.std.proofs.Common.{◌≡◌, ◌∙◌, ◌↔◌, inl, inr, ℕ, Bool, true, false, sym, subst, List, [], ◌∷◌, Some, None, IsTrue}
+use Rattle.std.proofs.Common.{◌≡◌, ◌∙◌, ◌↔◌, inl, inr, ℕ, Bool, true, false, sym, subst, List, [], ◌∷◌, Some, None}
+use Rattle.std.proofs.Common.{IsTrue}
 use Rattle.std.specs.BTreeSet.{BTreeSet}
 use Rattle.spv_module.specs.declared.opcode.TheConstants as opcode
 use Rattle.spv_module.specs.Operand.{Plain, Id, PlainInst}
@@ -26,7 +27,8 @@ both_none a b i os t e n k f is d x h p q =
     cc
 
 -- a target of the group that an instruction names
-pub target_tells : (pairs : BTreeSet (ℕ × ℕ)) (entered : BTreeSet ℕ) (i : PlainInst) (g : ℕ) (os : List Plain) (b : Bool)
+pub target_tells : (pairs : BTreeSet (ℕ × ℕ)) (entered : BTreeSet ℕ) (i : PlainInst) (g : ℕ) (os : List Plain)
+    (b : Bool)
     → group_by opcode.GROUP_DECORATE i ≡ Some g → os ≡ behind_first i.operands → HasBoth pairs g 41
     → (IsTrue b ↔ AnyId (IsIn entered) os)
     → IsTrue b ↔ ((x h : ℕ) × IsIn entered x × NamesTarget i h x × HasBoth pairs h 41)

@@ -1,5 +1,6 @@
 -- The members that are built in.
-use Rattle.std.proofs.Common.{◌≡◌, ◌∙◌, ◌⊎◌, ◌↔◌, ◌<◌, ◌≤◌, inl, inr, ℕ, refl, sym, ap, subst, arith, length, drop, List, [], ◌∷◌, Some, None, Result, Ok, Err, OnOk}
+use Rattle.std.proofs.Common.{◌≡◌, ◌∙◌, ◌⊎◌, ◌↔◌, ◌<◌, ◌≤◌, inl, inr, ℕ, refl, sym, ap, subst, arith, length, drop}
+use Rattle.std.proofs.Common.{List, [], ◌∷◌, Some, None, Result, Ok, Err, OnOk}
 use Rattle.std.specs.BTreeSet.{BTreeSet}
 use Rattle.spv_module.specs.Operand.{Plain, Id, Word, PlainInst}
 use Rattle.spv_conditions.specs.Further.{IsMember}

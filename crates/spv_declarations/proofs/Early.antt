@@ -1,5 +1,7 @@
 -- What stands before the functions of a module that is laid out.
-use Rattle.std.proofs.Common.{◌≡◌, ◌∙◌, ◌⊎◌, ◌+◌, ◌-◌, ◌++◌, ◌<◌, ◌≤◌, ◌&&◌, ◌||◌, inl, inr, ℕ, zero, suc, Bool, true, false, not, refl, sym, ap, subst, arith, List, [], ◌∷◌, Option, Some, None, nat_eq, nat_lt, if◌then◌else◌, length, IsTrue}
+use Rattle.std.proofs.Common.{◌≡◌, ◌∙◌, ◌⊎◌, ◌+◌, ◌-◌, ◌++◌, ◌<◌, ◌≤◌, ◌&&◌, ◌||◌, inl, inr, ℕ, zero, suc, Bool, true}
+use Rattle.std.proofs.Common.{false, not, refl, sym, ap, subst, arith, List, [], ◌∷◌, Option, Some, None, nat_eq}
+use Rattle.std.proofs.Common.{nat_lt, if◌then◌else◌, length, IsTrue}
 use Rattle.std.specs.Prelude.{slice_get, filter, option_map, IsSomeAnd}
 use Rattle.std.specs.List.{list_any}
 use Rattle.std.proofs.lemmas.Bool.{eqb-true, cases_lt, ltb-true}
@@ -60,7 +62,8 @@ joined p (u ∷ us) vs g h =
 same_number : (xs : List Class) (c d : Class) → nat_eq (class_number c) (class_number d) ≡ true
     → is_none xs c ≡ is_none xs d
 same_number xs c d e =
-    ap (λ (n : ℕ). not (list_any (λ (d : Class). nat_eq n (class_number d)) xs)) (eqb-true (class_number c) (class_number d) e)
+    ap (λ (n : ℕ). not (list_any (λ (d : Class). nat_eq n (class_number d)) xs))
+    (eqb-true (class_number c) (class_number d) e)
 
 pass_by : (xs : List Class) (c d : Class) (cs : List Class) (b : Bool) → nat_eq (class_number c) (class_number d) ≡ b
     → is_none xs d ≡ true → (is_among c cs ≡ true → is_none xs c ≡ true) → is_among c (d ∷ cs) ≡ true
@@ -146,7 +149,8 @@ late_ordered : (cs : List Class) → all_in is_late cs ≡ true → ordered cs �
 late_ordered [] a = refl
 late_ordered (c ∷ cs) a =
     let r = right (is_late c) (all_in is_late cs) a in
-    both (is_other c || all_in is_late cs) (ordered cs) (or_second (is_other c) (all_in is_late cs) r) (late_ordered cs r)
+    both (is_other c || all_in is_late cs) (ordered cs) (or_second (is_other c) (all_in is_late cs) r)
+    (late_ordered cs r)
 
 front_ordered : (us vs : List Class) → all_in is_other us ≡ true → ordered vs ≡ true → ordered (us ++ vs) ≡ true
 front_ordered [] vs a o = o
@@ -163,7 +167,8 @@ line_other c a = passes (class.Function ∷ []) c (class.Line ∷ []) refl a
 
 late_by_line : (c : Class) (cs : List Class) (b : Bool) → is_among c (class.Line ∷ []) ≡ b
     → all_in is_late (filter is_no_line (c ∷ cs)) ≡ true
-    → (all_in is_late (filter is_no_line cs) ≡ true → all_in is_late cs ≡ true) → (is_late c && all_in is_late cs) ≡ true
+    → (all_in is_late (filter is_no_line cs) ≡ true → all_in is_late cs ≡ true)
+    → (is_late c && all_in is_late cs) ≡ true
 late_by_line c cs true e a f = both (is_late c) (all_in is_late cs) (line_late c e) (f (rw e at a))
 late_by_line c cs false e a f =
     let h : (is_late c && all_in is_late (filter is_no_line cs)) ≡ true = rw e at a in
@@ -219,7 +224,8 @@ all_ordered cs l =
 pub class_at : (is : List PlainInst) (n : ℕ) (i : PlainInst) → slice_get is n ≡ Some i
     → slice_get (classes is) n ≡ Some (class_of i.opcode)
 class_at is n i at =
-    slice_get-map (λ (j : PlainInst). class_of j.opcode) is n ∙ ap (option_map (λ (j : PlainInst). class_of j.opcode)) at
+    slice_get-map (λ (j : PlainInst). class_of j.opcode) is n
+    ∙ ap (option_map (λ (j : PlainInst). class_of j.opcode)) at
 
 -- an opcode at which a rule may be broken is of one of the classes
 at_opcode : (n k : ℕ) → is_late (class_of k) ≡ false → nat_eq n k ≡ true → is_late (class_of n) ≡ false

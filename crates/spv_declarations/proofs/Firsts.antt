@@ -1,5 +1,6 @@
 -- The first broken rule, by the first instruction that breaks each.
-use Rattle.std.proofs.Common.{◌≡◌, ◌⊎◌, ◌<◌, ◌≤◌, inl, inr, ℕ, refl, sym, subst, arith, List, [], ◌∷◌, Option, Some, None}
+use Rattle.std.proofs.Common.{◌≡◌, ◌⊎◌, ◌<◌, ◌≤◌, inl, inr, ℕ, refl, sym, subst, arith, List, [], ◌∷◌, Option, Some}
+use Rattle.std.proofs.Common.{None}
 use Rattle.std.specs.Prelude.{MatchOption}
 use Rattle.std.proofs.lemmas.Bool.{cases_lt}
 use Rattle.spv_table.specs.Table.{Table}
@@ -170,12 +171,14 @@ pub of_o10 : (G : Table) (is : List PlainInst) (count : ℕ) (o : Option ℕ)
     → ((n : ℕ) → IsInitialized G is n → n < count)
     → IsFirstBelow count (IsInitialized G is) o → IsFirstOf (Broken G is rule.O10) o
 of_o10 G is count o l h =
-    first_all count (IsInitialized G is) (Broken G is rule.O10) Broken.initialized (λ n b. tells G is rule.O10 n b) l o h
+    first_all count (IsInitialized G is) (Broken G is rule.O10) Broken.initialized
+    (λ n b. tells G is rule.O10 n b) l o h
 
 pub of_o11 : (G : Table) (is : List PlainInst) (count : ℕ) (o : Option ℕ) → ((n : ℕ) → IsHalfBuiltIn is n → n < count)
     → IsFirstBelow count (IsHalfBuiltIn is) o → IsFirstOf (Broken G is rule.O11) o
 of_o11 G is count o l h =
-    first_all count (IsHalfBuiltIn is) (Broken G is rule.O11) Broken.half_built_in (λ n b. tells G is rule.O11 n b) l o h
+    first_all count (IsHalfBuiltIn is) (Broken G is rule.O11) Broken.half_built_in
+    (λ n b. tells G is rule.O11 n b) l o h
 
 pub of_o12 : (G : Table) (is : List PlainInst) (count : ℕ) (o : Option ℕ)
     → ((n : ℕ) → IsForwardElsewhere is n → n < count)
@@ -215,11 +218,35 @@ before_o11 = (omega arith, (omega arith, (omega arith, (omega arith, (omega arit
 
 pub before_o12 : AreBefore
     (rule.O11 ∷ rule.O10 ∷ rule.O9 ∷ rule.O8 ∷ rule.O7 ∷ rule.O6 ∷ rule.O5 ∷ rule.O3 ∷ []) rule.O12
-before_o12 = (omega arith, (omega arith, (omega arith, (omega arith, (omega arith, (omega arith, (omega arith, (omega arith, tt))))))))
+before_o12 = (
+  omega arith,
+  (
+    omega arith,
+    (
+      omega arith,
+      (
+        omega arith,
+        (omega arith, (omega arith, (omega arith, (omega arith, tt)))),
+      ),
+    ),
+  ),
+)
 
 pub before_o13 : AreBefore
     (rule.O12 ∷ rule.O11 ∷ rule.O10 ∷ rule.O9 ∷ rule.O8 ∷ rule.O7 ∷ rule.O6 ∷ rule.O5 ∷ rule.O3 ∷ []) rule.O13
-before_o13 = (omega arith, (omega arith, (omega arith, (omega arith, (omega arith, (omega arith, (omega arith, (omega arith, (omega arith, tt)))))))))
+before_o13 = (
+  omega arith,
+  (
+    omega arith,
+    (
+      omega arith,
+      (
+        omega arith,
+        (omega arith, (omega arith, (omega arith, (omega arith, (omega arith, tt))))),
+      ),
+    ),
+  ),
+)
 
 -- of the same instructions
 pub told_of : (G : Table) (is js : List PlainInst) (o : Option Found) → is ≡ js → IsFirstAmong G is all_rules o

@@ -1,12 +1,14 @@
 -- What is gathered of instructions, one after another.
-use Rattle.std.proofs.Common.{◌≡◌, ◌∙◌, ◌⊎◌, ◌+◌, ◌≤◌, inl, inr, ℕ, true, false, sym, subst, arith, List, [], Some, IsTrue}
+use Rattle.std.proofs.Common.{◌≡◌, ◌∙◌, ◌⊎◌, ◌+◌, ◌≤◌, inl, inr, ℕ, true, false, sym, subst, arith, List, [], Some}
+use Rattle.std.proofs.Common.{IsTrue}
 use Rattle.std.specs.Prelude.{slice_get}
 use Rattle.std.specs.BTreeSet.{BTreeSet}
 use Rattle.std.proofs.lemmas.Bool.{cases_lt}
 use Rattle.spv_module.specs.Operand.{PlainInst}
 use Rattle.spv_declarations.specs.Given.{At}
 use Rattle.spv_declarations.specs.inner.Early.{AreEarly, is_early}
-use Rattle.spv_declarations.specs.inner.Sets.{IsIn, HasBoth, Adds, AddsBoth, IsSaid, IsSaidBefore, Gathers, HasAll, GathersBoth, HasAllBoth}
+use Rattle.spv_declarations.specs.inner.Sets.{IsIn, HasBoth, Adds, AddsBoth, IsSaid, IsSaidBefore, Gathers, HasAll}
+use Rattle.spv_declarations.specs.inner.Sets.{GathersBoth, HasAllBoth}
 
 -- Two instructions of one place are one.
 pub one_inst : (is : List PlainInst) (n : ℕ) (i j : PlainInst) → slice_get is n ≡ Some i → slice_get is n ≡ Some j

@@ -1,5 +1,6 @@
 -- O11, at single instructions.
-use Rattle.std.proofs.Common.{◌≡◌, ◌∙◌, ◌⊎◌, ◌↔◌, ◌<◌, ◌||◌, inl, inr, ℕ, Bool, true, false, refl, sym, subst, List, ◌∷◌, Some, None, IsTrue, nat_eq, if◌then◌else◌}
+use Rattle.std.proofs.Common.{◌≡◌, ◌∙◌, ◌⊎◌, ◌↔◌, ◌<◌, ◌||◌, inl, inr, ℕ, Bool, true, false, refl, sym, subst, List}
+use Rattle.std.proofs.Common.{◌∷◌, Some, None, IsTrue, nat_eq, if◌then◌else◌}
 use Rattle.std.proofs.lemmas.Bool.{eqb-true, eq-eqb}
 use Rattle.std.specs.Prelude.{slice_get}
 use Rattle.spv_module.specs.declared.opcode.TheConstants as opcode
@@ -17,7 +18,8 @@ use Rattle.spv_declarations.proofs.Misplacing.{any_id, id_any}
 -- what stands behind the result of a struct
 pub half_struct : (is : List PlainInst) (n : ℕ) (i : PlainInst) → slice_get is n ≡ Some i → IsHalfBuiltIn is n
     → (t : ℕ) × (ms : List Plain) × (i.opcode ≡ opcode.TYPE_STRUCT) × (i.operands ≡ Result t ∷ ms)
-    × (((k j : ℕ) × IsBuiltIn is t k × IsMember is t j × (¬ (IsBuiltIn is t j))) ⊎ ((u : ℕ) × HasId ms u × HasBuiltIn is u))
+    × (((k j : ℕ) × IsBuiltIn is t k × IsMember is t j × (¬ (IsBuiltIn is t j)))
+    ⊎ ((u : ℕ) × HasId ms u × HasBuiltIn is u))
 half_struct is n i at (IsHalfBuiltIn.in_part h t k j ms there o p b m c) =
     let e = one_inst is n h i there at in (
       t,

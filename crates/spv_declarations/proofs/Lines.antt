@@ -1,9 +1,10 @@
 -- The table, by the opcode of an id's definition.
-use Rattle.std.proofs.Common.{◌≡◌, ◌∙◌, ◌↔◌, ◌||◌, inl, inr, ℕ, Bool, true, false, refl, sym, subst, List, [], ◌∷◌, Option, Some, None, IsTrue}
+use Rattle.std.proofs.Common.{◌≡◌, ◌∙◌, ◌↔◌, inl, inr, ℕ, Bool, true, false, sym, subst, List, [], ◌∷◌, Option}
+use Rattle.std.proofs.Common.{Some, None, IsTrue}
 use Rattle.std.specs.Prelude.{IsSomeAnd}
 use Rattle.spv_module.specs.Operand.{PlainInst}
 use Rattle.spv_module.specs.Width.{definition_of}
-use Rattle.spv_declarations.specs.Table.{Line, IsOnSome, StandsOn, is_among, is_listed, is_within, lines}
+use Rattle.spv_declarations.specs.Table.{Line, IsOnSome, StandsOn, is_among, is_listed, lines}
 use Rattle.spv_declarations.specs.inner.Table.{IsOnLine}
 
 on_some : (is : List PlainInst) (ls : List Line) (d x : ℕ) (i : PlainInst) → definition_of is x ≡ Some i
@@ -50,43 +51,3 @@ stands_nowhere is d x b e f at = (
   λ y. let no : false ≡ true = y in absurd (cc),
   λ h. absurd (on_none is lines d x at (h (sym e ∙ f))),
 )
-
--- the decorations of the table, in another order
-pub listed_by : (a b c d e f g h i j : Bool)
-    → ((a || b) || (c || d)) || ((e || f) || ((g || h) || (i || j)))
-    ≡ (a || false) || ((j || false) || ((b || (c || false)) || ((c || false) || ((d || false)
-    || ((e || (f || false)) || ((e || (f || false)) || ((g || false) || ((h || false) || ((i || false) || false)))))))))
-listed_by true b c d e f g h i j = refl
-listed_by false true c d e f g h i true = refl
-listed_by false true c d e f g h i false = refl
-listed_by false false true d e f g h i true = refl
-listed_by false false true d e f g h i false = refl
-listed_by false false false true e f g h i true = refl
-listed_by false false false true e f g h i false = refl
-listed_by false false false false true f g h i true = refl
-listed_by false false false false true f g h i false = refl
-listed_by false false false false false true g h i true = refl
-listed_by false false false false false true g h i false = refl
-listed_by false false false false false false true h i true = refl
-listed_by false false false false false false true h i false = refl
-listed_by false false false false false false false true i true = refl
-listed_by false false false false false false false true i false = refl
-listed_by false false false false false false false false true true = refl
-listed_by false false false false false false false false true false = refl
-listed_by false false false false false false false false false true = refl
-listed_by false false false false false false false false false false = refl
-
--- the tests of the code, one after another
-pub tested_in : (d : ℕ) (a b c k e f g h i j v n m t s p q r u : Bool)
-    → a ≡ is_within (44, 47) d → b ≡ is_within (22, 22) d → v ≡ (a || b)
-    → c ≡ is_within (41, 41) d → k ≡ is_within (11, 11) d → n ≡ (c || k)
-    → e ≡ is_within (19, 21) d → f ≡ is_within (23, 25) d → m ≡ (e || f)
-    → g ≡ is_within (1, 1) d → h ≡ is_within (10, 10) d → t ≡ (g || h)
-    → i ≡ is_within (28, 28) d → j ≡ is_within (4469, 4470) d → s ≡ (i || j)
-    → p ≡ (v || n) → q ≡ (t || s) → r ≡ (m || q) → u ≡ (p || r) → u ≡ is_listed lines d
-unfolding lines
-tested_in d a b c k e f g h i j v n m t s p q r u wa wb wv wc wk wn we wf wm wg wh wt wi wj ws wp wq wr wu =
-    rw (wu, wr, wq, wp, ws, wt, wm, wn, wv, wa, wb, wc, wk, we, wf, wg, wh, wi, wj)
-    (listed_by (is_within (44, 47) d) (is_within (22, 22) d) (is_within (41, 41) d) (is_within (11, 11) d)
-    (is_within (19, 21) d) (is_within (23, 25) d) (is_within (1, 1) d) (is_within (10, 10) d) (is_within (28, 28) d)
-    (is_within (4469, 4470) d))

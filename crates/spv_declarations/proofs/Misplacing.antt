@@ -1,19 +1,24 @@
 -- O7, at single instructions.
-use Rattle.std.proofs.Common.{◌≡◌, ◌∙◌, ◌⊎◌, ◌↔◌, ◌<◌, ◌≤◌, ◌&&◌, ◌||◌, inl, inr, ℕ, zero, suc, length, slice_index_or, Bool, true, false, refl, sym, subst, arith, List, [], ◌∷◌, Option, Some, Result, Ok, Err, IfOk, nat_le, IsTrue}
+use Rattle.std.proofs.Common.{◌≡◌, ◌∙◌, ◌⊎◌, ◌↔◌, ◌<◌, ◌≤◌, ◌&&◌, ◌||◌, inl, inr, ℕ, zero, suc, length, slice_index_or}
+use Rattle.std.proofs.Common.{Bool, true, false, refl, sym, subst, arith, List, [], ◌∷◌, Option, Some, Result, Ok, Err}
+use Rattle.std.proofs.Common.{IfOk, nat_le, IsTrue}
 use Rattle.std.specs.Prelude.{slice_get, Contains}
 use Rattle.std.proofs.lemmas.Bool.{leb-true}
 use Rattle.spv_module.specs.declared.opcode.TheConstants as opcode
 use Rattle.spv_module.specs.Operand.{Plain, Id, PlainInst}
 use Rattle.spv_conditions.specs.Further.{IsGroup}
-use Rattle.spv_declarations.specs.Given.{Gives, HasId, HasIdBehind, HasPair, NamesTarget, NamesMember, member_given_by, group_by, behind_first}
+use Rattle.spv_declarations.specs.Given.{Gives, HasId, HasIdBehind, HasPair, NamesTarget, NamesMember, member_given_by}
+use Rattle.spv_declarations.specs.Given.{group_by, behind_first}
 use Rattle.spv_declarations.specs.Decorated.{Has, HasOnMember, IsMisplaced}
-use Rattle.spv_declarations.specs.Table.{Line, is_within, is_listed, is_among, lines, never_on_members, StandsOn, IsNeverOnMembers}
+use Rattle.spv_declarations.specs.Table.{Line, is_within, is_listed, is_among, lines, never_on_members, StandsOn}
+use Rattle.spv_declarations.specs.Table.{IsNeverOnMembers}
 use Rattle.spv_declarations.specs.declared.said.Said.{Said}
 use Rattle.spv_declarations.specs.inner.Said.{IsKnown, AreSaid, HasAt, HasMemberAt}
 use Rattle.spv_declarations.specs.inner.Misplaced.{IsAnyMisplaced, IsAnyNever}
 use Rattle.spv_declarations.specs.inner.Sets.{AnyId, HasBoth}
 use Rattle.spv_declarations.proofs.Gathered.{one_inst}
-use Rattle.spv_declarations.proofs.Stated.{at_has, has_at, member_at_has, member_has_at, known_misplaced, kept_said, target_kept, pair_kept}
+use Rattle.spv_declarations.proofs.Stated.{at_has, has_at, member_at_has, member_has_at, known_misplaced, kept_said}
+use Rattle.spv_declarations.proofs.Stated.{target_kept, pair_kept}
 
 -- the decorations of the table are small numbers
 abbrev all_below : ℕ → List (ℕ × ℕ) → Bool
@@ -86,7 +91,8 @@ HasAnId i = (i.opcode ≡ opcode.DECORATE) × HasIdBehind i.operands
 pub by_id : (is : List PlainInst) (n : ℕ) (i : PlainInst) → slice_get is n ≡ Some i → HasAnId i → IsMisplaced is n
 by_id is n i at h = IsMisplaced.with_id i at h.0 h.1
 
-pub by_own : (is : List PlainInst) (n : ℕ) (i : PlainInst) → slice_get is n ≡ Some i → MisplacesOwn is i → IsMisplaced is n
+pub by_own : (is : List PlainInst) (n : ℕ) (i : PlainInst) → slice_get is n ≡ Some i → MisplacesOwn is i
+    → IsMisplaced is n
 by_own is n i at h = IsMisplaced.on_id h.0 h.1 (Has.own i at h.2 h.4) h.3
 
 pub by_member : (is : List PlainInst) (n : ℕ) (i : PlainInst) → slice_get is n ≡ Some i → MisplacesMember i
@@ -96,7 +102,8 @@ by_member is n i at h = IsMisplaced.on_member h.0 h.1 h.2 (HasOnMember.own i at 
 pub by_target : (l : Option ℕ) (is : List PlainInst) (s : Said) (n : ℕ) (i : PlainInst) → AreSaid l is s
     → slice_get is n ≡ Some i → MisplacesTarget is s i → IsMisplaced is n
 by_target l is s n i a at h =
-    IsMisplaced.on_id h.1 h.2 (at_has is (Gives h.2) h.1 n i at (HasAt.by_group h.0 h.3 (kept_said l is s h.0 h.2 a h.5)))
+    IsMisplaced.on_id h.1 h.2
+    (at_has is (Gives h.2) h.1 n i at (HasAt.by_group h.0 h.3 (kept_said l is s h.0 h.2 a h.5)))
     h.6
 
 pub by_pair : (l : Option ℕ) (is : List PlainInst) (s : Said) (n : ℕ) (i : PlainInst) → AreSaid l is s
@@ -105,7 +112,8 @@ by_pair l is s n i a at h = IsMisplaced.on_member h.1 h.2 h.3
     (member_at_has is h.1 h.2 h.3 n i at (HasMemberAt.by_group h.0 h.4 (kept_said l is s h.0 h.3 a h.6))) h.7
 
 on_id_cases : (l : Option ℕ) (is : List PlainInst) (s : Said) (n : ℕ) (i : PlainInst) (x d : ℕ) → AreSaid l is s
-    → slice_get is n ≡ Some i → HasAt is (Gives d) x i → ¬ (StandsOn is d x) → MisplacesOwn is i ⊎ MisplacesTarget is s i
+    → slice_get is n ≡ Some i → HasAt is (Gives d) x i → ¬ (StandsOn is d x)
+    → MisplacesOwn is i ⊎ MisplacesTarget is s i
 on_id_cases l is s n i x d a at (HasAt.own e g) m = inl (x, d, e, m, g)
 on_id_cases l is s n i x d a at (HasAt.by_group g t e) m =
     let k = known_misplaced is d x m in
@@ -174,7 +182,8 @@ same_group : (i : PlainInst) (o g h : ℕ) → group_by o i ≡ Some g → group
 same_group i o g h e f = let p : Some g ≡ Some h = sym e ∙ f in cc
 
 -- What a group that an instruction names says of its targets, and of its pairs.
-pub target_misplaced : (is : List PlainInst) (s : Said) (i : PlainInst) (g : ℕ) (os : List Plain) (ds : List ℕ) (b : Bool)
+pub target_misplaced : (is : List PlainInst) (s : Said) (i : PlainInst) (g : ℕ) (os : List Plain) (ds : List ℕ)
+    (b : Bool)
     → group_by opcode.GROUP_DECORATE i ≡ Some g → os ≡ behind_first i.operands
     → ((d : ℕ) → d < 4294967295 → Contains ds d ↔ HasBoth s.pairs g d)
     → (IsTrue b ↔ AnyId (IsAnyMisplaced is ds) os) → IsTrue b ↔ MisplacesTarget is s i

@@ -1,5 +1,6 @@
 -- O11: the members of a struct by which it is broken.
-use Rattle.std.proofs.Common.{◌≡◌, ◌∙◌, ◌⊎◌, ◌↔◌, ◌+◌, ◌<◌, inl, inr, ℕ, zero, suc, Bool, true, false, refl, sym, ap, subst, List, [], ◌∷◌, Some, None, IsTrue, length}
+use Rattle.std.proofs.Common.{◌≡◌, ◌∙◌, ◌⊎◌, ◌↔◌, ◌+◌, ◌<◌, inl, inr, ℕ, zero, suc, Bool, true, false, refl, sym, ap}
+use Rattle.std.proofs.Common.{subst, List, [], ◌∷◌, Some, None, IsTrue, length}
 use Rattle.std.specs.Prelude.{slice_get}
 use Rattle.std.proofs.lemmas.Option.{same_Some, slice_get_within}
 use Rattle.spv_module.specs.declared.opcode.TheConstants as opcode

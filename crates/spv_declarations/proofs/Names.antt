@@ -1,5 +1,6 @@
 -- O3: the names of entry points.
-use Rattle.std.proofs.Common.{◌≡◌, ◌∙◌, ◌↔◌, ◌+◌, inl, inr, ℕ, Bool, true, false, not, cond, refl, sym, ap, arith, List, Some, None, IsTrue}
+use Rattle.std.proofs.Common.{◌≡◌, ◌∙◌, ◌↔◌, ◌+◌, inl, inr, ℕ, Bool, true, false, not, cond, refl, sym, ap, arith, List}
+use Rattle.std.proofs.Common.{Some, None, IsTrue}
 use Rattle.std.specs.Prelude.{slice_get}
 use Rattle.std.specs.BTreeSet.{BTreeSet, contains}
 use Rattle.std.specs.BTreeMap.{is_at}
@@ -16,14 +17,16 @@ use Rattle.spv_declarations.proofs.Adding.{by_test}
 use Rattle.spv_declarations.proofs.Gathered.{one_inst, said_later, said_here, said_cases}
 
 named_total : IsTotalOrder named_cmp
-named_total = then_total (on_total (λ (p : Name). p.0) nat_cmp_total) (on_total (λ (p : Name). p.1.now) nat_list_cmp_total)
+named_total = then_total (on_total (λ (p : Name). p.0) nat_cmp_total)
+    (on_total (λ (p : Name). p.1.now) nat_list_cmp_total)
 
 same_named : (p q : Name) → q.0 ≡ p.0 → q.1.now ≡ p.1.now → is_at (named_cmp p) q ≡ true
 same_named p q e f = rw (e, f, tied_itself named_total p) refl
 
 named_same : (p q : Name) → is_at (named_cmp p) q ≡ true → (q.0 ≡ p.0) × (q.1.now ≡ p.1.now)
 named_same p q a =
-    let e = tells_apart (exact_pairs nat_cmp (slice_cmp nat_cmp) exact_unsigned exact_bytes) (p.0, p.1.now) (q.0, q.1.now) a in
+    let e = tells_apart (exact_pairs nat_cmp (slice_cmp nat_cmp) exact_unsigned exact_bytes) (p.0, p.1.now)
+    (q.0, q.1.now) a in
     (sym (ap (λ (x : ℕ × List ℕ). x.0) e), sym (ap (λ (x : ℕ × List ℕ). x.1) e))
 
 one_name : (p q : Name) (i : PlainInst) → Names p i → Names q i → (q.0 ≡ p.0) × (q.1.now ≡ p.1.now)

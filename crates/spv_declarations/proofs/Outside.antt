@@ -1,5 +1,6 @@
 -- O10: a variable with an initializer, and what imports it.
-use Rattle.std.proofs.Common.{◌≡◌, ◌∙◌, ◌⊎◌, ◌↔◌, ◌<◌, inl, inr, ℕ, Bool, true, false, refl, sym, ap, subst, List, ◌∷◌, Option, Some, None, IsTrue, length, nat_eq, not}
+use Rattle.std.proofs.Common.{◌≡◌, ◌∙◌, ◌⊎◌, ◌↔◌, ◌<◌, inl, inr, ℕ, Bool, true, false, refl, sym, ap, subst, List, ◌∷◌}
+use Rattle.std.proofs.Common.{Option, Some, None, IsTrue, length, nat_eq, not}
 use Rattle.std.specs.Prelude.{slice_get, codes}
 use Rattle.std.proofs.lemmas.Bool.{eq-eqb, false≢true}
 use Rattle.std.proofs.lemmas.Option.{none-some, same_Some, slice_get_within}

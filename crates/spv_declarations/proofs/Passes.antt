@@ -1,12 +1,14 @@
 -- A pass over the first instructions that stops at the first of some kind.
-use Rattle.std.proofs.Common.{◌≡◌, ◌∙◌, ◌↔◌, ◌+◌, ◌<◌, ◌≤◌, ℕ, Bool, true, false, sym, arith, List, Some, None, IsTrue, below_more}
+use Rattle.std.proofs.Common.{◌≡◌, ◌∙◌, ◌↔◌, ◌+◌, ◌<◌, ◌≤◌, ℕ, Bool, true, false, sym, arith, List, Some, None, IsTrue}
+use Rattle.std.proofs.Common.{below_more}
 use Rattle.std.specs.Prelude.{slice_get}
 use Rattle.spv_module.specs.Operand.{PlainInst}
 use Rattle.spv_declarations.specs.Given.{At}
 use Rattle.spv_declarations.specs.inner.First.{IsFirstBelow}
 use Rattle.spv_declarations.proofs.Gathered.{at_tells}
 
-pub found : (count n : ℕ) (P : ℕ → Type 0) → n < count → P n → ((k : ℕ) → k < n → ¬ (P k)) → IsFirstBelow count P (Some n)
+pub found : (count n : ℕ) (P : ℕ → Type 0) → n < count → P n → ((k : ℕ) → k < n → ¬ (P k))
+    → IsFirstBelow count P (Some n)
 found count n P l p h = (l, p, h)
 
 pub none : (count n : ℕ) (P : ℕ → Type 0) → count ≤ n → ((k : ℕ) → k < n → ¬ (P k)) → IsFirstBelow count P None

@@ -1,10 +1,13 @@
 -- What single instructions say, and by which opcodes.
-use Rattle.std.proofs.Common.{◌≡◌, ◌||◌, ◌&&◌, inl, inr, ℕ, Bool, true, false, refl, sym, subst, List, ◌∷◌, Option, Some, None, nat_eq, if◌then◌else◌}
+use Rattle.std.proofs.Common.{◌≡◌, ◌||◌, ◌&&◌, inl, inr, ℕ, Bool, true, false, refl, sym, subst, List, ◌∷◌, Option}
+use Rattle.std.proofs.Common.{Some, None, nat_eq, if◌then◌else◌}
 use Rattle.std.proofs.lemmas.Bool.{eqb-true}
 use Rattle.spv_module.specs.declared.opcode.TheConstants as opcode
 use Rattle.spv_module.specs.Operand.{Plain, Id, Value, Text, PlainInst}
 use Rattle.spv_capabilities.specs.Entry.{imported_by, linked_id, entered_by, second_id}
-use Rattle.spv_declarations.specs.Given.{is_decorate, is_member_decorate, is_of_member, given_in, given_by, member_given_in, member_given_by, member_in, member_by, group_by, first_in, Gives, NamesTarget, NamesMember}
+use Rattle.spv_declarations.specs.Given.{is_decorate, is_member_decorate, is_of_member, given_in, given_by}
+use Rattle.spv_declarations.specs.Given.{member_given_in, member_given_by, member_in, member_by, group_by, first_in}
+use Rattle.spv_declarations.specs.Given.{Gives, NamesTarget, NamesMember}
 use Rattle.spv_declarations.specs.inner.Early.{is_saying, is_early}
 use Rattle.spv_declarations.specs.inner.Said.{NamesGroup}
 

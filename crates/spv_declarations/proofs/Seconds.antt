@@ -1,5 +1,6 @@
 -- O8: an id that has Restrict and Aliased, and the first instructions by which it has them.
-use Rattle.std.proofs.Common.{◌≡◌, ◌∙◌, ◌⊎◌, ◌↔◌, ◌+◌, ◌<◌, ◌≤◌, inl, inr, ℕ, Bool, refl, sym, subst, arith, List, [], Some, None, IsTrue, length}
+use Rattle.std.proofs.Common.{◌≡◌, ◌∙◌, ◌⊎◌, ◌↔◌, ◌+◌, ◌<◌, ◌≤◌, inl, inr, ℕ, Bool, refl, sym, subst, arith, List, []}
+use Rattle.std.proofs.Common.{Some, None, IsTrue, length}
 use Rattle.std.specs.Prelude.{slice_get}
 use Rattle.std.specs.BTreeSet.{BTreeSet, contains}
 use Rattle.std.specs.Ordering.{nat_cmp}

@@ -1,5 +1,6 @@
 -- Ids that instructions decorate, and passes over all instructions.
-use Rattle.std.proofs.Common.{◌≡◌, ◌≢◌, ◌∙◌, ◌⊎◌, ◌↔◌, ◌<◌, ◌≤◌, inl, inr, ℕ, Bool, true, false, refl, sym, ap, subst, arith, List, [], Option, Some, None, IsTrue, length, nat_eq, if◌then◌else◌}
+use Rattle.std.proofs.Common.{◌≡◌, ◌≢◌, ◌∙◌, ◌⊎◌, ◌↔◌, ◌<◌, ◌≤◌, inl, inr, ℕ, Bool, true, false, refl, sym, ap, subst}
+use Rattle.std.proofs.Common.{arith, List, [], Option, Some, None, IsTrue, length, nat_eq, if◌then◌else◌}
 use Rattle.std.specs.Prelude.{slice_get}
 use Rattle.std.specs.BTreeSet.{BTreeSet}
 use Rattle.std.proofs.lemmas.Bool.{eq-eqb, eqb-true}
@@ -16,7 +17,8 @@ use Rattle.spv_declarations.specs.inner.Sets.{Adds, HasBoth, IsIn, IsOf, IsSaid}
 use Rattle.spv_declarations.specs.inner.Shown.{Enters, IsDecorated}
 use Rattle.spv_declarations.proofs.Gathered.{none_in}
 use Rattle.spv_declarations.proofs.Saying.{imports_give}
-use Rattle.spv_declarations.proofs.Stated.{at_has, has_at, own_only, by_group_only, import_own, import_by_group, kept_said, target_kept, target_imports}
+use Rattle.spv_declarations.proofs.Stated.{at_has, has_at, own_only, by_group_only, import_own, import_by_group}
+use Rattle.spv_declarations.proofs.Stated.{kept_said, target_kept, target_imports}
 
 -- A pass over all instructions meets one that is such a one.
 pub none_left : (is : List PlainInst) (P : PlainInst → Type 0) (total n : ℕ) → total ≡ length is → total ≤ n

@@ -1,5 +1,6 @@
 -- Where the instructions stand that rules look at.
-use Rattle.std.proofs.Common.{◌≡◌, ◌+◌, ◌<◌, ◌≤◌, inl, inr, ℕ, true, refl, subst, arith, List, [], Option, Some, None, nat_eq}
+use Rattle.std.proofs.Common.{◌≡◌, ◌+◌, ◌<◌, ◌≤◌, inl, inr, ℕ, true, refl, subst, arith, List, [], Option, Some, None}
+use Rattle.std.proofs.Common.{nat_eq}
 use Rattle.std.specs.Prelude.{slice_get}
 use Rattle.std.specs.BTreeSet.{BTreeSet}
 use Rattle.std.proofs.lemmas.Bool.{cases_lt, eqb-true}

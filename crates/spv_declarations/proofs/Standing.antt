@@ -1,5 +1,6 @@
 -- Where rules can be broken: before the functions.
-use Rattle.std.proofs.Common.{◌≡◌, ◌∙◌, ◌<◌, inl, inr, ℕ, Bool, true, false, refl, sym, subst, List, ◌∷◌, Option, Some, None, nat_eq, if◌then◌else◌}
+use Rattle.std.proofs.Common.{◌≡◌, ◌∙◌, ◌<◌, inl, inr, ℕ, Bool, true, false, refl, sym, subst, List, ◌∷◌, Option, Some}
+use Rattle.std.proofs.Common.{None, nat_eq, if◌then◌else◌}
 use Rattle.std.specs.Prelude.{option_map}
 use Rattle.spv_table.specs.Table.{Table}
 use Rattle.spv_module.specs.declared.opcode.TheConstants as opcode
@@ -12,7 +13,8 @@ use Rattle.spv_type_forms.specs.Form.{form_in, float_in, vector_in, array_in, po
 use Rattle.spv_declarations.specs.Given.{first_in}
 use Rattle.spv_declarations.specs.Entry.{IsRepeated, TakesId, name_in}
 use Rattle.spv_declarations.specs.Declarations.{IsForwardElsewhere, IsIncapable, IsOfNoMember}
-use Rattle.spv_declarations.specs.Decorated.{HasBy, HasOnMember, IsHalfBuiltIn, IsInitialized, IsLinkedEntry, IsMisplaced, IsSecond}
+use Rattle.spv_declarations.specs.Decorated.{HasBy, HasOnMember, IsHalfBuiltIn, IsInitialized, IsLinkedEntry}
+use Rattle.spv_declarations.specs.Decorated.{IsMisplaced, IsSecond}
 use Rattle.spv_declarations.specs.inner.Early.{AreEarly}
 use Rattle.spv_declarations.proofs.Saying.{gated, member_early, by_opcode, early_by}
 use Rattle.spv_declarations.proofs.Stated.{has_by_early, has_member_early, has_place, member_place}
@@ -117,7 +119,8 @@ declares_int : (i : PlainInst) (b : Bool) → nat_eq i.opcode opcode.TYPE_INT �
 declares_int i true e h = refl
 declares_int i false e h = absurd (other_no i e h)
 
-pub o13_early : (G : Table) (is : List PlainInst) (count : ℕ) → AreEarly is count → (n : ℕ) → IsIncapable G is n → n < count
+pub o13_early : (G : Table) (is : List PlainInst) (count : ℕ) → AreEarly is count → (n : ℕ) → IsIncapable G is n
+    → n < count
 o13_early G is count e n (i, at, inl h) = e.each n i at
     (early_by i opcode.TYPE_INT (declares_int i (nat_eq i.opcode opcode.TYPE_INT) refl h.0) refl)
 o13_early G is count e n (i, at, inr h) = e.each n i at (by_opcode i opcode.MEMORY_MODEL h.0 refl)

@@ -1,18 +1,22 @@
 -- What ids and members have, and by which instruction.
-use Rattle.std.proofs.Common.{◌≡◌, ◌∙◌, ◌↔◌, inl, inr, ℕ, Bool, true, false, refl, sym, ap, subst, arith, List, [], ◌∷◌, Option, Some, None, Result, Ok, Err, OnOk, IsTrue, ◌≤◌, length}
+use Rattle.std.proofs.Common.{◌≡◌, ◌∙◌, ◌↔◌, inl, inr, ℕ, Bool, true, false, refl, sym, ap, subst, arith, List, [], ◌∷◌}
+use Rattle.std.proofs.Common.{Option, Some, None, Result, Ok, Err, OnOk, IsTrue, ◌≤◌, length}
 use Rattle.std.specs.Prelude.{slice_get}
 use Rattle.std.specs.BTreeSet.{BTreeSet}
 use Rattle.spv_module.specs.declared.opcode.TheConstants as opcode
 use Rattle.spv_module.specs.Operand.{PlainInst}
 use Rattle.spv_conditions.specs.Further.{IsGroup, IsMember}
-use Rattle.spv_declarations.specs.Given.{is_decorate, given_by, given_in, member_given_by, member_given_in, is_member_decorate, Gives, NamesTarget, NamesMember}
+use Rattle.spv_declarations.specs.Given.{is_decorate, given_by, given_in, member_given_by, member_given_in}
+use Rattle.spv_declarations.specs.Given.{is_member_decorate, Gives, NamesTarget, NamesMember}
 use Rattle.spv_declarations.specs.Decorated.{Has, HasBy, HasOnMember}
 use Rattle.spv_declarations.specs.Table.{is_listed, lines, StandsOn}
 use Rattle.spv_declarations.specs.declared.said.Said.{Said}
 use Rattle.spv_declarations.specs.inner.Early.{is_early, AreEarly}
-use Rattle.spv_declarations.specs.inner.Said.{IsKnown, NamesGroup, ImportsBy, GivesGroup, ImportsGroup, AreSaid, HasAt, HasMemberAt, BuildsIn}
+use Rattle.spv_declarations.specs.inner.Said.{IsKnown, NamesGroup, ImportsBy, GivesGroup, ImportsGroup, AreSaid, HasAt}
+use Rattle.spv_declarations.specs.inner.Said.{HasMemberAt, BuildsIn}
 use Rattle.spv_declarations.specs.inner.Sets.{IsIn, HasBoth, Adds, AddsBoth, IsSaid, IsOf, HasAll, Gathers, GathersBoth}
-use Rattle.spv_declarations.proofs.Saying.{gated, given_early, member_given_early, target_early, pair_early, target_group, member_group, imports_give}
+use Rattle.spv_declarations.proofs.Saying.{gated, given_early, member_given_early, target_early, pair_early}
+use Rattle.spv_declarations.proofs.Saying.{target_group, member_group, imports_give}
 use Rattle.spv_declarations.proofs.Adding.{adds_same, adds_none, both_same, both_none}
 use Rattle.spv_declarations.proofs.Gathered.{one_inst, none_in, none_both, said_early}
 

@@ -1,5 +1,6 @@
 -- What the tests of single instructions tell.
-use Rattle.std.proofs.Common.{◌≡◌, ◌↔◌, ◌<◌, inl, inr, ℕ, zero, suc, length, Bool, true, refl, sym, ap, subst, arith, List, [], ◌∷◌, Option, Some, nat_eq, IsTrue}
+use Rattle.std.proofs.Common.{◌≡◌, ◌↔◌, ◌<◌, inl, inr, ℕ, zero, suc, length, Bool, true, refl, sym, ap, subst, arith}
+use Rattle.std.proofs.Common.{List, [], ◌∷◌, Option, Some, nat_eq, IsTrue}
 use Rattle.std.specs.Prelude.{slice_get, codes}
 use Rattle.std.specs.BTreeSet.{BTreeSet}
 use Rattle.std.proofs.lemmas.Bool.{eqb-true, eq-eqb}
@@ -81,7 +82,8 @@ there_again G is l imported n i h e at r =
     let v : nat_eq i.opcode opcode.VARIABLE ≡ true =
     eq-eqb i.opcode opcode.VARIABLE (subst (λ (j : PlainInst). j.opcode ≡ opcode.VARIABLE) q r.opcode) in
     let o : i.operands ≡ OfType r.type ∷ Result r.id ∷ Value r.kind r.class ∷ Id r.initializer ∷ r.rest =
-    subst (λ (j : PlainInst). j.operands ≡ OfType r.type ∷ Result r.id ∷ Value r.kind r.class ∷ Id r.initializer ∷ r.rest) q
+    subst (λ (j : PlainInst). j.operands
+    ≡ OfType r.type ∷ Result r.id ∷ Value r.kind r.class ∷ Id r.initializer ∷ r.rest) q
     r.operands in (
       r.id,
       r.class,

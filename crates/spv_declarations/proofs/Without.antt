@@ -1,25 +1,32 @@
 -- What kinds of instructions there are, and what that tells of the rules.
-use Rattle.std.proofs.Common.{◌≡◌, ◌∙◌, ◌⊎◌, ◌↔◌, ◌+◌, ◌<◌, ◌&&◌, ◌||◌, inl, inr, ℕ, Bool, true, false, refl, sym, subst, arith, List, [], Option, Some, None, nat_eq, IsTrue}
+use Rattle.std.proofs.Common.{◌≡◌, ◌∙◌, ◌⊎◌, ◌↔◌, ◌+◌, ◌<◌, ◌&&◌, ◌||◌, inl, inr, ℕ, Bool, true, false, refl, sym}
+use Rattle.std.proofs.Common.{subst, arith, List, [], Option, Some, None, nat_eq, IsTrue}
 use Rattle.std.specs.Prelude.{slice_get}
 use Rattle.std.specs.BTreeSet.{BTreeSet}
 use Rattle.std.proofs.lemmas.Bool.{cases_lt, eqb-true, eq-eqb}
 use Rattle.spv_table.specs.Table.{Table}
 use Rattle.spv_module.specs.declared.opcode.TheConstants as opcode
 use Rattle.spv_module.specs.Operand.{PlainInst}
-use Rattle.spv_declarations.specs.Given.{At, Gives, is_decorate, is_member_decorate, is_of_member, given_in, member_in, member_given_in}
-use Rattle.spv_declarations.specs.Declarations.{AnnouncesElsewhere, IsForwardElsewhere, IsIncapable, IsOfNoMember, NamesNoMember, NeedsAnother}
-use Rattle.spv_declarations.specs.Decorated.{HasBy, HasOnMember, IsBuiltIn, IsHalfBuiltIn, IsInitialized, IsLinkedEntry, IsMisplaced, IsSecond}
+use Rattle.spv_declarations.specs.Given.{At, Gives, is_decorate, is_member_decorate, is_of_member, given_in, member_in}
+use Rattle.spv_declarations.specs.Given.{member_given_in}
+use Rattle.spv_declarations.specs.Declarations.{AnnouncesElsewhere, IsForwardElsewhere, IsIncapable, IsOfNoMember}
+use Rattle.spv_declarations.specs.Declarations.{NamesNoMember, NeedsAnother}
+use Rattle.spv_declarations.specs.Decorated.{HasBy, HasOnMember, IsBuiltIn, IsHalfBuiltIn, IsInitialized, IsLinkedEntry}
+use Rattle.spv_declarations.specs.Decorated.{IsMisplaced, IsSecond}
 use Rattle.spv_declarations.specs.Entry.{IsRepeated, SetsById, TakesId, name_in}
 use Rattle.spv_declarations.specs.declared.said.Said.{Said}
 use Rattle.spv_declarations.specs.declared.kinds.Kinds.{Kinds}
-use Rattle.spv_declarations.specs.inner.Early.{AreEarly, is_saying}
+use Rattle.spv_declarations.specs.inner.Early.{AreEarly, is_grouping, is_saying}
 use Rattle.spv_declarations.specs.inner.First.{IsFirstBelow}
-use Rattle.spv_declarations.specs.inner.Kinds.{Enters, IsOfMembers, Groups, GivesAny, Initializes, Misses, Marks, EnterOnce, AreKinds, IsCapable, Notes, is_grouping}
+use Rattle.spv_declarations.specs.inner.Kinds.{Enters, IsOfMembers, Groups, GivesAny, Initializes, Misses, Marks}
+use Rattle.spv_declarations.specs.inner.Kinds.{EnterOnce, AreKinds, IsCapable, Notes}
 use Rattle.spv_declarations.specs.inner.Said.{AreSaid, HasAt, HasMemberAt, ImportsBy, NamesGroup}
 use Rattle.spv_declarations.specs.inner.Sets.{HasAll, IsSaid, IsSaidBefore}
 use Rattle.spv_declarations.proofs.Gathered.{none_in, none_both, one_inst, said_none, said_cases, said_early}
-use Rattle.spv_declarations.proofs.Saying.{gated, or_left, or_right, target_group, member_group, imports_give, group_early}
-use Rattle.spv_declarations.proofs.Stated.{has_at, has_place, has_import_early, has_member_early, member_has_at, member_place}
+use Rattle.spv_declarations.proofs.Saying.{gated, or_left, or_right, target_group, member_group, imports_give}
+use Rattle.spv_declarations.proofs.Saying.{group_early}
+use Rattle.spv_declarations.proofs.Stated.{has_at, has_place, has_import_early, has_member_early, member_has_at}
+use Rattle.spv_declarations.proofs.Stated.{member_place}
 
 -- Of no instructions there is none of any kind; and of one more.
 misses_more : (is : List PlainInst) (P : PlainInst → Type 0) (n : ℕ) (i : PlainInst) (old new : Bool)
@@ -197,7 +204,8 @@ no_member_by is count t j d m k i a g e l at (HasMemberAt.own s) = a.members e (
   l,
   at,
   or_right
-      (nat_eq i.opcode opcode.MEMBER_NAME) _ (gated (is_member_decorate i.opcode) (member_given_in i.operands) (t, j, d) s),
+      (nat_eq i.opcode opcode.MEMBER_NAME) _
+      (gated (is_member_decorate i.opcode) (member_given_in i.operands) (t, j, d) s),
 )
 no_member_by is count t j d m k i a g e l at (HasMemberAt.by_group h p s) =
     a.groups g (m, i, l, at, grouping i opcode.GROUP_MEMBER_DECORATE (member_group i h p.0) refl)
@@ -241,7 +249,8 @@ has_says is d x i (HasAt.by_group g t s) = says i opcode.GROUP_DECORATE (target_
 
 pub member_says : (is : List PlainInst) (t k d : ℕ) (i : PlainInst) → HasMemberAt is t k d i → is_saying i.opcode ≡ true
 member_says is t k d i (HasMemberAt.own e) =
-    or_right (is_decorate i.opcode) _ (or_left (is_of_member i.opcode) _ (or_right (nat_eq i.opcode opcode.MEMBER_NAME) _
+    or_right (is_decorate i.opcode) _
+    (or_left (is_of_member i.opcode) _ (or_right (nat_eq i.opcode opcode.MEMBER_NAME) _
     (gated (is_member_decorate i.opcode) (member_given_in i.operands) (t, k, d) e)))
 member_says is t k d i (HasMemberAt.by_group g p s) =
     says i opcode.GROUP_MEMBER_DECORATE (member_group i g p.0) refl
@@ -269,27 +278,25 @@ either_not : (a b : Bool) → (a && b) ≡ false → (a ≡ false) ⊎ (b ≡ fa
 either_not true b e = inr e
 either_not false b e = inl refl
 
-pub not_linked : (is : List PlainInst) (count : ℕ) (k : Kinds) (c : Bool) → AreKinds is count k
-    → c ≡ (k.groups || k.linked) → c ≡ false → IsFirstBelow count (IsLinkedEntry is) None
-not_linked is count k c a t f =
-    let n = neither k.groups k.linked (sym t ∙ f) in no_linked is count k a n.0 n.1
+pub not_linked : (is : List PlainInst) (count : ℕ) (k : Kinds) → AreKinds is count k → (k.groups || k.linked) ≡ false
+    → IsFirstBelow count (IsLinkedEntry is) None
+not_linked is count k a f = let n = neither k.groups k.linked f in no_linked is count k a n.0 n.1
 
-pub not_imported : (is : List PlainInst) (l : Option ℕ) (count : ℕ) (k : Kinds) (s : BTreeSet ℕ) (c : Bool)
-    → AreEarly is count → AreKinds is count k → c ≡ (k.groups || k.linked) → c ≡ false → s.keys ≡ []
+pub not_imported : (is : List PlainInst) (l : Option ℕ) (count : ℕ) (k : Kinds) (s : BTreeSet ℕ) → AreEarly is count
+    → AreKinds is count k → (k.groups || k.linked) ≡ false → s.keys ≡ []
     → HasAll is (λ i x. HasAt is (ImportsBy l) x i) s
-not_imported is l count k s c early a t f e =
-    let n = neither k.groups k.linked (sym t ∙ f) in no_imports is l count k s early a n.0 n.1 e
+not_imported is l count k s early a f e =
+    let n = neither k.groups k.linked f in no_imports is l count k s early a n.0 n.1 e
 
-pub not_built_in : (is : List PlainInst) (count : ℕ) (k : Kinds) (c : Bool) → AreEarly is count → AreKinds is count k
-    → c ≡ (k.groups || k.members) → c ≡ false → IsFirstBelow count (IsHalfBuiltIn is) None
-not_built_in is count k c early a t f =
-    let n = neither k.groups k.members (sym t ∙ f) in no_built_in is count k early a n.0 n.1
+pub not_built_in : (is : List PlainInst) (count : ℕ) (k : Kinds) → AreEarly is count → AreKinds is count k
+    → (k.groups || k.members) ≡ false → IsFirstBelow count (IsHalfBuiltIn is) None
+not_built_in is count k early a f = let n = neither k.groups k.members f in no_built_in is count k early a n.0 n.1
 
-pub not_second : (is : List PlainInst) (count : ℕ) (k : Kinds) (b c : Bool) → AreKinds is count k
-    → b ≡ (k.restricted && k.aliased) → c ≡ (k.groups || b) → c ≡ false → IsFirstBelow count (IsSecond is) None
-not_second is count k b c a u t f =
-    let n = neither k.groups b (sym t ∙ f) in
-    elim (either_not k.restricted k.aliased (sym u ∙ n.1)) [
+pub not_second : (is : List PlainInst) (count : ℕ) (k : Kinds) → AreKinds is count k
+    → (k.groups || (k.restricted && k.aliased)) ≡ false → IsFirstBelow count (IsSecond is) None
+not_second is count k a f =
+    let n = neither k.groups (k.restricted && k.aliased) f in
+    elim (either_not k.restricted k.aliased n.1) [
       | inl e ↦ no_restricted is count k a n.0 e
       | inr e ↦ no_aliased is count k a n.0 e
     ]

@@ -1,5 +1,6 @@
 -- The worked examples.
-use Rattle.std.proofs.Common.{◌≡◌, ◌∙◌, ◌≤◌, ◌&&◌, ◌||◌, inl, inr, ℕ, zero, suc, Bool, true, false, refl, sym, ap, subst, arith, List, [], ◌∷◌, Option, Some, None, IsTrue}
+use Rattle.std.proofs.Common.{◌≡◌, ◌∙◌, ◌≤◌, ◌&&◌, ◌||◌, inl, inr, ℕ, zero, suc, Bool, true, false, refl, sym, ap}
+use Rattle.std.proofs.Common.{subst, arith, List, [], ◌∷◌, Option, Some, None, IsTrue}
 use Rattle.std.specs.Prelude.{slice_get, IsSomeAnd}
 use Rattle.spv_module.specs.declared.opcode.TheConstants as opcode
 use Rattle.spv_module.specs.Operand.{PlainInst}
@@ -113,7 +114,8 @@ well_placed (IsMisplaced.on_id x d h m) = placed x d (has_at decorated (Gives d)
     placed : (x d : ℕ) → HasAt decorated (Gives d) x (decorate 3 19) → ¬ (StandsOn decorated d x) → ⊥
     placed x d (HasAt.own e g) m =
         let p = one_pair (Some (3, 19)) 3 19 x d refl e in
-        m (subst (λ (k : ℕ). StandsOn decorated k x) p.1 (subst (λ (k : ℕ). StandsOn decorated 19 k) p.0 restrict_stands))
+        m (subst (λ (k : ℕ). StandsOn decorated k x) p.1
+        (subst (λ (k : ℕ). StandsOn decorated 19 k) p.0 restrict_stands))
     placed x d (HasAt.by_group g t s) m = let no : None ≡ Some g = t.0 in cc
 well_placed (IsMisplaced.on_member t k d h m) = placed t k d (member_has_at decorated t k d 0 (decorate 3 19) refl h)
   where

@@ -1,5 +1,6 @@
 -- What single instructions say of ids and of members. [3.49.3]
-use Rattle.std.specs.Prelude.{if◌then◌else◌, ◌≡◌, ℕ, List, [], ◌∷◌, Option, Some, None, Bool, nat_eq, ◌||◌, drop, slice_get}
+use Rattle.std.specs.Prelude.{if◌then◌else◌, ◌≡◌, ℕ, List, [], ◌∷◌, Option, Some, None, Bool, nat_eq, ◌||◌, drop}
+use Rattle.std.specs.Prelude.{slice_get}
 use Rattle.std.specs.Prelude.{◌⊎◌}
 use Rattle.spv_module.specs.declared.opcode.TheConstants as opcode
 use Rattle.spv_module.specs.Operand.{Plain, Id, Word, Value, PlainInst}

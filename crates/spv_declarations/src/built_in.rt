@@ -14,7 +14,6 @@ ghost use Rattle.spv_declarations.specs.inner.Said.{AreSaid, BuildsIn};
 ghost use Rattle.spv_declarations.specs.inner.Sets.{AddsBoth, AnyId, HasBoth, IsIn, IsOf};
 
 use crate::decorated::{behind_first, behind_two, group_of, member_given, member_in};
-use crate::either::either;
 use crate::kinds::Kinds;
 use crate::said::Said;
 use crate::sets::{put, put_member};
@@ -233,7 +232,7 @@ pub fn first_half_built_in(
     requires said { (l : Option ℕ) × AreSaid l definitions.now said.now }
     ensures { IfOk result (IsFirstBelow count (IsHalfBuiltIn definitions.now)) }
 {
-    if !either(kinds.groups, kinds.members) {
+    if !(kinds.groups | kinds.members) {
         return Ok(None);
     }
     let found = built_ins(alloc, definitions, said, count)?;

@@ -14,17 +14,26 @@ use spv_capabilities::Capabilities;
 use spv_module::{Inst, opcode};
 use spv_type_forms::{Form, Scalar, form_in};
 
-/// The number of the capability VulkanMemoryModel.
+/// The numbers of the capabilities Int8, StorageBuffer8BitAccess, UniformAndStorageBuffer8BitAccess,
+/// StoragePushConstant8 and VulkanMemoryModel.
+const INT8: u32 = 39;
+
+const STORAGE_BUFFER_8BIT_ACCESS: u32 = 4448;
+
+const UNIFORM_AND_STORAGE_BUFFER_8BIT_ACCESS: u32 = 4449;
+
+const STORAGE_PUSH_CONSTANT8: u32 = 4450;
+
 const VULKAN_MEMORY_MODEL: u32 = 5345;
 
 /// Whether ints of 8 bits may be declared.
 fn has_bytes(capabilities: &Capabilities<'_, '_>) -> bool
     ensures { IsTrue result ↔ HasBytes capabilities.now.table capabilities.now.insts }
 {
-    capabilities.has(39)
-        || capabilities.has(4448)
-        || capabilities.has(4449)
-        || capabilities.has(4450)
+    capabilities.has(INT8)
+        || capabilities.has(STORAGE_BUFFER_8BIT_ACCESS)
+        || capabilities.has(UNIFORM_AND_STORAGE_BUFFER_8BIT_ACCESS)
+        || capabilities.has(STORAGE_PUSH_CONSTANT8)
 }
 
 /// Whether an instruction declares an int of 8 bits.

@@ -1,4 +1,4 @@
-//! What single instructions say of ids and of members.
+//! What single instructions say of ids and of members. Tests of opcodes are joined by `|`, which takes no branch.
 
 ghost use Rattle.std.specs.Prelude.{◌≡◌, ◌↔◌, IsTrue, drop};
 ghost use Rattle.spv_module.specs.Module.{plain_inst, plain_operands};
@@ -7,7 +7,6 @@ ghost use Rattle.spv_declarations.specs.Given as spec;
 ghost use Rattle.spv_declarations.specs.inner.Early as inner;
 ghost use Rattle.spv_declarations.specs.inner.Sets.{AnyId};
 
-use crate::either::either;
 use spv_module::{Inst, Operand, opcode};
 use spv_type_forms::Definitions;
 
@@ -35,21 +34,28 @@ pub fn is_of_member(number: u16) -> bool
     number == opcode::MEMBER_NAME || is_member_decorate(number)
 }
 
+/// Whether an opcode is that of OpGroupDecorate or OpGroupMemberDecorate.
+#[inline(always)]
+pub fn is_grouping(number: u16) -> bool
+    ensures { result ≡ inner.is_grouping number }
+{
+    number == opcode::GROUP_DECORATE || number == opcode::GROUP_MEMBER_DECORATE
+}
+
+/// Whether an opcode is that of an instruction that speaks of members or groups.
+#[inline(always)]
+pub fn is_of_parts(number: u16) -> bool
+    ensures { result ≡ inner.is_of_parts number }
+{
+    is_of_member(number) | is_grouping(number)
+}
+
 /// Whether an opcode is that of an instruction that says something of ids or members.
 #[inline(always)]
 pub fn is_saying(number: u16) -> bool
     ensures { result ≡ inner.is_saying number }
 {
-    either(
-        is_decorate(number),
-        either(
-            is_of_member(number),
-            either(
-                number == opcode::GROUP_DECORATE,
-                number == opcode::GROUP_MEMBER_DECORATE,
-            ),
-        ),
-    )
+    is_decorate(number) | is_of_parts(number)
 }
 
 /// The id and the decoration that operands give it.

@@ -1,6 +1,7 @@
 //! O3 and O5: entry points of one name, and execution modes.
 
-ghost use Rattle.std.specs.Prelude.{◌↔◌, ◌≡◌, ◌≤◌, ◌+◌, ℕ, List, IfOk, IsTrue, Some, false, length, option_map, slice_get};
+ghost use Rattle.std.specs.Prelude.{◌↔◌, ◌≡◌, ◌≤◌, ◌+◌, ℕ, List, IfOk, IsTrue, Some, false, length, option_map};
+ghost use Rattle.std.specs.Prelude.{slice_get};
 ghost use Rattle.spv_module.specs.Operand.{PlainInst};
 ghost use Rattle.spv_module.specs.Module.{plain_inst, plain_operands};
 ghost use Rattle.spv_declarations.specs.Entry as spec;

@@ -17,11 +17,9 @@ ghost use Rattle.spv_declarations.specs.inner.Sets.{Adds, HasAll, IsIn, IsOf};
 ghost use Rattle.spv_declarations.specs.inner.Spans.{AreSpans};
 
 use crate::decorated::{behind_first, group_of, is_group};
-use crate::either::either;
-use crate::kinds::Kinds;
+use crate::front::Front;
 use crate::said::{Said, imported_by};
 use crate::sets::{put, put_all};
-use crate::spans::Spans;
 use spv_module::{Inst, Operand, opcode};
 use spv_type_forms::{DECLARATIONS, Definitions};
 use std::alloc::{AllocError, Global};
@@ -97,24 +95,22 @@ fn add_imported(
 fn imported(
     alloc: Global,
     definitions: &Definitions,
-    kinds: &Kinds,
-    spans: &Spans,
+    front: &Front,
     linkage: Option<u32>,
     said: &Said,
-    count: u32,
 ) -> Result<BTreeSet<u32>, AllocError>
-    requires count { count ≤ length definitions.now }
-    requires early { AreEarly definitions.now count }
-    requires kinds { AreKinds definitions.now count kinds.now }
-    requires spans { AreSpans definitions.now count spans.now }
+    requires count { front.now.count ≤ length definitions.now }
+    requires early { AreEarly definitions.now front.now.count }
+    requires kinds { AreKinds definitions.now front.now.count front.now.kinds }
+    requires spans { AreSpans definitions.now front.now.count front.now.spans }
     requires said { AreSaid linkage definitions.now said.now }
     ensures { IfOk result (HasAll definitions.now (λ i x. HasAt definitions.now (ImportsBy linkage) x i)) }
 {
     let mut imported = BTreeSet::new(alloc);
-    if !either(kinds.groups, kinds.linked) {
+    if !(front.kinds.groups | front.kinds.linked) {
         return Ok(imported);
     }
-    for number in spans.from..spans.to {
+    for number in front.spans.from..front.spans.to {
         add_imported(
             &mut imported,
             definitions,
@@ -148,33 +144,31 @@ fn is_initialized(definitions: &Definitions, imported: &BTreeSet<u32>, number: u
     definitions.place(number).section == DECLARATIONS
 }
 
-/// The first of the first `count` instructions, which are those of sections 1 to 9, that breaks O10 (SPIR-V
-/// Specification 1.6, sections 2.16.1 and 3.7), where the kind LinkageType has that number.
+/// The first of the instructions before the functions that breaks O10 (SPIR-V Specification 1.6, sections 2.16.1 and
+/// 3.7), where the kind LinkageType has that number.
 ///
 /// Time is near-linear in the words of these instructions. Where none of them is an OpVariable with an initializer, it
 /// looks at none, and the number of the kind does not matter.
 pub fn first_initialized(
     alloc: Global,
     definitions: &Definitions,
-    kinds: &Kinds,
-    spans: &Spans,
+    front: &Front,
     linkage: Option<u32>,
     said: &Said,
-    count: u32,
 ) -> Result<Option<u32>, AllocError>
-    requires count { count ≤ length definitions.now }
-    requires early { AreEarly definitions.now count }
-    requires kinds { AreKinds definitions.now count kinds.now }
-    requires spans { AreSpans definitions.now count spans.now }
+    requires count { front.now.count ≤ length definitions.now }
+    requires early { AreEarly definitions.now front.now.count }
+    requires kinds { AreKinds definitions.now front.now.count front.now.kinds }
+    requires spans { AreSpans definitions.now front.now.count front.now.spans }
     requires said { AreSaid linkage definitions.now said.now }
-    ensures { (G : Table) → (kinds.now.initialized ≡ true → linkage ≡ number_named G (codes "LinkageType"))
-        → IfOk result (IsFirstBelow count (IsInitialized G definitions.now)) }
+    ensures { (G : Table) → (front.now.kinds.initialized ≡ true → linkage ≡ number_named G (codes "LinkageType"))
+        → IfOk result (IsFirstBelow front.now.count (IsInitialized G definitions.now)) }
 {
-    if !kinds.initialized {
+    if !front.kinds.initialized {
         return Ok(None);
     }
-    let imported = imported(alloc, definitions, kinds, spans, linkage, said, count)?;
-    for number in 0..count {
+    let imported = imported(alloc, definitions, front, linkage, said)?;
+    for number in 0..front.count {
         if is_initialized(definitions, &imported, number) {
             return Ok(Some(number));
         }

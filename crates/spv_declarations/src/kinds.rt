@@ -1,4 +1,5 @@
-//! Which kinds of instructions stand before the functions.
+//! Which kinds of instructions stand before the functions. Each instruction is asked, so tests are joined by `|` and
+//! `&`, which take no branch.
 
 ghost use Rattle.std.specs.Prelude.{◌≡◌, ◌↔◌, ◌<◌, ◌≤◌, IsTrue, false, length, true};
 ghost use Rattle.spv_module.specs.Module.{plain_inst};
@@ -8,8 +9,7 @@ ghost use Rattle.spv_declarations.specs.inner.Kinds.{AreKinds, Notes};
 ghost use Rattle.spv_declarations.specs.inner.Spans.{AreSpans, Widens};
 
 use crate::capable::declares_bytes;
-use crate::decorated::{given, is_decorate, is_of_member};
-use crate::either::{both, either};
+use crate::decorated::{given, is_decorate, is_grouping, is_of_member, is_of_parts};
 use crate::entry::takes_id;
 use crate::initialized::initialized_by;
 use crate::said::LINKAGE_ATTRIBUTES;
@@ -46,35 +46,13 @@ pub struct Kinds {
     pub bytes: bool,
 }
 
-/// Whether an opcode is that of OpGroupDecorate or OpGroupMemberDecorate.
-#[inline(always)]
-fn is_grouping(number: u16) -> bool
-    ensures { result ≡ spec.is_grouping number }
-{
-    number == opcode::GROUP_DECORATE || number == opcode::GROUP_MEMBER_DECORATE
-}
-
-/// Whether an opcode is that of an instruction that speaks of groups or members.
-#[inline(always)]
-fn is_of_parts(number: u16) -> bool
-    ensures { result ≡ spec.is_of_parts number }
-{
-    either(is_grouping(number), is_of_member(number))
-}
-
 /// Whether an opcode is that of a kind that says nothing of ids or members, and no OpEntryPoint.
 #[inline(always)]
 fn is_other(number: u16) -> bool
     ensures { result ≡ spec.is_other number }
 {
-    let of_types = either(
-        number == opcode::TYPE_FORWARD_POINTER,
-        number == opcode::TYPE_INT,
-    );
-    either(
-        of_types,
-        either(number == opcode::VARIABLE, number == opcode::EXECUTION_MODE),
-    )
+    let of_types = (number == opcode::TYPE_FORWARD_POINTER) | (number == opcode::TYPE_INT);
+    of_types | ((number == opcode::VARIABLE) | (number == opcode::EXECUTION_MODE))
 }
 
 /// Whether an instruction is an OpVariable with an initializer.
@@ -98,9 +76,9 @@ impl Kinds {
         let Some((_, decoration)) = given(inst) else {
             return;
         };
-        self.restricted = either(self.restricted, decoration == RESTRICT);
-        self.aliased = either(self.aliased, decoration == ALIASED);
-        self.linked = either(self.linked, decoration == LINKAGE_ATTRIBUTES);
+        self.restricted |= decoration == RESTRICT;
+        self.aliased |= decoration == ALIASED;
+        self.linked |= decoration == LINKAGE_ATTRIBUTES;
     }
 
     /// Takes note of an instruction that decorates no id.
@@ -110,14 +88,14 @@ impl Kinds {
         ensures { Notes self.old self.new (plain_inst inst.now) }
     {
         let enters = inst.opcode == opcode::ENTRY_POINT;
-        self.entries = either(self.entries, both(self.entry, enters));
-        self.entry = either(self.entry, enters);
-        self.by_id = either(self.by_id, takes_id(inst));
-        self.members = either(self.members, is_of_member(inst.opcode));
-        self.groups = either(self.groups, is_grouping(inst.opcode));
-        self.initialized = either(self.initialized, initializes(inst));
-        self.forward = either(self.forward, inst.opcode == opcode::TYPE_FORWARD_POINTER);
-        self.bytes = either(self.bytes, declares_bytes(inst));
+        self.entries |= self.entry & enters;
+        self.entry |= enters;
+        self.by_id |= takes_id(inst);
+        self.members |= is_of_member(inst.opcode);
+        self.groups |= is_grouping(inst.opcode);
+        self.initialized |= initializes(inst);
+        self.forward |= inst.opcode == opcode::TYPE_FORWARD_POINTER;
+        self.bytes |= declares_bytes(inst);
     }
 }
 

@@ -5,9 +5,9 @@
 mod built_in;
 mod capable;
 mod decorated;
-mod either;
 mod entry;
 mod found;
+mod front;
 mod initialized;
 mod kinds;
 pub mod laws;

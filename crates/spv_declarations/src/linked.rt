@@ -13,8 +13,7 @@ ghost use Rattle.spv_declarations.specs.inner.Sets.{Adds, AnyId, HasAll, HasBoth
 ghost use Rattle.spv_declarations.specs.inner.Spans.{AreSpans};
 
 use crate::decorated::{behind_first, given, group_of, is_group};
-use crate::either::either;
-use crate::kinds::Kinds;
+use crate::front::Front;
 use crate::said::{LINKAGE_ATTRIBUTES, Said};
 use crate::sets::put;
 use crate::spans::Spans;
@@ -115,30 +114,28 @@ fn links(definitions: &Definitions, said: &Said, entered: &BTreeSet<u32>, inst: 
     }
 }
 
-/// The first of the first `count` instructions that breaks O9 (SPIR-V Specification 1.6, section 2.16.1).
+/// The first of the instructions before the functions that breaks O9 (SPIR-V Specification 1.6, section 2.16.1).
 ///
 /// Time is near-linear in the words of these instructions. Where none of them names a group or gives LinkageAttributes,
 /// it looks at none.
 pub fn first_linked(
     alloc: Global,
     definitions: &Definitions,
-    kinds: &Kinds,
-    spans: &Spans,
+    front: &Front,
     said: &Said,
-    count: u32,
 ) -> Result<Option<u32>, AllocError>
-    requires count { count ≤ length definitions.now }
-    requires kinds { AreKinds definitions.now count kinds.now }
-    requires spans { AreSpans definitions.now count spans.now }
-    requires early { AreEarly definitions.now count }
+    requires count { front.now.count ≤ length definitions.now }
+    requires kinds { AreKinds definitions.now front.now.count front.now.kinds }
+    requires spans { AreSpans definitions.now front.now.count front.now.spans }
+    requires early { AreEarly definitions.now front.now.count }
     requires said { (l : Option ℕ) × AreSaid l definitions.now said.now }
-    ensures { IfOk result (IsFirstBelow count (IsLinkedEntry definitions.now)) }
+    ensures { IfOk result (IsFirstBelow front.now.count (IsLinkedEntry definitions.now)) }
 {
-    if !either(kinds.groups, kinds.linked) {
+    if !(front.kinds.groups | front.kinds.linked) {
         return Ok(None);
     }
-    let entered = entered(alloc, definitions, spans, count)?;
-    for number in spans.from..spans.to {
+    let entered = entered(alloc, definitions, &front.spans, front.count)?;
+    for number in front.spans.from..front.spans.to {
         if links(definitions, said, &entered, definitions.inst(number)) {
             return Ok(Some(number));
         }

@@ -20,6 +20,7 @@ use crate::built_in::first_half_built_in;
 use crate::capable::first_incapable;
 use crate::entry::{first_repeated, first_with_id};
 use crate::found::{Found, earlier};
+use crate::front::Front;
 use crate::initialized::first_initialized;
 use crate::kinds::{Kinds, kinds_among};
 use crate::linked::first_linked;
@@ -28,7 +29,6 @@ use crate::misplaced::first_misplaced;
 use crate::pointer::first_elsewhere;
 use crate::said::Said;
 use crate::second::first_second;
-use crate::spans::Spans;
 use spv_capabilities::Capabilities;
 use spv_ids::Ids;
 use spv_layout::Plan;
@@ -36,32 +36,32 @@ use spv_module::{Inst, Rule};
 use spv_type_forms::Definitions;
 use std::alloc::{AllocError, Global};
 
-/// The first of the rules O6 to O11 that is broken by the first `count` instructions, or what was found before of O3
-/// and O5, if that is told first.
+/// The first of the rules O6 to O11 that is broken by the instructions before the functions, or what was found before
+/// of O3 and O5, if that is told first.
 fn first_decorated(
     alloc: Global,
     definitions: &Definitions,
-    kinds: &Kinds,
-    spans: &Spans,
+    front: &Front,
     linkage: Option<u32>,
-    count: u32,
     before: Option<Found>,
 ) -> Result<Option<Found>, AllocError>
-    requires count { count ≤ length definitions.now }
-    requires early { AreEarly definitions.now count }
-    requires kinds { AreKinds definitions.now count kinds.now }
-    requires spans { AreSpans definitions.now count spans.now }
-    ensures { (G : Table) → (kinds.now.initialized ≡ true → linkage ≡ number_named G (codes "LinkageType"))
+    requires count { front.now.count ≤ length definitions.now }
+    requires early { AreEarly definitions.now front.now.count }
+    requires kinds { AreKinds definitions.now front.now.count front.now.kinds }
+    requires spans { AreSpans definitions.now front.now.count front.now.spans }
+    ensures { (G : Table) → (front.now.kinds.initialized ≡ true → linkage ≡ number_named G (codes "LinkageType"))
         → IsFirstAmong G definitions.now (rule.O5 ∷ rule.O3 ∷ []) before
         → IfOk result (IsFirstAmong G definitions.now
         (rule.O11 ∷ rule.O10 ∷ rule.O9 ∷ rule.O8 ∷ rule.O7 ∷ rule.O6 ∷ rule.O5 ∷ rule.O3 ∷ [])) }
 {
+    let count = front.count;
+    let kinds = &front.kinds;
     let said = Said::among(alloc, definitions, kinds, linkage, count)?;
     let of_no_member = first_of_no_member(definitions, kinds, count);
-    let misplaced = first_misplaced(alloc, definitions, spans, &said, count)?;
+    let misplaced = first_misplaced(alloc, definitions, &front.spans, &said, count)?;
     let second = first_second(alloc, definitions, kinds, &said, count)?;
-    let linked = first_linked(alloc, definitions, kinds, spans, &said, count)?;
-    let initialized = first_initialized(alloc, definitions, kinds, spans, linkage, &said, count)?;
+    let linked = first_linked(alloc, definitions, front, &said)?;
+    let initialized = first_initialized(alloc, definitions, front, linkage, &said)?;
     let half = first_half_built_in(alloc, definitions, kinds, &said, count)?;
     let found = earlier(before, Rule::O6, of_no_member);
     let found = earlier(found, Rule::O7, misplaced);
@@ -84,8 +84,8 @@ fn linkage_type(capabilities: &Capabilities<'_, '_>, kinds: &Kinds) -> Option<u3
 }
 
 /// The first of the rules O3 and O5 to O13 that is broken in a module: the lowest instruction at which one is, and
-/// there the first of them. `capabilities` are those of the module, and `plan` and `ids` are what `lay_out` and `number`
-/// answered of it.
+/// there the first of them. `capabilities` are those of the module, and `plan` and `ids` are what `lay_out` and
+/// `number` answered of it.
 ///
 /// One pass over the sections before the functions finds which kinds of instructions stand there, and each rule that
 /// speaks of a kind that does has a pass of its own. Time is near-linear in the words of these sections. An
@@ -108,12 +108,17 @@ pub fn first_misdeclared(
     let definitions = Definitions::new(insts, plan, ids);
     let count = plan.before_functions();
     let (kinds, spans) = kinds_among(&definitions, count);
+    let front = Front {
+        count,
+        kinds,
+        spans,
+    };
     let linkage = linkage_type(capabilities, &kinds);
     let repeated = first_repeated(alloc, &definitions, &kinds, count)?;
     let with_id = first_with_id(&definitions, &kinds, count);
     let found = earlier(None, Rule::O3, repeated);
     let found = earlier(found, Rule::O5, with_id);
-    let decorated = first_decorated(alloc, &definitions, &kinds, &spans, linkage, count, found)?;
+    let decorated = first_decorated(alloc, &definitions, &front, linkage, found)?;
     let elsewhere = first_elsewhere(&definitions, &kinds, count);
     let incapable = first_incapable(capabilities, &kinds, count);
     let found = earlier(decorated, Rule::O12, elsewhere);

@@ -11,7 +11,6 @@ ghost use Rattle.spv_declarations.specs.inner.Said.{AreSaid, HasAt, IsKnown};
 ghost use Rattle.spv_declarations.specs.inner.Sets.{Adds, AnyId, HasBoth, IsIn, IsOf};
 
 use crate::decorated::{behind_first, given, group_of, is_group};
-use crate::either::{both, either};
 use crate::kinds::Kinds;
 use crate::said::Said;
 use crate::sets::{put, put_all};
@@ -119,7 +118,7 @@ pub fn first_second(
     requires said { (l : Option ℕ) × AreSaid l definitions.now said.now }
     ensures { IfOk result (IsFirstBelow count (IsSecond definitions.now)) }
 {
-    if !either(kinds.groups, both(kinds.restricted, kinds.aliased)) {
+    if !(kinds.groups | (kinds.restricted & kinds.aliased)) {
         return Ok(None);
     }
     let mut restricted = BTreeSet::new(alloc);

@@ -8,8 +8,7 @@ ghost use Rattle.spv_declarations.specs.declared.table.Further.TheVariants as fu
 ghost use Rattle.spv_declarations.specs.inner.Said.{IsKnown};
 ghost use Rattle.spv_declarations.specs.inner.Table as inner;
 
-use crate::either::either;
-use crate::table::{Further, Line, NEVER_ON_MEMBERS, TABLE, is_among, is_opcode_among, is_within};
+use crate::table::{Further, Line, NEVER_ON_MEMBERS, TABLE, is_among, is_listed, is_opcode_among};
 use spv_module::Inst;
 use spv_type_forms::{Definitions, Form, Sort, has_sort, type_in};
 
@@ -57,22 +56,6 @@ fn is_such(definitions: &Definitions, line: &Line, inst: &Inst<'_>, x: u32) -> b
     ensures { IsTrue result ↔ inner.IsOfLine definitions.now (inner.line line.now) (plain_inst inst.now).opcode x }
 {
     is_opcode_among(line.1, inst.opcode) && is_asked(definitions, line.2, inst, x)
-}
-
-/// Whether a decoration is on some line: whether it is among all of them.
-#[inline(always)]
-fn is_listed(d: u32) -> bool
-    ensures { result ≡ spec.is_listed spec.lines d }
-{
-    let of_values = either(is_within((44, 47), d), is_within((22, 22), d));
-    let of_names = either(is_within((41, 41), d), is_within((11, 11), d));
-    let of_memory = either(is_within((19, 21), d), is_within((23, 25), d));
-    let of_types = either(is_within((1, 1), d), is_within((10, 10), d));
-    let of_sums = either(is_within((28, 28), d), is_within((4469, 4470), d));
-    either(
-        either(of_values, of_names),
-        either(of_memory, either(of_types, of_sums)),
-    )
 }
 
 /// Whether a decoration is never one of members.

@@ -5,10 +5,16 @@ use Rattle.spv_module.specs.Operand.{PlainInst}
 use Rattle.spv_layout.specs.Place.{IsOfSection}
 use Rattle.spv_declarations.specs.Given.{is_decorate, is_of_member}
 
--- the opcodes that say something of ids or members; and all at which a rule may be broken, but OpVariable
+-- the opcodes of OpGroupDecorate and OpGroupMemberDecorate; of these and those of members; of all that say something of
+-- ids or members; and all at which a rule may be broken, but OpVariable
+abbrev pub is_grouping : ℕ → Bool
+is_grouping n = nat_eq n opcode.GROUP_DECORATE || nat_eq n opcode.GROUP_MEMBER_DECORATE
+
+abbrev pub is_of_parts : ℕ → Bool
+is_of_parts n = is_of_member n || is_grouping n
+
 abbrev pub is_saying : ℕ → Bool
-is_saying n = is_decorate n || (is_of_member n
-    || (nat_eq n opcode.GROUP_DECORATE || nat_eq n opcode.GROUP_MEMBER_DECORATE))
+is_saying n = is_decorate n || is_of_parts n
 
 abbrev pub is_early : ℕ → Bool
 is_early n = is_saying n || (nat_eq n opcode.ENTRY_POINT || (nat_eq n opcode.EXECUTION_MODE

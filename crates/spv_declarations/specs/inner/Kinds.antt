@@ -10,18 +10,15 @@ use Rattle.spv_capabilities.specs.Capable.{Has}
 use Rattle.spv_declarations.specs.Declarations.{HasBytes}
 use Rattle.spv_declarations.specs.Entry.{SetsById}
 use Rattle.spv_declarations.specs.Given.{Gives, is_of_member}
+use Rattle.spv_declarations.specs.declared.capable.TheConstants.{VULKAN_MEMORY_MODEL}
 use Rattle.spv_declarations.specs.declared.kinds.Kinds.{Kinds}
+use Rattle.spv_declarations.specs.declared.said.TheConstants.{LINKAGE_ATTRIBUTES}
+use Rattle.spv_declarations.specs.declared.second.TheConstants.{RESTRICT, ALIASED}
+use Rattle.spv_declarations.specs.inner.Early.{is_grouping}
 use Rattle.spv_declarations.specs.inner.Initialized.{initialized_by}
 use Rattle.spv_declarations.specs.inner.Sets.{IsSaidBefore}
 
--- the opcodes of OpGroupDecorate and OpGroupMemberDecorate; of these and those of members; and those of other kinds
--- that say nothing of ids or members, but OpEntryPoint
-abbrev pub is_grouping : ℕ → Bool
-is_grouping n = nat_eq n opcode.GROUP_DECORATE || nat_eq n opcode.GROUP_MEMBER_DECORATE
-
-abbrev pub is_of_parts : ℕ → Bool
-is_of_parts n = is_grouping n || is_of_member n
-
+-- the opcodes of kinds that say nothing of ids or members, but OpEntryPoint
 abbrev pub is_other : ℕ → Bool
 is_other n = (nat_eq n opcode.TYPE_FORWARD_POINTER || nat_eq n opcode.TYPE_INT)
     || (nat_eq n opcode.VARIABLE || nat_eq n opcode.EXECUTION_MODE)
@@ -67,9 +64,9 @@ pub record AreKinds (is : List PlainInst) (n : ℕ) (k : Kinds) : Type 0 where
   pub by_id : Misses k.by_id n is SetsById
   pub members : Misses k.members n is IsOfMembers
   pub groups : Misses k.groups n is Groups
-  pub restricted : Misses k.restricted n is (GivesAny 19)
-  pub aliased : Misses k.aliased n is (GivesAny 20)
-  pub linked : Misses k.linked n is (GivesAny 41)
+  pub restricted : Misses k.restricted n is (GivesAny RESTRICT)
+  pub aliased : Misses k.aliased n is (GivesAny ALIASED)
+  pub linked : Misses k.linked n is (GivesAny LINKAGE_ATTRIBUTES)
   pub initialized : Misses k.initialized n is Initializes
   pub forward : Misses k.forward n is Announces
   pub bytes : Misses k.bytes n is DeclaresBytes
@@ -81,14 +78,14 @@ pub record Notes (old new : Kinds) (i : PlainInst) : Type 0 where
   pub by_id : Marks old.by_id new.by_id SetsById i
   pub members : Marks old.members new.members IsOfMembers i
   pub groups : Marks old.groups new.groups Groups i
-  pub restricted : Marks old.restricted new.restricted (GivesAny 19) i
-  pub aliased : Marks old.aliased new.aliased (GivesAny 20) i
-  pub linked : Marks old.linked new.linked (GivesAny 41) i
+  pub restricted : Marks old.restricted new.restricted (GivesAny RESTRICT) i
+  pub aliased : Marks old.aliased new.aliased (GivesAny ALIASED) i
+  pub linked : Marks old.linked new.linked (GivesAny LINKAGE_ATTRIBUTES) i
   pub initialized : Marks old.initialized new.initialized Initializes i
   pub forward : Marks old.forward new.forward Announces i
   pub bytes : Marks old.bytes new.bytes DeclaresBytes i
 
--- No instruction can break O13: VulkanMemoryModel (5345) is not implied; and ints of 8 bits may be declared, or no
--- instruction declares one.
+-- No instruction can break O13: VulkanMemoryModel is not implied; and ints of 8 bits may be declared, or no instruction
+-- declares one.
 abbrev pub IsCapable : Table → List PlainInst → Bool → Type 0
-IsCapable G is bytes = (¬ (Has G is 5345)) × ((bytes ≡ false) ⊎ HasBytes G is)
+IsCapable G is bytes = (¬ (Has G is VULKAN_MEMORY_MODEL)) × ((bytes ≡ false) ⊎ HasBytes G is)

@@ -8,7 +8,8 @@ pub loop-number-init : goal.loop-number-init
 loop-number-init c = record {
   members = both_gather_none c.args.definitions.now (BuildsIn c.args.definitions.now) c.new.result
       c.new.ensures.empty;
-  structs = theirs_none (record { members = c.new.result; structs = c.new-2.result }) c.new-2.ensures.empty c.new.ensures.empty;
+  structs = theirs_none (record { members = c.new.result; structs = c.new-2.result }) c.new-2.ensures.empty
+      c.new.ensures.empty;
 }
 
 pub note-requires-clause-inst : goal.note-requires-clause-inst

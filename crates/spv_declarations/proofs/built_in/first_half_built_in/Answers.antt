@@ -17,6 +17,6 @@ pub returns : goal.returns
 returns c = none c.args.count c.loop-number.number (IsHalfBuiltIn c.args.definitions.now) (omega arith)
     c.loop-number.invariant
 
-pub returns-then-not-either : goal.returns-then-not-either
-returns-then-not-either c = not_built_in c.args.definitions.now c.args.count c.args.kinds.now c.either.result
-    c.requires.early c.requires.kinds c.either.ensures c.if-not-either.true
+pub returns-then-not-kinds : goal.returns-then-not-kinds
+returns-then-not-kinds c = not_built_in c.args.definitions.now c.args.count c.args.kinds.now c.requires.early
+    c.requires.kinds c.if-not-kinds.true

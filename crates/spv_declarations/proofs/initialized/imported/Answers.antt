@@ -10,7 +10,8 @@ use Rattle.spv_declarations.proofs.initialized.imported.Goals as goal
 pub loop-number-init : goal.loop-number-init
 loop-number-init c =
     let is = c.args.definitions.now in
-    gathers_before is (λ (i : PlainInst) (x : ℕ). HasAt is (ImportsBy c.args.linkage) x i) c.args.count c.args.spans.now
+    gathers_before is (λ (i : PlainInst) (x : ℕ). HasAt is (ImportsBy c.args.linkage) x i) c.args.front.now.count
+    c.args.front.now.spans
     c.new-imported.result c.requires.spans (λ i x. import_says is c.args.linkage x i) c.new-imported.ensures.empty
 
 pub inst-requires : goal.inst-requires
@@ -29,12 +30,12 @@ loop-number-preserved c =
 pub returns : goal.returns
 returns c =
     let is = c.args.definitions.now in
-    gathers_span is (λ (i : PlainInst) (x : ℕ). HasAt is (ImportsBy c.args.linkage) x i) c.args.count
-    c.loop-number.number c.args.spans.now c.loop-number.imported c.requires.early c.requires.spans
+    gathers_span is (λ (i : PlainInst) (x : ℕ). HasAt is (ImportsBy c.args.linkage) x i) c.args.front.now.count
+    c.loop-number.number c.args.front.now.spans c.loop-number.imported c.requires.early c.requires.spans
     (λ i x. has_import_early is c.args.linkage x i) (λ i x. import_says is c.args.linkage x i) (omega arith)
     c.loop-number.invariant
 
-pub returns-then-not-either : goal.returns-then-not-either
-returns-then-not-either c = not_imported c.args.definitions.now c.args.linkage c.args.count c.args.kinds.now
-    c.new-imported.result c.either.result c.requires.early c.requires.kinds c.either.ensures c.if-not-either.true
+pub returns-then-not-front : goal.returns-then-not-front
+returns-then-not-front c = not_imported c.args.definitions.now c.args.linkage c.args.front.now.count
+    c.args.front.now.kinds c.new-imported.result c.requires.early c.requires.kinds c.if-not-front.true
     c.new-imported.ensures.empty

@@ -9,7 +9,8 @@ use Rattle.spv_declarations.proofs.linked.first_linked.Goals as goal
 pub loop-number-init : goal.loop-number-init
 loop-number-init c =
     let is = c.args.definitions.now in
-    none_before is c.args.count c.args.spans.now (IsLinkedEntry is) c.requires.spans (λ n h. linked_at is n h)
+    none_before is c.args.front.now.count c.args.front.now.spans (IsLinkedEntry is) c.requires.spans
+    (λ n h. linked_at is n h)
 
 pub inst-requires : goal.inst-requires
 inst-requires c = let w = c.requires.spans.within.1 in omega (arith, w)
@@ -21,7 +22,7 @@ pub returns-then-links : goal.returns-then-links
 returns-then-links c =
     let is = c.args.definitions.now in
     let w = c.requires.spans.within.1 in
-    found_by (IsLinkedEntry is) c.args.count c.loop-number.number c.links.result (omega (arith, w))
+    found_by (IsLinkedEntry is) c.args.front.now.count c.loop-number.number c.links.result (omega (arith, w))
     (linked_tells is c.in_ok-entered.entered c.loop-number.number _ c.links.result c.in_ok-entered.ensures
     c.inst.ensures c.links.ensures) c.if-links.true c.loop-number.invariant
 
@@ -35,9 +36,11 @@ loop-number-preserved c =
 pub returns : goal.returns
 returns c =
     let is = c.args.definitions.now in
-    none_behind is c.args.count c.loop-number.number c.args.spans.now (IsLinkedEntry is) c.requires.spans
+    none_behind is c.args.front.now.count c.loop-number.number c.args.front.now.spans (IsLinkedEntry is)
+    c.requires.spans
     (λ n h. linked_at is n h) (omega arith) c.loop-number.invariant
 
-pub returns-then-not-either : goal.returns-then-not-either
-returns-then-not-either c = not_linked c.args.definitions.now c.args.count c.args.kinds.now c.either.result
-    c.requires.kinds c.either.ensures c.if-not-either.true
+pub returns-then-not-front : goal.returns-then-not-front
+returns-then-not-front c =
+    not_linked c.args.definitions.now c.args.front.now.count c.args.front.now.kinds c.requires.kinds
+    c.if-not-front.true

@@ -4,7 +4,8 @@ use Rattle.spv_module.specs.declared.fault.Rule.TheVariants as rule
 use Rattle.spv_declarations.specs.inner.Early.{AreEarly}
 use Rattle.spv_declarations.specs.inner.Kinds.{AreKinds}
 use Rattle.spv_declarations.proofs.Early.{early_of}
-use Rattle.spv_declarations.proofs.Firsts.{of_o3, of_o5, of_o12, of_o13, before_o3, before_o5, before_o12, before_o13, first_none, incapable_in, told_of}
+use Rattle.spv_declarations.proofs.Firsts.{of_o3, of_o5, of_o12, of_o13, before_o3, before_o5, before_o12, before_o13}
+use Rattle.spv_declarations.proofs.Firsts.{first_none, incapable_in, told_of}
 use Rattle.spv_declarations.proofs.Standing.{o3_early, o5_early, o12_early, o13_early}
 use Rattle.spv_declarations.proofs.misdeclared.first_misdeclared.Goals as goal
 
@@ -34,7 +35,8 @@ returns c =
     let o11 = c.in_ok-decorated.ensures G c.linkage_type-linkage.ensures o5 in
     let o12 = c.earlier-found-3.ensures G is
     (rule.O11 ∷ rule.O10 ∷ rule.O9 ∷ rule.O8 ∷ rule.O7 ∷ rule.O6 ∷ rule.O5 ∷ rule.O3 ∷ []) o11 before_o12
-    (of_o12 G is count c.first_elsewhere-elsewhere.result (o12_early is count early) c.first_elsewhere-elsewhere.ensures) in
+    (of_o12 G is count c.first_elsewhere-elsewhere.result (o12_early is count early)
+    c.first_elsewhere-elsewhere.ensures) in
     let o13 = c.earlier.ensures G is
     (rule.O12 ∷ rule.O11 ∷ rule.O10 ∷ rule.O9 ∷ rule.O8 ∷ rule.O7 ∷ rule.O6 ∷ rule.O5 ∷ rule.O3 ∷ []) o12 before_o13
     (of_o13 G is count c.first_incapable-incapable.result (o13_early G is count early)

@@ -5,5 +5,6 @@ use Rattle.spv_declarations.specs.inner.Sets.{AnyId}
 use Rattle.spv_declarations.proofs.misplaced.is_misplaced_among.Given as goal
 
 abbrev pub invariant-loop-target : goal.invariant-loop-target
-invariant-loop-target l = AnyId (IsAnyMisplaced l.definitions l.decorations) (plain_operands (drop l.target-index l.targets))
+invariant-loop-target l = AnyId (IsAnyMisplaced l.definitions l.decorations)
+    (plain_operands (drop l.target-index l.targets))
     ↔ AnyId (IsAnyMisplaced l.definitions l.decorations) (plain_operands l.targets)

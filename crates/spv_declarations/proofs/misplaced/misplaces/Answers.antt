@@ -1,12 +1,14 @@
 use Rattle.std.proofs.Common.{refl}
 use Rattle.spv_module.specs.Module.{plain_inst}
-use Rattle.spv_declarations.proofs.Misplacing.{HasAnId, MisplacesOwn, MisplacesMember, MisplacesTarget, by_id, by_own, by_member, by_target, if_ok, not_so, last_tells}
+use Rattle.spv_declarations.proofs.Misplacing.{HasAnId, MisplacesOwn, MisplacesMember, MisplacesTarget, by_id, by_own}
+use Rattle.spv_declarations.proofs.Misplacing.{by_member, by_target, if_ok, not_so, last_tells}
 use Rattle.spv_declarations.proofs.Without.{says_nothing}
 use Rattle.spv_declarations.proofs.misplaced.misplaces.Goals as goal
 
 pub returns-then-decorates_with_id : goal.returns-then-decorates_with_id
 returns-then-decorates_with_id c = λ n at. (
-  λ y. by_id c.args.definitions.now n (plain_inst c.args.inst.now) at (c.decorates_with_id.ensures.0 c.if-decorates_with_id.true),
+  λ y. by_id c.args.definitions.now n (plain_inst c.args.inst.now) at
+      (c.decorates_with_id.ensures.0 c.if-decorates_with_id.true),
   λ m. refl,
 )
 
@@ -26,7 +28,8 @@ returns-then-misplaces_member c = λ n at. (
 
 pub returns-then-branch : goal.returns-then-branch
 returns-then-branch c = λ n at. (
-  λ y. by_target c.requires.said.0 c.args.definitions.now c.args.said.now n (plain_inst c.args.inst.now) c.requires.said.1 at
+  λ y. by_target c.requires.said.0 c.args.definitions.now c.args.said.now n (plain_inst c.args.inst.now)
+      c.requires.said.1 at
       (c.in_ok-misplaces_target.ensures.0 c.if-branch.true),
   λ m. refl,
 )
@@ -44,5 +47,6 @@ returns c =
     c.misplaces_pair.ensures
 
 pub returns-then-not-is_saying : goal.returns-then-not-is_saying
-returns-then-not-is_saying c = λ n at. says_nothing c.args.definitions.now n (plain_inst c.args.inst.now) c.is_saying.result at
+returns-then-not-is_saying c = λ n at. says_nothing c.args.definitions.now n (plain_inst c.args.inst.now)
+    c.is_saying.result at
     c.is_saying.ensures c.if-not-is_saying.true

@@ -12,5 +12,6 @@ returns c =
     target_misplaced is c.args.said.now (plain_inst c.args.inst.now) c.in-Some.group os
     c.in_ok-decorations.decorations.items c.is_misplaced_among.result (sym c.group_of.ensures ∙ c.in-Some.is)
     c.behind_first.ensures c.in_ok-decorations.ensures
-    (subst (λ (z : List ℕ). IsTrue c.is_misplaced_among.result ↔ AnyId (IsAnyMisplaced is z) os) c.as_slice.ensures.value
+    (subst (λ (z : List ℕ). IsTrue c.is_misplaced_among.result ↔ AnyId (IsAnyMisplaced is z) os)
+    c.as_slice.ensures.value
     c.is_misplaced_among.ensures)

@@ -37,7 +37,8 @@ returns-then-has_both c =
     c.in_ok-add_with-2.ensures c.loop-number.invariant.aliased in
     let f = c.has_both.ensures.found c.if-has_both.true in (
       c.loop-number-test.true,
-      second_here is n f.0 c.loop-number.restricted c.loop-number.aliased c.add_with.new.set c.add_with-in-loop-number.new.set
+      second_here is n f.0 c.loop-number.restricted c.loop-number.aliased c.add_with.new.set
+          c.add_with-in-loop-number.new.set
           c.loop-number.invariant.restricted c.loop-number.invariant.aliased c.loop-number.invariant.apart r a f.1
           f.2,
       none_second is n c.loop-number.restricted c.loop-number.aliased c.loop-number.invariant.restricted
@@ -53,7 +54,8 @@ loop-number-preserved c =
           c.in_ok-add_with.ensures c.loop-number.invariant.restricted;
       aliased = least_more is 20 n _ c.loop-number.aliased c.add_with-in-loop-number.new.set c.inst-inst.ensures
           c.in_ok-add_with-2.ensures c.loop-number.invariant.aliased;
-      apart = apart_more is _ c.loop-number.restricted c.loop-number.aliased c.add_with.new.set c.add_with-in-loop-number.new.set
+      apart = apart_more is _ c.loop-number.restricted c.loop-number.aliased c.add_with.new.set
+          c.add_with-in-loop-number.new.set
           c.in_ok-add_with.ensures c.in_ok-add_with-2.ensures
           (c.has_both.ensures.none c.if-has_both.false is) c.loop-number.invariant.apart;
     }
@@ -65,6 +67,6 @@ returns c =
     (none_second is c.loop-number.number c.loop-number.restricted c.loop-number.aliased
     c.loop-number.invariant.restricted c.loop-number.invariant.aliased c.loop-number.invariant.apart)
 
-pub returns-then-not-either : goal.returns-then-not-either
-returns-then-not-either c = not_second c.args.definitions.now c.args.count c.args.kinds.now c.both.result c.either.result
-    c.requires.kinds c.both.ensures c.either.ensures c.if-not-either.true
+pub returns-then-not-kinds : goal.returns-then-not-kinds
+returns-then-not-kinds c =
+    not_second c.args.definitions.now c.args.count c.args.kinds.now c.requires.kinds c.if-not-kinds.true

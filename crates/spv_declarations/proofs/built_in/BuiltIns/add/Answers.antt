@@ -9,9 +9,11 @@ returns-then-member-member_count-clause-members c = add_nothing c.args.definitio
 
 pub returns-clause-members : goal.returns-clause-members
 returns-clause-members c = always c.put.result _ (add_there c.args.definitions.now c.args.t c.args.member
-    c.member_count.result c.args.self.now.members _ c.member_count.ensures.members (omega arith) c.in_ok-put_member.ensures)
+    c.member_count.result c.args.self.now.members _ c.member_count.ensures.members (omega arith)
+    c.in_ok-put_member.ensures)
 
 pub returns-clause-structs : goal.returns-clause-structs
 returns-clause-structs c = on_ok c.put.result _ _
     (λ a. theirs_more c.args.self.now
-    (record { members = c.put_member.new.set; structs = c.put.new.set }) c.args.t c.args.member c.in_ok-put_member.ensures a) c.put.ensures
+    (record { members = c.put_member.new.set; structs = c.put.new.set }) c.args.t c.args.member
+    c.in_ok-put_member.ensures a) c.put.ensures

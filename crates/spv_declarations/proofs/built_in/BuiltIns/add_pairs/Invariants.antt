@@ -11,7 +11,8 @@ decreases-loop-t l = length (plain_operands l.left)
 
 abbrev pub invariant-loop-t : goal.invariant-loop-t
 invariant-loop-t l = record {
-  members : (t k : ℕ) → (HasBoth l.self.members t k ⊎ (IsMember l.definitions t k × HasPair (plain_operands l.left) t k))
+  members : (t k : ℕ)
+      → (HasBoth l.self.members t k ⊎ (IsMember l.definitions t k × HasPair (plain_operands l.left) t k))
       ↔ (HasBoth l.initial.self.members t k ⊎ (IsMember l.definitions t k × HasPair (plain_operands l.pairs) t k));
   structs : AreTheirs l.initial.self → AreTheirs l.self;
 }

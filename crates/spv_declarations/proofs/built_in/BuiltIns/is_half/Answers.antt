@@ -24,5 +24,6 @@ returns-else-is_in_part c = λ n at.
     let e = sym c.struct_of.ensures ∙ c.in-Some.is in
     half_within c.args.definitions.now c.args.self.now n i c.in-Some.t (behind_first i.operands) c.is_in_part.result
     c.has_within.result c.requires at (struct_opcode i c.in-Some.t e) (struct_operands i c.in-Some.t e)
-    c.is_in_part.ensures (subst (λ (z : List Plain). IsTrue c.has_within.result ↔ AnyId (IsIn c.args.self.now.structs) z)
+    c.is_in_part.ensures
+    (subst (λ (z : List Plain). IsTrue c.has_within.result ↔ AnyId (IsIn c.args.self.now.structs) z)
     c.behind_first.ensures c.has_within.ensures) c.if-is_in_part.false

@@ -24,5 +24,6 @@ first_import-requires-clause-imported c = imported_some c.args.table.now c.args.
 
 pub returns : goal.returns
 returns c = by_import c.args.table.now c.args.definitions.now c.kind_named-linkage.result c.args.inst
-    c.first_import.result _ _ _ c.kind_named-linkage.ensures c.inst.ensures c.requires.broken (sym c.initialized_by.ensures ∙ c.in-Some.is)
+    c.first_import.result _ _ _ c.kind_named-linkage.ensures c.inst.ensures c.requires.broken
+    (sym c.initialized_by.ensures ∙ c.in-Some.is)
     c.first_import.ensures

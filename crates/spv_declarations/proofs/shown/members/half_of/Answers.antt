@@ -1,7 +1,8 @@
 use Rattle.std.proofs.Common.{◌∙◌, sym}
 use Rattle.std.proofs.lemmas.Bool.{iff_false}
 use Rattle.spv_module.specs.Module.{plain_inst}
-use Rattle.spv_declarations.proofs.Mixed.{half_is_struct, one_built_in, one_other, part_shown, some_struct, within_shown}
+use Rattle.spv_declarations.proofs.Mixed.{half_is_struct, one_built_in, one_other, part_shown, some_struct}
+use Rattle.spv_declarations.proofs.Mixed.{within_shown}
 use Rattle.spv_declarations.proofs.shown.members.half_of.Goals as goal
 
 pub unreachable-requires : goal.unreachable-requires
@@ -20,7 +21,8 @@ other_member-requires-clause-there c = one_other c.args.definitions.now c.args.f
 pub returns-then-is_in_part : goal.returns-then-is_in_part
 returns-then-is_in_part c = λ n at.
     part_shown c.args.definitions.now c.args.found.now n c.in-Some.t c.member_count-count.result
-    c.built_in_member.result c.other_member.result (plain_inst c.args.inst.now) c.requires.found at (sym c.struct_of.ensures ∙ c.in-Some.is)
+    c.built_in_member.result c.other_member.result (plain_inst c.args.inst.now) c.requires.found at
+    (sym c.struct_of.ensures ∙ c.in-Some.is)
     c.member_count-count.ensures.members c.built_in_member.ensures c.other_member.ensures
 
 pub struct_place-requires : goal.struct_place-requires
