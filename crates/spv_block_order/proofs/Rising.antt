@@ -28,7 +28,8 @@ use Rattle.spv_flow.proofs.lemmas.walks.Starting.{IsOpenTo}
 use Rattle.spv_block_order.specs.declared.rise.Rising.{Rising}
 use Rattle.spv_block_order.specs.Early.{IsEarlyBlock, IsEarlyUse}
 use Rattle.spv_block_order.specs.Broken.{Broken}
-use Rattle.spv_block_order.specs.inner.Rising.{IsSound, IsLate, HasRise, WouldRise, IsShut, AreMarked, AreUpTo, AreRisen}
+use Rattle.spv_block_order.specs.inner.Rising.{IsSound, IsLate, HasRise, WouldRise, IsShut, AreMarked, AreUpTo}
+use Rattle.spv_block_order.specs.inner.Rising.{AreRisen}
 use Rattle.spv_block_order.proofs.Standing.{label_opcode}
 
 -- An instruction to which a walk comes by lower ones alone.
@@ -86,8 +87,8 @@ shut_block is n b shut not of =
       | inr first ↦ of.not_ended shut.end first before shut.there
     ]
 
-shut_late : (G : Table) (is : List PlainInst) (n : ℕ) → IsShut is n → ¬ (IsAt is n (Label ∷ [])) → ¬ (IsOp is n is_label)
-    → IsLate G is n
+shut_late : (G : Table) (is : List PlainInst) (n : ℕ) → IsShut is n → ¬ (IsAt is n (Label ∷ []))
+    → ¬ (IsOp is n is_label) → IsLate G is n
 shut_late G is n shut not isnt =
     late_by G is n (λ e. isnt e.1.label) (λ e. shut_block is n e.block shut not e.of)
 

@@ -178,10 +178,14 @@ keeps s c t e =
     let q = and_first (stays s c) (blocks s c t) more in
     let r = and_second (stays s c) (blocks s c t) more in
     record {
-      opened = λ h. first_of (is_function c || is_open s) (is_end c) (given (is_open t) ((is_function c || is_open s) && not (is_end c)) p h);
-      unended = λ h. not_second (is_function c || is_open s) (is_end c) (given (is_open t) ((is_function c || is_open s) && not (is_end c)) p h);
-      within = λ h. first_of (is_open s) (is_function c) (given (is_label c || is_blocked s) (is_open s && not (is_function c)) q h);
-      other = λ h. not_second (is_open s) (is_function c) (given (is_label c || is_blocked s) (is_open s && not (is_function c)) q h);
+      opened = λ h. first_of (is_function c || is_open s) (is_end c)
+          (given (is_open t) ((is_function c || is_open s) && not (is_end c)) p h);
+      unended = λ h. not_second (is_function c || is_open s) (is_end c)
+          (given (is_open t) ((is_function c || is_open s) && not (is_end c)) p h);
+      within = λ h. first_of (is_open s) (is_function c)
+          (given (is_label c || is_blocked s) (is_open s && not (is_function c)) q h);
+      other = λ h. not_second (is_open s) (is_function c)
+          (given (is_label c || is_blocked s) (is_open s && not (is_function c)) q h);
       goes_on = λ h k. given ((is_label c || is_blocked s) && not (ends_block c)) (is_blocked t) r
           (and_not (is_label c || is_blocked s) (ends_block c) h k);
     }

@@ -83,8 +83,8 @@ fn first_in_blocks(
     }
 }
 
-/// The OpLabel of the first block of a function that stands before one that dominates it: some walk ends there, and each
-/// walk that does comes by a certain higher block.
+/// The OpLabel of the first block of a function that stands before one that dominates it: some walk ends there, and
+/// each walk that does comes by a certain higher block.
 ///
 /// An `AllocError` comes only where a growth of memory was refused.
 pub fn first_in_function(

@@ -1,5 +1,5 @@
-//! Functions of which a walk comes to each block by lower instructions alone. No block stands early there; and where all
-//! values are defined on every walk, no use does.
+//! Functions of which a walk comes to each block by lower instructions alone. No block stands early there; and where
+//! all values are defined on every walk, no use does.
 
 ghost use Rattle.std.specs.Prelude.{◌≡◌, ◌≢◌, ◌<◌, ◌≤◌, ◌+◌, ℕ, List, OnOk, IfOk, IsTrue, length, slice_index};
 ghost use Rattle.spv_table.specs.Table.{Table};

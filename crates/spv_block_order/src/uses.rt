@@ -93,8 +93,8 @@ fn is_early_use(code: &Code<'_, '_>, at: u32) -> bool
     false
 }
 
-/// The first of the instructions from one on and below another that uses a local value which no lower instruction has as
-/// its result.
+/// The first of the instructions from one on and below another that uses a local value which no lower instruction has
+/// as its result.
 pub fn first_early_use(code: &Code<'_, '_>, from: u32, limit: u32) -> Option<u32>
     requires { limit ≤ length code.now.insts.now }
     ensures { (G : Table) → IsCode G code.now → IsFirstUse G (insts_of code.now) from limit result }

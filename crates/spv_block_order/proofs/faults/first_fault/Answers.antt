@@ -51,7 +51,8 @@ loop-at-preserved-else-not-rise c =
       marks = c.in_ok-rise.ensures.marks;
       none = unbroken_more code c.loop-at.at c.in_ok-rise.rise.end c.in_ok-rise.ensures.extent
           (λ G s. none_late G code c.loop-at.at c.in_ok-rise.rise.end c.in_ok-rise.ensures.extent
-          (c.in_ok-rise.ensures.late (is_whole c.in_ok-rise.rise.whole c.if-not-rise.false) G s)) c.loop-at.invariant.none;
+          (c.in_ok-rise.ensures.late (is_whole c.in_ok-rise.rise.whole c.if-not-rise.false) G s))
+          c.loop-at.invariant.none;
     }
 
 pub loop-at-preserved : goal.loop-at-preserved

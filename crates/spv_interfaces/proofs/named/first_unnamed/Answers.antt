@@ -45,15 +45,16 @@ returns-then-are_settled c = λ G plan.
 pub returns-then-is_empty : goal.returns-then-is_empty
 returns-then-is_empty c = λ G plan.
     let is = c.args.definitions.now in
+    let entries = c.args.entries.now in
+    let counts = c.in_ok-counts.counts.items in
     let rest = c.in_ok-rest.rest in
+    let fit = fit_by G is (map plain_inst c.args.insts.now) c.args.plan.now c.requires.same plan in
     let z = eqb-true (vec_len rest) 0 (sym c.is_empty.ensures ∙ c.if-is_empty.true) in
     let k = rest.ok.0 in
-    none_lacked G c.args.minor is c.args.entries.now rest.items (no_numbers rest.items (omega (arith, z, k)))
-    (all_of G c.args.minor is c.args.entries.now c.in_ok-counts.counts.items rest.items c.in_ok-uses.uses.items
-    c.in_ok-counts.ensures
-    (subst (λ (us : List Use). AreRest us c.in_ok-counts.counts.items (length c.args.entries.now) (length us) rest.items)
-    c.as_slice-2.ensures.value c.in_ok-rest.ensures)
-    (c.in_ok-uses.ensures G (fit_by G is (map plain_inst c.args.insts.now) c.args.plan.now c.requires.same plan)))
+    none_lacked G c.args.minor is entries rest.items (no_numbers rest.items (omega (arith, z, k)))
+    (all_of G c.args.minor is entries counts rest.items c.in_ok-uses.uses.items c.in_ok-counts.ensures
+    (subst (λ (us : List Use). AreRest us counts (length entries) (length us) rest.items) c.as_slice-2.ensures.value
+    c.in_ok-rest.ensures) (c.in_ok-uses.ensures G fit))
 
 pub first_by_calls-requires-clause-within : goal.first_by_calls-requires-clause-within
 first_by_calls-requires-clause-within c = λ k n h.
