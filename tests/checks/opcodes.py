@@ -1,13 +1,13 @@
-"""The lists that lead from an opcode to its row, in spv_layout and spv_ops, and the lengths of the tables, as the rows
-tell them.
+"""The lists that lead from an opcode to its row, in spv_layout and spv_ops, and from a number of OpenCL.std to its
+line, in spv_std_types, and the lengths of the tables, as the rows tell them.
 
 Both crates find the row of an opcode in a list of numbers, `NUMBERS`: of each opcode the number of
 its row, from 0, or 255 where there is none. A row is a line of the table in src/rows.rt of
 spv_layout and src/table.rt of spv_ops, and begins with its opcodes, which are named as in
 spv_module. The rows of the last opcodes, from FAR on, are not in the list of spv_layout, which
 looks through these rows, and `NUMBERED` says how many there are before them; in that of spv_ops
-they come last, by `PLACES`. A table has parts, each of which is some statics, whose types have its length. A proof
-says that the lists are right; this is what writes them.
+they come last, by `PLACES`. A table has parts, each of which is some statics, whose types have its length. The lines of
+spv_std_types begin with numbers themselves. A proof says that the lists are right; this is what writes them.
 """
 
 import re
@@ -19,6 +19,7 @@ CRATES = TESTS.parent / "crates"
 OPCODES = CRATES / "spv_module/src/opcode.rt"
 LAYOUT = CRATES / "spv_layout/src/rows.rt"
 TYPED = CRATES / "spv_ops/src/table.rt"
+STD = CRATES / "spv_std_types/src/table.rt"
 # The recipe of an opcode, and where the lines that it shows stand.
 RECIPE = re.compile(r"(?ms)^## \(a\) A new opcode\n(.*?)^## ")
 SHOWN = re.compile(r"(?m)^ {8}(\S.*)$")
@@ -73,6 +74,8 @@ def opcodes():
 PART = re.compile(r"(?s)\$what! \{\n(.*?)\n {8}\}\n")
 ROW = re.compile(r"(?m)^ +([A-Z]\w+(?: to \w+)?(?:,\s+\w+(?: to \w+)?)*)(?: by \w+(?: \w+)?)?:(?:\s|$)")
 OPCODES_OF = re.compile(r"(\w+)(?: to (\w+))?")
+# The numbers of a line of spv_std_types.
+STD_LINE = re.compile(r"(?m)^ {12}(\d[\d, to\n]*):(?:\s|$)")
 
 
 def rows(path):
@@ -89,13 +92,23 @@ def rows(path):
     ]
 
 
+def std_lines():
+    """The same of the lines of OpenCL.std, by its numbers."""
+    heads = [head for part in PART.findall(text(STD)) for head in STD_LINE.findall(part)]
+    return [
+        (int(first), int(last or first), number)
+        for number, head in enumerate(heads)
+        for first, last in OPCODES_OF.findall(head)
+    ]
+
+
 def list_of(path, rows):
     """The static with the numbers."""
     of = {}
     for first, last, number in reversed(rows):
         of.update(dict.fromkeys(range(first, last + 1), number))
     near = range(max(opcode for opcode in of if opcode < FAR) + 1)
-    numbers = [of.get(opcode, NONE) for opcode in (near if path == LAYOUT else PLACES)]
+    numbers = [of.get(opcode, NONE) for opcode in (PLACES if path == TYPED else near)]
     told = textwrap.fill(", ".join(map(str, numbers)) + ",", WIDTH)
     return f"static NUMBERS: [u8; {len(numbers)}] = [\n{textwrap.indent(told, '    ')}\n];\n"
 
@@ -112,17 +125,21 @@ def with_lengths(path, content):
     return content
 
 
+def numbered(path, rows):
+    """A file with the list that its rows tell."""
+    now, told = text(path), list_of(path, rows)
+    if not NUMBERS.search(now):
+        raise Unusable(f"{path} has no NUMBERS")
+    return NUMBERS.sub(lambda was: (was[1] or "") + told, now)
+
+
 def files():
-    """Both files, with what they must hold."""
-    found = {}
+    """The files, with what they must hold."""
+    found = {STD: numbered(STD, std_lines())}
     for path in (LAYOUT, TYPED):
-        now, told = text(path), list_of(path, rows(path))
-        if not NUMBERS.search(now):
-            raise Unusable(f"{path} has no NUMBERS")
         before = sum(last < FAR for _, last, _ in rows(path))
-        numbered = NUMBERS.sub(lambda was, told=told: (was[1] or "") + told, now)
-        numbered = NUMBERED.sub(lambda was, before=before: f"{was[1]}{before};", numbered)
-        found[path] = with_lengths(path, numbered)
+        content = NUMBERED.sub(lambda was, before=before: f"{was[1]}{before};", numbered(path, rows(path)))
+        found[path] = with_lengths(path, content)
     return found
 
 

@@ -1,14 +1,9 @@
--- Which of the rules on operands is broken, and where; and what a refusal by them says. [2.16.1, 3]
+-- Which of the rules on operands is broken, and where. [2.16.1, 3]
 use Rattle.std.specs.Prelude.{◌≡◌, ℕ, List, Some, slice_get}
 use Rattle.spv_table.specs.Table.{Table}
 use Rattle.spv_module.specs.Operand.{PlainInst}
 use Rattle.spv_module.specs.declared.fault.Rule.{Rule}
 use Rattle.spv_module.specs.declared.fault.Rule.TheVariants.{O14, O15, O16, O17, O18, O19, O20, O23}
-use Rattle.spv_module.specs.declared.fault.Stop.{Stop}
-use Rattle.spv_module.specs.declared.fault.Stop.TheVariants.{Fault, Memory}
-use Rattle.spv_layout.specs.Stage.{of_standard}
-use Rattle.spv_layout.specs.First.{IsFirst}
-use Rattle.spv_layout.specs.Place.{first_word_of}
 use Rattle.spv_kernel_operands.specs.Scopes.{IsMisscoped}
 use Rattle.spv_kernel_operands.specs.Pointers.{IsMisatomic, IsMiswritten, IsEmptyCopy}
 use Rattle.spv_kernel_operands.specs.Control.{IsMiscontrolled}
@@ -28,8 +23,3 @@ pub data IsBrokenBy (G : Table) (is : List PlainInst) (i : PlainInst) : Rule →
 pub data Broken (G : Table) (is : List PlainInst) : Rule → ℕ → Type 0 where
   operands : (r : Rule) (n : ℕ) (i : PlainInst) → slice_get is n ≡ Some i → IsBrokenBy G is i r → Broken G is r n
   elsewhere : (n : ℕ) → IsMadeElsewhere is n → Broken G is O23 n
-
--- What a refusal says: out of memory, or the first broken of these rules and the first word of its instruction. [own]
-abbrev pub IsRefusal : Table → List PlainInst → Stop → Type 0
-IsRefusal G is Memory = Unit {0}
-IsRefusal G is (Fault f) = IsFirst (Broken G is) of_standard f.rule f.inst × (f.word ≡ first_word_of is f.inst)

@@ -1,6 +1,7 @@
 //! Which operands are scopes and which are memory semantics.
 
-ghost use Rattle.std.specs.Prelude.{◌≡◌, [], IsTrue, map};
+ghost use Rattle.std.specs.Prelude.{◌≡◌, ◌<◌, [], IsTrue, map};
+ghost use Rattle.spv_module.specs.declared.opcode.TheConstants as opcode;
 ghost use Rattle.spv_kernel_operands.specs.Seats as spec;
 ghost use Rattle.spv_kernel_operands.specs.inner.Seats.{line};
 
@@ -113,11 +114,22 @@ fn semantics_in(entries: &[Seats], opcode: u16) -> &'static [u32]
     &[]
 }
 
-/// Whether no operand of an opcode is a scope or memory semantics. The lines begin with OpControlBarrier.
+/// Whether an opcode is one of blocks, or near it: behind those of atomics and before those of groups.
+fn is_of_blocks(code: u16) -> bool
+    ensures { IsTrue result → (opcode.ATOMIC_XOR < code) × (code < opcode.GROUP_ASYNC_COPY) }
+{
+    opcode::ATOMIC_XOR < code && code < opcode::GROUP_ASYNC_COPY
+}
+
+/// Whether no operand of an opcode is a scope or memory semantics. The lines begin with OpControlBarrier, and none is
+/// of an opcode of blocks.
 pub fn is_seatless(code: u16) -> bool
     ensures { IsTrue result → (spec.scopes_of code ≡ []) × (spec.semantics_of code ≡ []) }
 {
     if code < opcode::CONTROL_BARRIER {
+        return true;
+    }
+    if is_of_blocks(code) {
         return true;
     }
     is_absent(&ENTRIES, code)

@@ -4,3 +4,4 @@ pub mod Calling
 pub mod Telling
 pub mod Brokens
 pub mod Worked
+pub mod Numbers

@@ -1,8 +1,8 @@
 //! The table of OpenCL.std: what each of its instructions asks.
 
-ghost use Rattle.std.specs.Prelude.{◌≡◌, map};
+ghost use Rattle.std.specs.Prelude.{◌≡◌, ◌≤◌, ◌<◌, [], length, map, slice_get, slice_index};
 ghost use Rattle.spv_std_types.specs.Table as spec;
-ghost use Rattle.spv_std_types.specs.inner.Table.{line};
+ghost use Rattle.spv_std_types.specs.inner.Table.{asked_by, line};
 
 use crate::condition::{Among, Classes, Condition, Number, Relation, Subject, Wanted};
 use spv_conditions::Kind;
@@ -194,35 +194,41 @@ pub static TABLE: [Line; 33] = table!(lines);
 /// The same as the code reads it.
 static ENTRIES: [Entry; 33] = table!(entries);
 
-/// Whether a number is one of those from one to another.
-fn is_within(range: (u32, u32), number: u32) -> bool
-    ensures { result ≡ spec.is_within range number }
+/// For each number up to the last one of the table the number of its line, from 0, or 255 where it has none. Written by
+/// `tests/rows-of-opcodes`.
+static NUMBERS: [u8; 205] = [
+    0, 0, 0, 0, 0, 0, 0, 1, 0, 0, 1, 0, 0, 1, 0, 0, 0, 0, 0, 0, 0, 0, 0, 0, 1, 0, 2, 1, 1, 1, 13,
+    14, 1, 17, 16, 0, 14, 0, 0, 0, 0, 0, 2, 1, 1, 13, 18, 1, 1, 16, 1, 1, 15, 0, 16, 0, 0, 0, 13,
+    0, 0, 0, 0, 0, 0, 0, 0, 0, 1, 0, 0, 0, 0, 0, 0, 1, 0, 0, 0, 0, 0, 0, 1, 0, 0, 0, 0, 0, 0, 1, 0,
+    0, 0, 0, 0, 2, 0, 1, 1, 2, 0, 1, 2, 0, 9, 12, 11, 8, 12, 11, 8, 255, 255, 255, 255, 255, 255,
+    255, 255, 255, 255, 255, 255, 255, 255, 255, 255, 255, 255, 255, 255, 255, 255, 255, 255, 255,
+    255, 255, 255, 255, 255, 3, 4, 4, 4, 4, 4, 4, 4, 5, 5, 3, 3, 5, 5, 5, 4, 4, 4, 4, 4, 4, 4, 4,
+    19, 19, 3, 7, 7, 6, 6, 23, 26, 24, 25, 27, 28, 29, 30, 25, 29, 30, 21, 22, 32, 31, 10, 20, 255,
+    255, 255, 255, 255, 255, 255, 255, 255, 255, 255, 255, 255, 3, 4, 4, 5,
+];
+
+/// What the line of a place asks. Nothing where there is no such line.
+fn conditions_at(entries: &[Entry], place: usize) -> &'static [Condition]
+    ensures { result.now ≡ asked_by (slice_get (map line entries.now) place) }
 {
-    range.0 <= number && number <= range.1
+    match entries.get(place) {
+        Some(entry) => entry.conditions,
+        None => &[],
+    }
 }
 
-/// Whether a number is among some, each from one to another.
-fn is_among(ranges: &[(u32, u32)], number: u32) -> bool
-    ensures { result ≡ spec.is_among ranges.now number }
+/// What these lines ask of a number, by a list of their places. Nothing where the number is not in the list.
+fn conditions_by(numbers: &[u8], entries: &[Entry], number: u32) -> &'static [Condition]
+    ensures near { number < length numbers.now
+        → result.now ≡ asked_by (slice_get (map line entries.now) (slice_index numbers.now number)) }
+    ensures far { length numbers.now ≤ number → result.now ≡ [] }
 {
-    for range in ranges {
-        if is_within(*range, number) {
-            return true;
-        }
+    let at = number as usize;
+    if at < numbers.len() {
+        conditions_at(entries, usize::from(numbers[at]))
+    } else {
+        &[]
     }
-    false
-}
-
-/// What the first of these lines asks that has a number.
-fn conditions_in(entries: &[Entry], number: u32) -> &'static [Condition]
-    ensures { result.now ≡ spec.conditions_in (map line entries.now) number }
-{
-    for entry in entries {
-        if is_among(entry.numbers, number) {
-            return entry.conditions;
-        }
-    }
-    &[]
 }
 
 /// What the instruction of OpenCL.std of a number asks, in the order in which it is looked at. Nothing where there is
@@ -230,5 +236,5 @@ fn conditions_in(entries: &[Entry], number: u32) -> &'static [Condition]
 pub fn conditions_of(number: u32) -> &'static [Condition]
     ensures { result.now ≡ spec.conditions_of number }
 {
-    conditions_in(&ENTRIES, number)
+    conditions_by(&NUMBERS, &ENTRIES, number)
 }

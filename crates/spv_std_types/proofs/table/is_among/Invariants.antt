@@ -1,6 +1,0 @@
-use Rattle.std.proofs.Common.{◌≡◌, drop}
-use Rattle.spv_std_types.specs.Table.{is_among}
-use Rattle.spv_std_types.proofs.table.is_among.Given as goal
-
-abbrev pub invariant-loop-range : goal.invariant-loop-range
-invariant-loop-range l = is_among l.ranges l.number ≡ is_among (drop l.range-index l.ranges) l.number
