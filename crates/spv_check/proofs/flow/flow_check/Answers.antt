@@ -1,4 +1,4 @@
-use Rattle.std.proofs.Common.{arith}
+use Rattle.std.proofs.Common.{arith, rules}
 use Rattle.std.proofs.lemmas.Result.{err_from_is_err_and}
 use Rattle.spv_module.specs.Module.{plain_insts}
 use Rattle.spv_layout.proofs.Misfits.{short_list}
@@ -22,3 +22,54 @@ returns-in-Some-clause-refused c = λ G p a.
 pub count_definitions-requires-clause-few : goal.count_definitions-requires-clause-few
 count_definitions-requires-clause-few c = let s = short_list (plain_insts c.args.module.now) in
     let q = c.requires.words in omega (arith, s, q)
+
+pub check_branches-requires-clause-words : goal.check_branches-requires-clause-words
+check_branches-requires-clause-words c = search rules
+
+pub check_branches-requires-clause-known : goal.check_branches-requires-clause-known
+check_branches-requires-clause-known c = search rules
+
+pub returns-in_err-check_branches-clause-flow : goal.returns-in_err-check_branches-clause-flow
+returns-in_err-check_branches-clause-flow c = search rules
+
+pub check_values-requires-clause-words : goal.check_values-requires-clause-words
+check_values-requires-clause-words c = search rules
+
+pub check_values-requires-clause-known : goal.check_values-requires-clause-known
+check_values-requires-clause-known c = search rules
+
+pub returns-in_err-check_values-clause-flow : goal.returns-in_err-check_values-clause-flow
+returns-in_err-check_values-clause-flow c = search rules
+
+pub returns-in_err-check_values-clause-refused : goal.returns-in_err-check_values-clause-refused
+returns-in_err-check_values-clause-refused c = search rules
+
+pub first_cycle-requires-clause-words : goal.first_cycle-requires-clause-words
+first_cycle-requires-clause-words c = search rules
+
+pub first_cycle-requires-clause-plan : goal.first_cycle-requires-clause-plan
+first_cycle-requires-clause-plan c = search rules
+
+pub first_cycle-requires-clause-ids : goal.first_cycle-requires-clause-ids
+first_cycle-requires-clause-ids c = search rules
+
+pub returns-in_err-call-clause-flow : goal.returns-in_err-call-clause-flow
+returns-in_err-call-clause-flow c = search rules
+
+pub returns-in_err-call-clause-refused : goal.returns-in_err-call-clause-refused
+returns-in_err-call-clause-refused c = search rules
+
+pub stop_at-requires : goal.stop_at-requires
+stop_at-requires c = search rules
+
+pub returns-in-Some-clause-flow : goal.returns-in-Some-clause-flow
+returns-in-Some-clause-flow c = search rules
+
+pub count_definitions-requires-clause-places : goal.count_definitions-requires-clause-places
+count_definitions-requires-clause-places c = search rules
+
+pub returns-clause-flow : goal.returns-clause-flow
+returns-clause-flow c = search rules
+
+pub returns-clause-refused : goal.returns-clause-refused
+returns-clause-refused c = search rules

@@ -1,4 +1,5 @@
-use Rattle.std.proofs.Common.{◌≡◌, Some, sym, ap, map, subst, ◌∙◌}
+use Rattle.std.proofs.lemmas.Grind.{common_steps}
+use Rattle.std.proofs.Common.{◌≡◌, Some, sym, ap, map, subst, ◌∙◌, arith}
 use Rattle.std.specs.Prelude.{slice_get}
 use Rattle.spv_module.specs.Module.{plain_inst, plain_insts}
 use Rattle.spv_ids.specs.Outcome.{IsDefinitionOf, definition_in}
@@ -22,3 +23,21 @@ returns c = λ G plan.
     let by = λ (js : _). IsTypedIn js c.args.inst i in
     let e = c.in_ok-holds.ensures.answer in
     (λ y. d.0 (subst by same (e.0 y)), λ r. e.1 (subst by (sym same) (d.1 r)))
+
+pub new-definitions-requires-clause-plan : goal.new-definitions-requires-clause-plan
+new-definitions-requires-clause-plan c = grind (arith, common_steps)
+
+pub new-matching-requires : goal.new-matching-requires
+new-matching-requires c = grind (arith, common_steps)
+
+pub inst-requires : goal.inst-requires
+inst-requires c = grind (arith, common_steps)
+
+pub operation_holds-requires-clause-matching : goal.operation_holds-requires-clause-matching
+operation_holds-requires-clause-matching c = grind (arith, common_steps)
+
+pub operation_holds-requires-clause-number : goal.operation_holds-requires-clause-number
+operation_holds-requires-clause-number c = grind (arith, common_steps)
+
+pub returns-in_err-holds : goal.returns-in_err-holds
+returns-in_err-holds c = grind (arith, common_steps)
