@@ -62,6 +62,7 @@ one_line d G is lines (fact.Most count) h other = refl
 one_line d G is lines (fact.OtherOperand n k) h other = refl
 one_line d G is lines (fact.OnTheWay b) h other = refl
 one_line d G is lines (fact.Given n) h other = refl
+one_line d G is lines (fact.UsedBy n) h other = refl
 one_line d G is lines (fact.Since minor) h other = refl
 one_line d G is lines (fact.Extensions line) h other = refl
 

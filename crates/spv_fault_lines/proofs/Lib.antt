@@ -1,3 +1,2 @@
 pub mod Alone
-mod Rests
 mod Spaced

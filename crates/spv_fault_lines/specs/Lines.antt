@@ -237,6 +237,7 @@ rest_of d G is lines (fact.Most n) = count_part n
 rest_of d G is lines (fact.OtherOperand n k) = numbered_part G is n k
 rest_of d G is lines (fact.OnTheWay b) = results_part is (b ∷ [])
 rest_of d G is lines (fact.Given n) = inst_part lines n
+rest_of d G is lines (fact.UsedBy n) = inst_part lines n
 rest_of d G is lines (fact.Since minor) = name_part (since_text minor)
 rest_of d G is lines (fact.Extensions line) = flat_map name_part (extensions_of line)
 

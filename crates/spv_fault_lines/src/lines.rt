@@ -404,9 +404,10 @@ fn push_rest(out: &mut String, about: &About<'_, '_>, fact: &Fact) -> Result<(),
         Fact::Operand { inst, operand } | Fact::OtherOperand { inst, operand } => {
             push_operand_text(out, about, *inst, *operand)
         }
-        Fact::Defined { inst } | Fact::Earlier { inst } | Fact::Given { inst } => push_numbered(
-            out, about, *inst,
-        ),
+        Fact::Defined { inst }
+        | Fact::Earlier { inst }
+        | Fact::Given { inst }
+        | Fact::UsedBy { inst } => push_numbered(out, about, *inst),
         Fact::LocalTo { function: inst }
         | Fact::MissingParent { block: inst }
         | Fact::OnTheWay { block: inst } => about.push_result(out, *inst),

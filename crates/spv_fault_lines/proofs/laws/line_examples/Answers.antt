@@ -2,6 +2,9 @@ use Rattle.std.proofs.Common.{◌≡◌, ℕ, List, ap, arith, refl, slice_index
 use Rattle.std.proofs.lemmas.Fmt.{decimal_digit}
 use Rattle.spv_fault_lines.proofs.laws.line_examples.Goals as goal
 
+pub returns-clause-used : goal.returns-clause-used
+returns-clause-used c = rw (decimal_digit 0 (omega arith)) refl
+
 pub returns-clause-since : goal.returns-clause-since
 returns-clause-since c = rw (decimal_digit 2 (omega arith)) refl
 

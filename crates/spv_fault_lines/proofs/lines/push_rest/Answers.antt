@@ -6,9 +6,8 @@ use Rattle.spv_facts.proofs.Joined.{joined}
 use Rattle.spv_facts.specs.declared.fact.Detail.{Detail}
 use Rattle.spv_facts.specs.declared.fact.Fact.{Fact}
 use Rattle.spv_facts.specs.declared.fact.Fact.TheVariants as fact
-use Rattle.spv_fault_lines.specs.Lines.{name_part}
-use Rattle.spv_fault_lines.specs.inner.Parts.{named_text, rest_text}
-use Rattle.spv_fault_lines.proofs.Rests.{rests}
+use Rattle.spv_fault_lines.specs.Lines.{name_part, rest_of}
+use Rattle.spv_fault_lines.specs.inner.Parts.{named_text}
 use Rattle.spv_fault_lines.proofs.lines.push_rest.Goals as goal
 
 pub returns-in_ok-push_str-in_default : goal.returns-in_ok-push_str-in_default
@@ -17,11 +16,11 @@ returns-in_ok-push_str-in_default c = λ shown are.
     let G = c.args.about.now.table.now in
     let is = plain_insts c.args.about.now.«module».now in
     let f = c.args.fact.now in
-    rw (← rests d G is shown f, named d G is shown f refl)
+    rw (named d G is shown f refl)
     (joined _ _ _ _ (codes " ") _ c.in_ok-push_str-in_default.ensures.bytes (c.push_named.ensures shown are)) where
       -- a fact that is none of those with an arm of their own
       named : (d : Detail) (G : Table) (is : List PlainInst) (shown : List (List ℕ)) (f : Fact) → c.args.fact.now ≡ f
-          → rest_text d G is shown f ≡ name_part (named_text G is shown f)
+          → rest_of d G is shown f ≡ name_part (named_text G is shown f)
       named d G is shown (fact.At n) q = refl
       named d G is shown (fact.In p) q = absurd (c.in_default.not-In p q)
       named d G is shown (fact.Open p) q = absurd (c.in_default.not-Open p q)
@@ -67,5 +66,6 @@ returns-in_ok-push_str-in_default c = λ shown are.
       named d G is shown (fact.OtherOperand n k) q = absurd (c.in_default.not-OtherOperand n k q)
       named d G is shown (fact.OnTheWay b) q = absurd (c.in_default.not-OnTheWay b q)
       named d G is shown (fact.Given n) q = absurd (c.in_default.not-Given n q)
+      named d G is shown (fact.UsedBy n) q = absurd (c.in_default.not-UsedBy n q)
       named d G is shown (fact.Since minor) q = refl
       named d G is shown (fact.Extensions line) q = absurd (c.in_default.not-Extensions line q)
