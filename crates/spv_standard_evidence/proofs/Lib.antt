@@ -7,5 +7,8 @@ pub mod Decorating
 pub mod Versioned
 pub mod Placed
 pub mod Ordered
+pub mod Faced
+pub mod Missed
+pub mod Shown
 pub mod Worked
 pub mod Sufficing

@@ -1,4 +1,4 @@
--- What shows that one of the rules O1 to O3 and O5 to O23 is broken. [own]
+-- What shows that one of the rules O1 to O23 is broken. [own]
 use Rattle.std.specs.Prelude.{ℕ, List}
 use Rattle.spv_table.specs.Table.{Table}
 use Rattle.spv_module.specs.Operand.{PlainInst}
@@ -9,11 +9,15 @@ use Rattle.spv_standard_evidence.specs.Declarations as declarations
 use Rattle.spv_standard_evidence.specs.Order as order
 use Rattle.spv_standard_evidence.specs.Versions as versions
 use Rattle.spv_standard_evidence.specs.Limits as limits
+use Rattle.spv_standard_evidence.specs.Interfaces as interfaces
 
 -- In a module of version 1.minor it shows that the rule is broken at the instruction of that number.
 pub data IsEvidence (G : Table) (minor : ℕ) (is : List PlainInst) : Rule → ℕ → Evidence → Type 0 where
   -- O1, O2
   of_order : (r : Rule) (n : ℕ) (e : Evidence) → order.IsEvidence G is r n e → IsEvidence G minor is r n e
+  -- O4
+  of_interfaces : (r : Rule) (n : ℕ) (e : Evidence) → interfaces.IsEvidence G minor is r n e
+      → IsEvidence G minor is r n e
   -- O3, O5 to O13
   of_declarations : (r : Rule) (n : ℕ) (e : Evidence) → declarations.IsEvidence G is r n e
       → IsEvidence G minor is r n e

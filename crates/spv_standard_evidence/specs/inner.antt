@@ -4,3 +4,4 @@ pub mod Declarations
 pub mod Limits
 pub mod Versions
 pub mod Placements
+pub mod Interfaces

@@ -1,3 +1,4 @@
+use Rattle.spv_standard_evidence.proofs.Faced.{interfaces_suffice}
 use Rattle.spv_standard_evidence.proofs.Operated.{operands_suffice}
 use Rattle.spv_standard_evidence.proofs.Limited.{limits_suffice}
 use Rattle.spv_standard_evidence.proofs.Ordered.{order_suffices}
@@ -7,6 +8,9 @@ use Rattle.spv_standard_evidence.proofs.laws.suffices.Goals as goal
 
 pub returns-clause-order : goal.returns-clause-order
 returns-clause-order c = λ G is r n e h. order_suffices G is r n e h
+
+pub returns-clause-interfaces : goal.returns-clause-interfaces
+returns-clause-interfaces c = λ G minor is r n e h. interfaces_suffice G minor is r n e h
 
 pub returns-clause-declarations : goal.returns-clause-declarations
 returns-clause-declarations c = λ G is r n e h. declarations_suffice G is r n e h
