@@ -239,6 +239,7 @@ value_of G is lines (fact.Most n) = maybe_number n
 value_of G is lines (fact.OtherOperand n k) = operand_tokens G k (operand_at is n k)
 value_of G is lines (fact.OnTheWay b) = maybe_number (result_of is b)
 value_of G is lines (fact.Given n) = inst_tokens lines n
+value_of G is lines (fact.UsedBy n) = inst_tokens lines n
 value_of G is lines (fact.Since minor) = string (since_text minor) ∷ []
 value_of G is lines (fact.Extensions line) = array (flat_map name_token (extensions_of line))
 

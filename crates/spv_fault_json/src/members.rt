@@ -157,7 +157,8 @@ fn push_value(out: &mut Output, about: &About<'_, '_>, fact: &Fact) -> Result<()
         Fact::At { inst }
         | Fact::Defined { inst }
         | Fact::Earlier { inst }
-        | Fact::Given { inst } => push_inst(out, about, *inst),
+        | Fact::Given { inst }
+        | Fact::UsedBy { inst } => push_inst(out, about, *inst),
         Fact::In { place } | Fact::Open { place } => push_place(out, about, *place),
         Fact::Words {
             before,
