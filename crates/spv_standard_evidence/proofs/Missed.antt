@@ -1,5 +1,5 @@
 -- Uses of variables that are not in an interface, and the ways of calls to them.
-use Rattle.std.proofs.Common.{◌≡◌, ◌<◌, ◌≤◌, ◌+◌, ◌-◌, ◌++◌, ◌∙◌, ◌⊎◌, ◌↔◌, inl, inr, ℕ, List, [], ◌∷◌, Bool}
+use Rattle.std.proofs.Common.{◌≡◌, ◌<◌, ◌≤◌, ◌+◌, ◌-◌, ◌++◌, ◌∙◌, ◌⊎◌, inl, inr, ℕ, List, [], ◌∷◌, Bool}
 use Rattle.std.proofs.Common.{false, Some, Contains, get_or, length, map, replicate, reverse, take, refl, sym, ap}
 use Rattle.std.proofs.Common.{subst, arith}
 use Rattle.std.specs.Prelude.{slice_get}
@@ -35,7 +35,6 @@ use Rattle.spv_flow_evidence.specs.calls.Evidence.{IsCallChain, IsShortestOf}
 use Rattle.spv_flow_evidence.specs.calls.inner.Edges.{edge_of}
 use Rattle.spv_flow_evidence.proofs.lemmas.calls.Walked.{all_open, back_shortest, chain_of, chain_way}
 use Rattle.spv_flow_evidence.proofs.lemmas.calls.Walked.{edges_within, one_within, only_at, there}
-use Rattle.spv_evidence.specs.declared.evidence.Evidence.{Evidence}
 use Rattle.spv_evidence.specs.declared.evidence.Evidence.TheVariants.{NotInInterface}
 use Rattle.spv_standard_evidence.specs.Interfaces.{Shows}
 use Rattle.spv_standard_evidence.specs.inner.Interfaces.{AddsEdges, LeadsPast, Misses, MissesBefore, MissesIn, Reaches}

@@ -1,4 +1,4 @@
-use Rattle.std.proofs.Common.{◌≡◌, ◌<◌, ◌∙◌, ℕ, List, length, map, subst, sym, arith}
+use Rattle.std.proofs.Common.{ℕ, List, length, map, subst, sym, arith}
 use Rattle.std.proofs.lemmas.List.{length-map}
 use Rattle.spv_module.specs.Module.{plain_inst, plain_operands}
 use Rattle.spv_layout.proofs.Misfits.{short_list}

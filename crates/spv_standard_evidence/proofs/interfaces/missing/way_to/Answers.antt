@@ -1,10 +1,6 @@
-use Rattle.std.proofs.Common.{◌≡◌, ◌+◌, ℕ, List, length, map, replicate, false, subst, sym, ap, arith}
-use Rattle.spv_module.specs.Module.{plain_inst}
-use Rattle.spv_flow.specs.declared.calls.graph.Call.{Call}
+use Rattle.std.proofs.Common.{◌≡◌, ◌+◌, length, replicate, false, arith}
 use Rattle.spv_declarations.specs.inner.Sets.{IsIn}
 use Rattle.spv_interfaces.proofs.Unused.{same_length}
-use Rattle.spv_flow_evidence.specs.calls.inner.Edges.{edge_of}
-use Rattle.spv_standard_evidence.specs.inner.Interfaces.{AddsEdges, MissesBefore}
 use Rattle.spv_standard_evidence.proofs.Missed.{led, ready, their_calls, unreached}
 use Rattle.spv_standard_evidence.proofs.interfaces.missing.way_to.Goals as goal
 

@@ -1,4 +1,4 @@
-use Rattle.std.proofs.Common.{◌≡◌, ◌<◌, ◌≤◌, ◌-◌, ◌∙◌, ℕ, List, ◌∷◌, length, reverse, sym, arith}
+use Rattle.std.proofs.Common.{◌∙◌, ◌∷◌, arith}
 use Rattle.spv_standard_evidence.proofs.Missed.{front_of, last_read, some_nodes}
 use Rattle.spv_standard_evidence.proofs.interfaces.missing.without_last.Goals as goal
 
