@@ -15,13 +15,13 @@ use Rattle.spv_layout.specs.Stage.{of_branches, of_standard}
 use Rattle.spv_flow.specs.branches.Broken as flow
 use Rattle.spv_block_order.specs.Broken as order
 use Rattle.spv_interfaces.specs.Broken as interfaces
+use Rattle.spv_interfaces.specs.Interface.{IsMisfaced}
 use Rattle.spv_declarations.specs.Broken as declarations
 use Rattle.spv_declarations.specs.Decorated.{IsMisplaced}
 use Rattle.spv_kernel_operands.specs.Broken as operands
 use Rattle.spv_versions.specs.Broken as versions
 use Rattle.spv_limits.specs.Broken as limits
 use Rattle.spv_evidence.specs.declared.evidence.Evidence.{Evidence}
-use Rattle.spv_evidence.specs.declared.evidence.Evidence.TheVariants.{Alone}
 use Rattle.spv_standard.specs.Broken as standard
 use Rattle.spv_standard.specs.Broken.{KernelBroken}
 use Rattle.spv_standard.proofs.Stages.{standard_stage}
@@ -32,6 +32,8 @@ use Rattle.spv_standard_evidence.specs.Declarations as by_declarations
 use Rattle.spv_standard_evidence.specs.Operands as by_operands
 use Rattle.spv_standard_evidence.specs.Versions as by_versions
 use Rattle.spv_standard_evidence.specs.Limits as by_limits
+use Rattle.spv_standard_evidence.specs.Interfaces as by_interfaces
+use Rattle.spv_standard_evidence.proofs.Faced.{interfaces_suffice}
 use Rattle.spv_standard_evidence.proofs.Limited.{limits_suffice}
 use Rattle.spv_standard_evidence.proofs.Operated.{operands_suffice}
 use Rattle.spv_standard_evidence.proofs.Ordered.{order_suffices}
@@ -39,7 +41,7 @@ use Rattle.spv_standard_evidence.proofs.Sufficing.{declarations_suffice}
 use Rattle.spv_standard_evidence.proofs.Versioned.{versions_suffice}
 use Rattle.spv_check.specs.Broken.{Broken, IsTold, Precedes}
 use Rattle.spv_check.specs.Fork.{fork_of}
-use Rattle.spv_explain.specs.Standard.{IsEvidence, IsKernelEvidence}
+use Rattle.spv_explain.specs.Standard.{IsEvidence}
 use Rattle.spv_explain.specs.inner.Kinds.{part_of}
 use Rattle.spv_explain.specs.declared.kinds.Part.{Part}
 use Rattle.spv_explain.specs.declared.kinds.Part.TheVariants as part
@@ -47,7 +49,7 @@ use Rattle.spv_explain.specs.declared.kinds.Part.TheVariants as part
 -- what is known of a broken rule of a part
 abbrev pub IsOfPart : Part → Table → ℕ → List PlainInst → Rule → ℕ → Type 0
 IsOfPart part.Order G minor is r n = order.Broken G is r n
-IsOfPart part.Interfaces G minor is r n = r ≡ rule.O4
+IsOfPart part.Interfaces G minor is r n = (r ≡ rule.O4) × IsMisfaced G minor is n
 IsOfPart part.Declarations G minor is r n = IsUndecorated r × declarations.Broken G is r n
 IsOfPart part.Placements G minor is r n = (r ≡ rule.O7) × IsMisplaced is n
 IsOfPart part.Decorations G minor is r n = IsDecorating r × declarations.Broken G is r n
@@ -62,7 +64,7 @@ parted_order G minor is _ _ (order.early_use n u) = order.early_use n u
 
 parted_interfaces : (G : Table) (minor : ℕ) (is : List PlainInst) (r : Rule) (n : ℕ) → interfaces.Broken G minor is r n
     → IsOfPart (part_of r) G minor is r n
-parted_interfaces G minor is _ _ (interfaces.misfaced n h) = refl
+parted_interfaces G minor is _ _ (interfaces.misfaced n h) = (refl, h)
 
 parted_declarations : (G : Table) (minor : ℕ) (is : List PlainInst) (r : Rule) (n : ℕ) → declarations.Broken G is r n
     → IsOfPart (part_of r) G minor is r n
@@ -124,58 +126,56 @@ part_at G minor is js r n p same e b =
 
 -- what is found of each part shows the rule
 pub order_shown : {E : Type 0} (G : Table) (minor : ℕ) (is : List PlainInst) (r : Rule) (n : ℕ) (o : Answer Evidence E)
-    → IfOk o (by_order.IsEvidence G is r n) → IfOk o (λ e. IsKernelEvidence G minor is r n e)
-order_shown G minor is r n (Ok e) h = IsKernelEvidence.shown r n e (found.of_order r n e h)
+    → IfOk o (by_order.IsEvidence G is r n) → IfOk o (λ e. found.IsEvidence G minor is r n e)
+order_shown G minor is r n (Ok e) h = found.of_order r n e h
 order_shown G minor is r n (Err _) h = tt
 
-pub alone_shown : (G : Table) (minor : ℕ) (is : List PlainInst) (r : Rule) (n : ℕ) → r ≡ rule.O4
-    → KernelBroken G minor is r n → IsKernelEvidence G minor is r n Alone
-alone_shown G minor is r n e b =
-    subst (λ (q : Rule). IsKernelEvidence G minor is q n Alone) (sym e)
-    (IsKernelEvidence.alone n (subst (λ (q : Rule). KernelBroken G minor is q n) e b))
+pub interface_shown : {E : Type 0} (G : Table) (minor : ℕ) (is js : List PlainInst) (r : Rule) (n : ℕ)
+    (o : Answer Evidence E) → js ≡ is → r ≡ rule.O4 → IfOk o (by_interfaces.IsEvidence G minor js rule.O4 n)
+    → IfOk o (λ e. found.IsEvidence G minor is r n e)
+interface_shown G minor is js r n (Ok e) same one h =
+    subst (λ (q : Rule). found.IsEvidence G minor is q n e) (sym one)
+    (found.of_interfaces rule.O4 n e (subst (λ ks. by_interfaces.IsEvidence G minor ks rule.O4 n e) same h))
+interface_shown G minor is js r n (Err _) same one h = tt
 
 pub declaration_shown : (G : Table) (minor : ℕ) (is js : List PlainInst) (r : Rule) (n : ℕ) (e : Evidence) → js ≡ is
-    → by_declarations.IsEvidence G js r n e → IsKernelEvidence G minor is r n e
+    → by_declarations.IsEvidence G js r n e → found.IsEvidence G minor is r n e
 declaration_shown G minor is js r n e same h =
-    IsKernelEvidence.shown r n e
-    (found.of_declarations r n e (subst (λ ks. by_declarations.IsEvidence G ks r n e) same h))
+    found.of_declarations r n e (subst (λ ks. by_declarations.IsEvidence G ks r n e) same h)
 
 pub decoration_shown : {E : Type 0} (G : Table) (minor : ℕ) (is js : List PlainInst) (r : Rule) (n : ℕ)
     (o : Answer Evidence E) → js ≡ is → IfOk o (by_declarations.IsEvidence G js r n)
-    → IfOk o (λ e. IsKernelEvidence G minor is r n e)
+    → IfOk o (λ e. found.IsEvidence G minor is r n e)
 decoration_shown G minor is js r n (Ok e) same h = declaration_shown G minor is js r n e same h
 decoration_shown G minor is js r n (Err _) same h = tt
 
 pub placement_shown : {E : Type 0} (G : Table) (minor : ℕ) (is js : List PlainInst) (r : Rule) (n : ℕ)
     (o : Answer Evidence E) → js ≡ is → r ≡ rule.O7
     → IfOk o (λ e. (T : Table) → by_declarations.IsEvidence T js rule.O7 n e)
-    → IfOk o (λ e. IsKernelEvidence G minor is r n e)
+    → IfOk o (λ e. found.IsEvidence G minor is r n e)
 placement_shown G minor is js r n (Ok e) same one h =
-    subst (λ (q : Rule). IsKernelEvidence G minor is q n e) (sym one)
+    subst (λ (q : Rule). found.IsEvidence G minor is q n e) (sym one)
     (declaration_shown G minor is js rule.O7 n e same (h G))
 placement_shown G minor is js r n (Err _) same one h = tt
 
 pub operand_shown : {E : Type 0} (G : Table) (minor : ℕ) (is js : List PlainInst) (r : Rule) (n : ℕ)
     (o : Answer Evidence E) → js ≡ is → IfOk o (by_operands.IsEvidence G js r n)
-    → IfOk o (λ e. IsKernelEvidence G minor is r n e)
+    → IfOk o (λ e. found.IsEvidence G minor is r n e)
 operand_shown G minor is js r n (Ok e) same h =
-    IsKernelEvidence.shown r n e
-    (found.of_operands r n e (subst (λ ks. by_operands.IsEvidence G ks r n e) same h))
+    found.of_operands r n e (subst (λ ks. by_operands.IsEvidence G ks r n e) same h)
 operand_shown G minor is js r n (Err _) same h = tt
 
 pub version_shown : (G : Table) (minor : ℕ) (is js : List PlainInst) (r : Rule) (n : ℕ) (e : Evidence) → js ≡ is
-    → r ≡ rule.O21 → by_versions.IsEvidence G minor js rule.O21 n e → IsKernelEvidence G minor is r n e
+    → r ≡ rule.O21 → by_versions.IsEvidence G minor js rule.O21 n e → found.IsEvidence G minor is r n e
 version_shown G minor is js r n e same one h =
-    subst (λ (q : Rule). IsKernelEvidence G minor is q n e) (sym one)
-    (IsKernelEvidence.shown rule.O21 n e
-    (found.of_versions rule.O21 n e (subst (λ ks. by_versions.IsEvidence G minor ks rule.O21 n e) same h)))
+    subst (λ (q : Rule). found.IsEvidence G minor is q n e) (sym one)
+    (found.of_versions rule.O21 n e (subst (λ ks. by_versions.IsEvidence G minor ks rule.O21 n e) same h))
 
 pub limit_shown : (G : Table) (minor : ℕ) (is js : List PlainInst) (r : Rule) (n : ℕ) (e : Evidence) → js ≡ is
-    → r ≡ rule.O22 → by_limits.IsEvidence js rule.O22 n e → IsKernelEvidence G minor is r n e
+    → r ≡ rule.O22 → by_limits.IsEvidence js rule.O22 n e → found.IsEvidence G minor is r n e
 limit_shown G minor is js r n e same one h =
-    subst (λ (q : Rule). IsKernelEvidence G minor is q n e) (sym one)
-    (IsKernelEvidence.shown rule.O22 n e
-    (found.of_limits rule.O22 n e (subst (λ ks. by_limits.IsEvidence ks rule.O22 n e) same h)))
+    subst (λ (q : Rule). found.IsEvidence G minor is q n e) (sym one)
+    (found.of_limits rule.O22 n e (subst (λ ks. by_limits.IsEvidence ks rule.O22 n e) same h))
 
 -- where a rule O is told, no rule of branches is broken
 earlier : (r : Rule) (n : ℕ) (q : Rule) (m : ℕ) → stage_of r ≡ of_standard → stage_of q ≡ of_branches
@@ -201,6 +201,8 @@ not_asked (OpenCl minor) other G is r n b = other minor refl
 found_broken : (G : Table) (minor : ℕ) (is : List PlainInst) (r : Rule) (n : ℕ) (e : Evidence)
     → found.IsEvidence G minor is r n e → KernelBroken G minor is r n
 found_broken G minor is _ _ _ (found.of_order r n e h) = KernelBroken.of_order r n (order_suffices G is r n e h)
+found_broken G minor is _ _ _ (found.of_interfaces r n e h) =
+    KernelBroken.of_interfaces r n (interfaces_suffice G minor is r n e h)
 found_broken G minor is _ _ _ (found.of_declarations r n e h) =
     KernelBroken.of_declarations r n (declarations_suffice G is r n e h)
 found_broken G minor is _ _ _ (found.of_operands r n e h) =
@@ -209,13 +211,8 @@ found_broken G minor is _ _ _ (found.of_versions r n e h) =
     KernelBroken.of_versions r n (versions_suffice G minor is r n e h)
 found_broken G minor is _ _ _ (found.of_limits r n e h) = KernelBroken.of_limits r n (limits_suffice is r n e h)
 
-kernel_broken : (G : Table) (minor : ℕ) (is : List PlainInst) (r : Rule) (n : ℕ) (e : Evidence)
-    → IsKernelEvidence G minor is r n e → KernelBroken G minor is r n
-kernel_broken G minor is _ _ _ (IsKernelEvidence.shown r n e h) = found_broken G minor is r n e h
-kernel_broken G minor is _ _ _ (IsKernelEvidence.alone n b) = b
-
 pub standard_broken : (G : Table) (reach : Reach) (is : List PlainInst) (r : Rule) (n : ℕ) (e : Evidence)
     → IsEvidence G reach is r n e → standard.Broken G reach is r n
 standard_broken G Profile is r n e h = h
 standard_broken G Extended is r n e h = h
-standard_broken G (OpenCl minor) is r n e h = kernel_broken G minor is r n e h
+standard_broken G (OpenCl minor) is r n e h = found_broken G minor is r n e h

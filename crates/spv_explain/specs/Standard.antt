@@ -3,22 +3,14 @@ use Rattle.std.specs.Prelude.{ℕ, List}
 use Rattle.spv_table.specs.Table.{Table}
 use Rattle.spv_module.specs.Operand.{PlainInst}
 use Rattle.spv_module.specs.declared.fault.Rule.{Rule}
-use Rattle.spv_module.specs.declared.fault.Rule.TheVariants.{O4}
 use Rattle.spv_extended.specs.declared.reach.Reach.{Reach}
 use Rattle.spv_extended.specs.declared.reach.Reach.TheVariants.{Profile, Extended, OpenCl}
 use Rattle.spv_evidence.specs.declared.evidence.Evidence.{Evidence}
-use Rattle.spv_evidence.specs.declared.evidence.Evidence.TheVariants.{Alone}
-use Rattle.spv_standard.specs.Broken.{KernelBroken}
 use Rattle.spv_standard_evidence.specs.Evidence as found
 
--- In a kernel of version 1.minor it shows that the rule is broken at the instruction of that number; of O4 it is the
--- rule alone, which is broken there. [own]
-pub data IsKernelEvidence (G : Table) (minor : ℕ) (is : List PlainInst) : Rule → ℕ → Evidence → Type 0 where
-  shown : (r : Rule) (n : ℕ) (e : Evidence) → found.IsEvidence G minor is r n e → IsKernelEvidence G minor is r n e
-  alone : (n : ℕ) → KernelBroken G minor is O4 n → IsKernelEvidence G minor is O4 n Alone
-
--- As far as the list is looked at: these rules are asked of kernels of OpenCL alone. [own]
+-- It shows that the rule is broken at the instruction of that number, as far as the list is looked at: these rules are
+-- asked of kernels of OpenCL alone. [own]
 abbrev pub IsEvidence : Table → Reach → List PlainInst → Rule → ℕ → Evidence → Type 0
 IsEvidence G Profile is r n e = ⊥
 IsEvidence G Extended is r n e = ⊥
-IsEvidence G (OpenCl minor) is r n e = IsKernelEvidence G minor is r n e
+IsEvidence G (OpenCl minor) is r n e = found.IsEvidence G minor is r n e

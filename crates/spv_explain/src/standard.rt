@@ -9,8 +9,9 @@ ghost use Rattle.spv_layout.specs.Stage.{of_branches};
 ghost use Rattle.spv_ids.specs.Outcome.{AreIds};
 ghost use Rattle.spv_check.specs.Fork.{fork_of};
 ghost use Rattle.spv_standard.specs.Broken as standard;
+ghost use Rattle.spv_standard_evidence.specs.Evidence as found;
 ghost use Rattle.spv_flow.specs.declared.branches.fork.Fork.{Fork};
-ghost use Rattle.spv_explain.specs.Standard.{IsEvidence, IsKernelEvidence};
+ghost use Rattle.spv_explain.specs.Standard.{IsEvidence};
 
 use crate::kinds::{Part, part_of};
 use spv_evidence::Evidence;
@@ -19,15 +20,14 @@ use spv_ids::Ids;
 use spv_layout::Plan;
 use spv_module::{Fault, Module};
 use spv_standard_evidence::{
-    declaration_evidence, decoration_evidence, limit_evidence, operand_evidence, order_evidence,
-    placement_evidence, version_evidence,
+    declaration_evidence, decoration_evidence, interface_evidence, limit_evidence,
+    operand_evidence, order_evidence, placement_evidence, version_evidence,
 };
 use spv_table::Table;
 use spv_type_forms::Definitions;
 use std::alloc::{AllocError, Global};
 
-/// What shows that a rule O is broken at an instruction of a kernel of version 1.`minor`. Of O4 nothing is looked at
-/// again.
+/// What shows that a rule O is broken at an instruction of a kernel of version 1.`minor`.
 fn kernel_evidence(
     alloc: Global,
     table: &Table,
@@ -44,14 +44,22 @@ fn kernel_evidence(
         × IsUnbroken (flow.Broken fork table.now (plain_insts «module».now)) of_branches }
     requires broken { standard.KernelBroken table.now minor (plain_insts «module».now) fault.rule fault.inst }
     ensures { IfOk result
-        (λ e. IsKernelEvidence table.now minor (plain_insts «module».now) fault.rule fault.inst e) }
+        (λ e. found.IsEvidence table.now minor (plain_insts «module».now) fault.rule fault.inst e) }
 {
     let insts = module.insts.as_slice();
     let total = insts.len() as u32;
     let definitions = Definitions::new(insts, plan, ids);
     match part_of(fault.rule) {
         Part::Order => order_evidence(alloc, module, plan, ids, fault.rule, fault.inst),
-        Part::Interfaces => Ok(Evidence::Alone),
+        Part::Interfaces => interface_evidence(
+            alloc,
+            &definitions,
+            insts,
+            plan,
+            ids,
+            minor,
+            fault.inst,
+        ),
         Part::Declarations => Ok(declaration_evidence(&definitions, fault.rule, fault.inst)),
         Part::Placements => placement_evidence(alloc, &definitions, total, fault.inst),
         Part::Decorations => decoration_evidence(

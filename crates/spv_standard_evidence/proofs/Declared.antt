@@ -1,5 +1,5 @@
 -- Declarations that break a rule, and what shows it.
-use Rattle.std.proofs.Common.{◌≡◌, ◌≢◌, ◌<◌, ◌≤◌, ◌+◌, ◌∙◌, ◌⊎◌, ℕ, zero, suc, List, [], ◌∷◌, Some, None, length, drop}
+use Rattle.std.proofs.Common.{◌≡◌, ◌≢◌, ◌<◌, ◌≤◌, ◌+◌, ◌∙◌, ℕ, zero, suc, List, [], ◌∷◌, Some, length}
 use Rattle.std.proofs.Common.{refl, sym, ap, subst, inl, inr, arith, true}
 use Rattle.std.specs.Prelude.{slice_get}
 use Rattle.std.proofs.lemmas.Bool.{cases_lt}
@@ -15,10 +15,10 @@ use Rattle.spv_type_forms.specs.declared.form.Scalar.TheVariants as scalar
 use Rattle.spv_type_forms.specs.Form.{form_in}
 use Rattle.spv_evidence.specs.declared.evidence.Evidence.TheVariants.{Capability, Earlier, Operand}
 use Rattle.spv_declarations.specs.Broken.{Broken}
-use Rattle.spv_declarations.specs.Declarations.{IsForwardElsewhere, IsIncapable, IsOfNoMember, NeedsAnother}
+use Rattle.spv_declarations.specs.Declarations.{IsIncapable, NeedsAnother}
 use Rattle.spv_declarations.specs.Entry.{IsRepeated, TakesId, named_by}
 use Rattle.spv_declarations.specs.Given.{HasId, HasIdBehind}
-use Rattle.spv_standard_evidence.specs.Declarations.{HasIdAt, IsEvidence, IsUndecorated}
+use Rattle.spv_standard_evidence.specs.Declarations.{IsEvidence, IsUndecorated}
 use Rattle.spv_standard_evidence.specs.inner.Declarations.{AreNamesakes, IsIdAt}
 
 -- an id among operands stands at a place, and one at a place is among them

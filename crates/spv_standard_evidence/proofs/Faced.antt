@@ -1,13 +1,12 @@
 -- Interfaces that are wrong by what is in them, and what shows it.
-use Rattle.std.proofs.Common.{if◌then◌else◌, ◌≡◌, ◌≤◌, ◌<◌, ◌+◌, ◌∙◌, ◌⊎◌, ℕ, List, [], ◌∷◌, Bool, true, false, Option}
-use Rattle.std.proofs.Common.{Some, None, MatchOption, length, nat_eq, refl, sym, ap, subst, arith}
+use Rattle.std.proofs.Common.{if◌then◌else◌, ◌≡◌, ◌≤◌, ◌<◌, ◌+◌, ◌∙◌, ℕ, List, [], ◌∷◌, Bool, true, false, Option}
+use Rattle.std.proofs.Common.{Some, None, MatchOption, length, nat_eq, sym, ap, subst, arith}
 use Rattle.std.specs.Prelude.{slice_get}
 use Rattle.std.proofs.lemmas.Option.{none-some, some_pair_parts}
 use Rattle.spv_table.specs.Table.{Table}
 use Rattle.spv_module.specs.declared.opcode.TheConstants as opcode
 use Rattle.spv_module.specs.Operand.{Plain, Id, Text, Value, PlainInst}
 use Rattle.spv_module.specs.declared.fault.Rule.{Rule}
-use Rattle.spv_module.specs.declared.fault.Rule.TheVariants.{O4}
 use Rattle.spv_flow.proofs.lemmas.calls.Insts.{same_inst}
 use Rattle.spv_interfaces.specs.Broken.{Broken}
 use Rattle.spv_interfaces.specs.Interface.{IsInTree, IsMisfaced, IsNamedIn, IsTwiceIn, IsWrong, face_in, faced_by}

@@ -1,5 +1,5 @@
 -- Limits that show that O22 is broken.
-use Rattle.std.proofs.Common.{◌≡◌, ◌≢◌, ◌<◌, ◌∙◌, ◌&&◌, ◌||◌, nat_eq, ◌⊎◌, ◌↔◌, ℕ, List, Bool, true, false, Some, None, Option, IsTrue, length}
+use Rattle.std.proofs.Common.{◌≡◌, ◌≢◌, ◌<◌, ◌∙◌, ◌&&◌, ◌||◌, nat_eq, ◌↔◌, ℕ, List, Bool, true, false, Some, None, IsTrue, length}
 use Rattle.std.proofs.Common.{refl, sym, subst, ap, inl, inr}
 use Rattle.std.specs.Prelude.{slice_get}
 use Rattle.std.proofs.lemmas.Bool.{cases_eq, eqb-true, ne_eqb, false≢true}
@@ -13,9 +13,9 @@ use Rattle.spv_evidence.specs.declared.evidence.Evidence.TheVariants.{Past}
 use Rattle.spv_limits.specs.declared.table.Limit.{Limit}
 use Rattle.spv_limits.specs.declared.table.Limit.TheVariants as limit
 use Rattle.spv_limits.specs.Broken.{Broken}
-use Rattle.spv_limits.specs.Counted.{before_indexes, member_count, sets_mode}
+use Rattle.spv_limits.specs.Counted.{before_indexes, member_count}
 use Rattle.spv_limits.specs.Depth.{IsDeep}
-use Rattle.spv_limits.specs.Past.{IsInFunctions, IsPast, Passes}
+use Rattle.spv_limits.specs.Past.{IsInFunctions, Passes}
 use Rattle.spv_limits.specs.Table.{most}
 use Rattle.spv_limits.specs.inner.Alone.{AreLong}
 use Rattle.spv_limits.proofs.Passing.{long_place, place_long}

@@ -1,6 +1,7 @@
 -- Uses of variables that are not in an interface, and the ways of calls to them.
-use Rattle.std.proofs.Common.{◌≡◌, ◌<◌, ◌≤◌, ◌+◌, ◌-◌, ◌++◌, ◌∙◌, ◌⊎◌, ◌↔◌, inl, inr, ℕ, List, [], ◌∷◌, Bool, false, Option}
-use Rattle.std.proofs.Common.{Some, None, Contains, get_or, length, map, replicate, reverse, take, refl, sym, ap, subst, arith}
+use Rattle.std.proofs.Common.{◌≡◌, ◌<◌, ◌≤◌, ◌+◌, ◌-◌, ◌++◌, ◌∙◌, ◌⊎◌, inl, inr, ℕ, List, [], ◌∷◌, Bool}
+use Rattle.std.proofs.Common.{false, Some, Contains, get_or, length, map, replicate, reverse, take, refl, sym, ap}
+use Rattle.std.proofs.Common.{subst, arith}
 use Rattle.std.specs.Prelude.{slice_get}
 use mathlib.Core.List.{reverse-cons}
 use Rattle.std.proofs.lemmas.Bool.{cases_lt}
@@ -34,7 +35,6 @@ use Rattle.spv_flow_evidence.specs.calls.Evidence.{IsCallChain, IsShortestOf}
 use Rattle.spv_flow_evidence.specs.calls.inner.Edges.{edge_of}
 use Rattle.spv_flow_evidence.proofs.lemmas.calls.Walked.{all_open, back_shortest, chain_of, chain_way}
 use Rattle.spv_flow_evidence.proofs.lemmas.calls.Walked.{edges_within, one_within, only_at, there}
-use Rattle.spv_evidence.specs.declared.evidence.Evidence.{Evidence}
 use Rattle.spv_evidence.specs.declared.evidence.Evidence.TheVariants.{NotInInterface}
 use Rattle.spv_standard_evidence.specs.Interfaces.{Shows}
 use Rattle.spv_standard_evidence.specs.inner.Interfaces.{AddsEdges, LeadsPast, Misses, MissesBefore, MissesIn, Reaches}
@@ -345,7 +345,8 @@ module _ (G : Table) (minor : ℕ) (is : List PlainInst) (Named : ℕ → Type 0
   pub ready : length is < most_blocks → IsReady edges closed root total
   ready few =
       let n = closed_count in
-      let within = all_within is calls a (MissesBefore G minor is Named (length is)) (misses_below G minor is Named (length is)) edges their_edges closed opened in
+      let within = all_within is calls a (MissesBefore G minor is Named (length is))
+      (misses_below G minor is Named (length is)) edges their_edges closed opened in
       record {
         within = subst (λ (k : ℕ). AreWithin k edges) (sym n) within;
         starts = one_within (length closed) root (omega (arith, n, below));
@@ -353,15 +354,18 @@ module _ (G : Table) (minor : ℕ) (is : List PlainInst) (Named : ℕ → Type 0
         few = omega (arith, n, few);
       }
 
-  pub unreached : Reaches is (MissesBefore G minor is Named (length is)) root → ((past : List ℕ) → ¬ (IsWay edges (root ∷ []) closed past total)) → ⊥
+  pub unreached : Reaches is (MissesBefore G minor is Named (length is)) root
+      → ((past : List ℕ) → ¬ (IsWay edges (root ∷ []) closed past total)) → ⊥
   unreached r none =
-      let w = way_there is calls a (MissesBefore G minor is Named (length is)) (misses_below G minor is Named (length is)) edges their_edges closed opened root r in
+      let w = way_there is calls a (MissesBefore G minor is Named (length is))
+      (misses_below G minor is Named (length is)) edges their_edges closed opened root r in
       none w.0 (subst (λ (k : ℕ). IsWay edges (root ∷ []) closed w.0 k) (sym all) w.1)
 
   pub led : (nodes : List ℕ) → IsShortest edges (root ∷ []) closed total nodes →
       LeadsPast is (MissesBefore G minor is Named (length is)) root (length is) nodes
   led nodes s =
-      leads is calls a (MissesBefore G minor is Named (length is)) (misses_below G minor is Named (length is)) edges their_edges closed opened root nodes below
+      leads is calls a (MissesBefore G minor is Named (length is)) (misses_below G minor is Named (length is)) edges
+      their_edges closed opened root nodes below
       (subst (λ (k : ℕ). IsShortest edges (root ∷ []) closed k nodes) all s)
 
 -- The calls, of the instructions that are known.

@@ -6,7 +6,7 @@ use Rattle.spv_table.specs.Table.{Table}
 use Rattle.spv_module.specs.declared.opcode.TheConstants as opcode
 use Rattle.spv_module.specs.Operand.{Plain, PlainInst}
 use Rattle.spv_module.specs.declared.fault.Rule.{Rule}
-use Rattle.spv_module.specs.declared.fault.Rule.TheVariants.{O14, O15, O16, O17, O18, O19, O20, O23}
+use Rattle.spv_module.specs.declared.fault.Rule.TheVariants.{O14, O15, O16, O17, O18, O19, O23}
 use Rattle.spv_evidence.specs.declared.evidence.Evidence.{Evidence}
 use Rattle.spv_evidence.specs.declared.evidence.Evidence.TheVariants.{Operand, Pair}
 use Rattle.spv_kernel_operands.specs.Broken.{Broken, IsBrokenBy}

@@ -1,5 +1,5 @@
 -- Blocks and uses that come early, and what shows it.
-use Rattle.std.proofs.Common.{◌≡◌, ◌≢◌, ◌<◌, ◌∙◌, ℕ, List, length, refl, sym, subst}
+use Rattle.std.proofs.Common.{◌≡◌, ◌≢◌, ◌<◌, ℕ, List, length, refl, sym, subst}
 use Rattle.spv_table.specs.Table.{Table}
 use Rattle.spv_module.specs.Operand.{PlainInst}
 use Rattle.spv_module.specs.declared.fault.Rule.{Rule}
@@ -7,7 +7,7 @@ use Rattle.spv_module.specs.declared.fault.Rule.TheVariants.{O1, O2}
 use Rattle.spv_evidence.specs.declared.evidence.Evidence.{Evidence}
 use Rattle.spv_evidence.specs.declared.evidence.Evidence.TheVariants.{Defined, OnTheWay}
 use Rattle.spv_block_order.specs.Broken.{Broken}
-use Rattle.spv_block_order.specs.Early.{IsEarlyBlock, IsEarlyIn, IsEarlyUse}
+use Rattle.spv_block_order.specs.Early.{IsEarlyBlock, IsEarlyUse}
 use Rattle.spv_block_order.specs.inner.First.{IsEarlyBlockBy}
 use Rattle.spv_block_order.specs.inner.Uses.{IsEarlyUseBy}
 use Rattle.spv_standard_evidence.specs.Order.{IsEvidence}

@@ -1,5 +1,5 @@
 -- Decorations that may not stand where they do, and what shows it.
-use Rattle.std.proofs.Common.{◌≡◌, ◌<◌, ◌≤◌, ◌+◌, ◌∙◌, ◌⊎◌, ◌||◌, if◌then◌else◌, nat_eq, ℕ, List}
+use Rattle.std.proofs.Common.{◌≡◌, ◌<◌, ◌≤◌, ◌+◌, ◌∙◌, ◌⊎◌, if◌then◌else◌, nat_eq, ℕ, List}
 use Rattle.std.proofs.Common.{Bool, true, false, Some, None, length, refl, sym, subst, inl, inr, arith}
 use Rattle.std.specs.Prelude.{slice_get}
 use Rattle.std.proofs.lemmas.Bool.{cases_lt, eqb-true}
@@ -16,7 +16,7 @@ use Rattle.spv_declarations.specs.Given.{Gives, HasIdBehind, NamesMember, NamesT
 use Rattle.spv_declarations.specs.Given.{given_by, group_by, member_given_by}
 use Rattle.spv_declarations.specs.Shown.{IsBadTarget, IsGivenBadly}
 use Rattle.spv_declarations.specs.Table.{IsNeverOnMembers, StandsOn}
-use Rattle.spv_standard_evidence.specs.Declarations.{HasIdAt, IsEvidence, Misplaces}
+use Rattle.spv_standard_evidence.specs.Declarations.{IsEvidence, Misplaces}
 use Rattle.spv_standard_evidence.specs.inner.Declarations.{IsIdAt}
 use Rattle.spv_standard_evidence.specs.inner.Placements.{IsGivenNever, IsGivenNeverAt}
 

@@ -1,10 +1,9 @@
 -- Literals that show that O19 is broken.
 use Rattle.std.proofs.Common.{◌≡◌, ◌≢◌, ◌<◌, ◌≤◌, ◌∙◌, ◌+◌, ◌-◌, ◌⊎◌, ◌^◌, if◌then◌else◌, nat_eq, ℕ, zero, suc, List, [], ◌∷◌, Option, Some, None}
-use Rattle.std.proofs.Common.{IsTrue, Contains, length, get_or, inl, inr, refl, sym, ap, subst, arith}
-use Rattle.std.specs.Prelude.{slice_get, filter_map, option_and_then}
-use Rattle.std.specs.BTreeMap.{BTreeMap}
+use Rattle.std.proofs.Common.{length, inl, inr, refl, sym, ap, subst, arith}
+use Rattle.std.specs.Prelude.{slice_get, option_and_then}
 use Rattle.std.proofs.lemmas.Bool.{cases_eq, cases_lt, eq-eqb, ne_eqb}
-use Rattle.std.proofs.lemmas.Option.{none-some, same_Some, slice_get-get_or, slice_get_past, slice_get_within}
+use Rattle.std.proofs.lemmas.Option.{none-some, same_Some, slice_get-get_or, slice_get_within}
 use Rattle.spv_table.specs.Table.{Table}
 use Rattle.spv_module.specs.declared.opcode.TheConstants as opcode
 use Rattle.spv_module.specs.Operand.{Plain, PlainInst}
@@ -13,7 +12,7 @@ use Rattle.spv_evidence.specs.declared.evidence.Evidence.TheVariants.{Operand, P
 use Rattle.spv_kernel_operands.specs.Switch.{HasTwice, HasWide, IsMisswitched, literal_in, literals_of}
 use Rattle.spv_kernel_operands.specs.inner.Switch.{IsSelector}
 use Rattle.spv_kernel_operands.proofs.Literals.{wide_found}
-use Rattle.spv_standard_evidence.specs.Operands.{AreEqual, IsWide, Shows, literal_at}
+use Rattle.spv_standard_evidence.specs.Operands.{AreEqual, Shows, literal_at}
 use Rattle.spv_standard_evidence.specs.inner.Operands.{AreNarrow, IsWider}
 
 -- an operand and its place among the literals: of one with a place, the literal there

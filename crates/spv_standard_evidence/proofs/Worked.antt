@@ -1,26 +1,20 @@
 -- Worked examples.
-use Rattle.std.proofs.Common.{◌≡◌, ◌≢◌, ◌<◌, ◌≤◌, ◌∙◌, ℕ, zero, suc, List, [], ◌∷◌, Option, Some, None, Contains, length}
-use Rattle.std.proofs.Common.{refl, sym, ap, subst, inl, inr, arith, rules}
-use Rattle.std.specs.Prelude.{slice_get}
+use Rattle.std.proofs.Common.{◌≡◌, ◌∙◌, ℕ, List, [], ◌∷◌}
+use Rattle.std.proofs.Common.{refl, sym, arith, rules}
 use Rattle.std.proofs.lemmas.Option.{none-some, same_Some}
 use Rattle.spv_table.specs.Table.{Table}
-use Rattle.spv_module.specs.declared.opcode.TheConstants as opcode
 use Rattle.spv_module.specs.Operand.{PlainInst}
-use Rattle.spv_module.specs.declared.fault.Rule.TheVariants.{O7, O14, O19, O21}
+use Rattle.spv_module.specs.declared.fault.Rule.TheVariants.{O14, O19, O21}
 use Rattle.spv_type_forms.specs.Example.{inst}
 use Rattle.spv_evidence.specs.declared.evidence.Evidence.{Evidence}
-use Rattle.spv_evidence.specs.declared.evidence.Evidence.TheVariants.{ByGroup, Late, Operand, Pair}
+use Rattle.spv_evidence.specs.declared.evidence.Evidence.TheVariants.{Late, Operand, Pair}
 use Rattle.spv_evidence.specs.declared.evidence.Lister.TheVariants as lister
 use Rattle.spv_kernel_operands.specs.Seats as seats
 use Rattle.spv_kernel_operands.specs.Scopes.{IsMisscoped}
 use Rattle.spv_kernel_operands.specs.Example.{barrier, small, switch}
-use Rattle.spv_declarations.specs.Example.{decorated}
-use Rattle.spv_declarations.specs.Table as table
-use Rattle.spv_declarations.proofs.Worked.{void_not}
 use Rattle.spv_versions.specs.declared.table.Kind.TheVariants as kind
 use Rattle.spv_versions.specs.Table as versions
 use Rattle.spv_standard_evidence.specs.Operands.{AreEqual, Shows}
-use Rattle.spv_standard_evidence.specs.Declarations as declarations
 use Rattle.spv_standard_evidence.specs.Versions as late
 
 -- the scope 5

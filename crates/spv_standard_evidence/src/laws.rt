@@ -49,7 +49,7 @@ pub fn evidence_examples()
     ensures twice { (G : Table) → by_operands.Shows G small (switch 7 7) O19 (Pair 2 4) }
     ensures labels { (G : Table) → ¬ (by_operands.Shows G small (switch 7 7) O19 (Pair 3 5)) }
     ensures once { (G : Table) → ¬ (by_operands.Shows G small (switch 7 8) O19 (Pair 2 4)) }
-    // The entry point's function (2) calls one (7) whose instruction 9 uses the variable (1), and does not use it itself.
+    // The entry point's function (2) calls one (7) whose instruction 9 uses the variable (1); it does not do so itself.
     ensures unnamed { (G : Table)
         → by_interfaces.IsEvidence G 4 (faced []) O4 0 (NotInInterface 1 (2 ∷ 7 ∷ []) 9) }
     ensures elsewhere { (G : Table)

@@ -1,5 +1,5 @@
 -- Operands that are found, or not. (For the code alone.)
-use Rattle.std.specs.Prelude.{◌≡◌, ◌<◌, ◌≤◌, ◌^◌, ℕ, List, Some, Bool, true, false, Contains, slice_get}
+use Rattle.std.specs.Prelude.{◌≡◌, ◌<◌, ◌≤◌, ◌^◌, ℕ, List, Some, Bool, true, false, Contains}
 use Rattle.std.specs.Prelude.{if◌then◌else◌, nat_eq}
 use Rattle.spv_module.specs.declared.opcode.TheConstants as opcode
 use Rattle.spv_module.specs.Operand.{Plain, PlainInst}

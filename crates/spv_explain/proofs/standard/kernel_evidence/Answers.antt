@@ -1,11 +1,13 @@
-use Rattle.std.proofs.Common.{◌∙◌, ◌≡◌, ap, map, refl, sym, subst, arith}
+use Rattle.std.proofs.Common.{◌∙◌, ◌≡◌, List, ap, map, refl, sym, subst, arith}
 use Rattle.std.proofs.lemmas.List.{length-map}
 use Rattle.spv_module.specs.Module.{plain_inst, plain_insts}
+use Rattle.spv_module.specs.Operand.{PlainInst}
 use Rattle.spv_layout.specs.Place.{IsShort}
+use Rattle.spv_layout.specs.Plan.{IsPlan}
 use Rattle.spv_layout.proofs.Misfits.{short_list}
 use Rattle.spv_ids.specs.Outcome.{IsDefinitionOf, definition_in}
 use Rattle.spv_explain.specs.declared.kinds.Part.TheVariants as part
-use Rattle.spv_explain.proofs.Parted.{alone_shown, declaration_shown, decoration_shown, limit_shown, operand_shown}
+use Rattle.spv_explain.proofs.Parted.{declaration_shown, decoration_shown, interface_shown, limit_shown, operand_shown}
 use Rattle.spv_explain.proofs.Parted.{order_shown, part_at, placement_shown, version_shown}
 use Rattle.spv_explain.proofs.standard.kernel_evidence.Goals as goal
 
@@ -42,6 +44,34 @@ returns-in-Order c =
     order_shown G m is r n c.order_evidence.result
     (c.order_evidence.ensures c.requires.branches.0 G c.requires.plan c.requires.ids c.requires.branches.1)
 
+pub interface_evidence-requires-clause-words : goal.interface_evidence-requires-clause-words
+interface_evidence-requires-clause-words c = rw c.as_slice-insts.ensures.value c.requires.words
+
+pub interface_evidence-requires-clause-same : goal.interface_evidence-requires-clause-same
+interface_evidence-requires-clause-same c = c.new-definitions.ensures
+
+pub interface_evidence-requires-clause-ids : goal.interface_evidence-requires-clause-ids
+interface_evidence-requires-clause-ids c = λ x.
+    subst (λ is. IsDefinitionOf is x (definition_in c.args.ids.now x))
+    (ap (λ items. map plain_inst items) (sym c.as_slice-insts.ensures.value)) (c.requires.ids.each x)
+
+pub interface_evidence-requires-clause-broken : goal.interface_evidence-requires-clause-broken
+interface_evidence-requires-clause-broken c =
+    let G = c.args.table.now in
+    let is = plain_insts c.args.module.now in
+    let r = c.args.fault.rule in
+    let n = c.args.fault.inst in
+    let m = c.args.minor in
+    let same : c.new-definitions.result ≡ is = c.new-definitions.ensures
+    ∙ ap (λ items. map plain_inst items) c.as_slice-insts.ensures.value in
+    let part_is = sym c.part_of.ensures ∙ c.in-Interfaces.is in
+    let p = part_at G m is _ r n part.Interfaces same part_is c.requires.broken in (
+      G,
+      subst (λ (is : List PlainInst). IsPlan G is c.args.plan.now)
+          (ap (λ items. map plain_inst items) (sym c.as_slice-insts.ensures.value)) c.requires.plan,
+      p.1,
+    )
+
 pub returns-in-Interfaces : goal.returns-in-Interfaces
 returns-in-Interfaces c =
     let G = c.args.table.now in
@@ -49,8 +79,13 @@ returns-in-Interfaces c =
     let r = c.args.fault.rule in
     let n = c.args.fault.inst in
     let m = c.args.minor in
-    let p = part_at G m is is r n part.Interfaces refl (sym c.part_of.ensures ∙ c.in-Interfaces.is) c.requires.broken in
-    alone_shown G m is r n p c.requires.broken
+    let same : c.new-definitions.result ≡ is = c.new-definitions.ensures
+    ∙ ap (λ items. map plain_inst items) c.as_slice-insts.ensures.value in
+    let part_is = sym c.part_of.ensures ∙ c.in-Interfaces.is in
+    let p = part_at G m is _ r n part.Interfaces same part_is c.requires.broken in
+    interface_shown G m is _ r n c.interface_evidence.result same p.0 (c.interface_evidence.ensures G
+    (subst (λ (is : List PlainInst). IsPlan G is c.args.plan.now)
+    (ap (λ items. map plain_inst items) (sym c.as_slice-insts.ensures.value)) c.requires.plan))
 
 pub declaration_evidence-requires-clause-rule : goal.declaration_evidence-requires-clause-rule
 declaration_evidence-requires-clause-rule c =

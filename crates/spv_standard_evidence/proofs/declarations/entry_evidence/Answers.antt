@@ -1,11 +1,6 @@
-use Rattle.std.proofs.Common.{◌≡◌, ◌<◌, ◌∙◌, ℕ, Some, length, sym, subst, inl, inr, arith}
-use Rattle.std.specs.Prelude.{slice_get}
-use Rattle.std.proofs.lemmas.Bool.{cases_lt, iff_false}
-use Rattle.std.proofs.lemmas.Option.{same_Some}
-use Rattle.spv_module.specs.Module.{plain_inst}
-use Rattle.spv_module.specs.Operand.{PlainInst}
-use Rattle.spv_standard_evidence.specs.inner.Declarations.{AreNamesakes}
-use Rattle.spv_standard_evidence.proofs.Declared.{namesake, namesakes_more, no_namesake, repeated_by, there_3}
+use Rattle.std.proofs.Common.{arith}
+use Rattle.std.proofs.lemmas.Bool.{iff_false}
+use Rattle.spv_standard_evidence.proofs.Declared.{namesakes_more, no_namesake, repeated_by, there_3}
 use Rattle.spv_standard_evidence.proofs.declarations.entry_evidence.Goals as goal
 
 pub inst-inst-requires : goal.inst-inst-requires

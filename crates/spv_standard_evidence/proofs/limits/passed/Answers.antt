@@ -1,4 +1,4 @@
-use Rattle.std.proofs.Common.{◌≡◌, List, sym, ap, subst}
+use Rattle.std.proofs.Common.{List, sym, ap, subst}
 use Rattle.std.proofs.lemmas.Bool.{iff_false}
 use Rattle.spv_module.specs.Module.{plain_inst, plain_operands}
 use Rattle.spv_module.specs.Operand.{Plain}

@@ -1,4 +1,4 @@
-use Rattle.std.proofs.Common.{◌≡◌, List, length, map, ap, arith}
+use Rattle.std.proofs.Common.{◌≡◌, length, map, ap, arith}
 use Rattle.std.proofs.lemmas.List.{length-map}
 use Rattle.spv_module.specs.Module.{plain_inst, plain_insts}
 use Rattle.spv_flow.proofs.lemmas.branches.Firsts.{few_insts}

@@ -1,5 +1,4 @@
-use Rattle.std.proofs.Common.{◌≡◌, ◌<◌, ℕ, Some, length, arith}
-use Rattle.std.specs.Prelude.{slice_get}
+use Rattle.std.proofs.Common.{arith}
 use Rattle.std.proofs.lemmas.Bool.{iff_false}
 use Rattle.spv_standard_evidence.proofs.Placed.{never_found, never_more, never_missed}
 use Rattle.spv_standard_evidence.proofs.placements.never_place.Goals as goal

@@ -35,4 +35,5 @@ returns c = λ G f.
     let m = length-map c.args.inst.now.operands plain_operand in
     let t = c.loop-at-test.false in
     let all : length i.operands ≤ c.loop-at.at = omega (arith, l, m, t) in
-    missed_none G c.args.minor c.args.definitions.now (IsIn c.args.named.now) i c.loop-at.at all (c.loop-at.invariant G f)
+    missed_none G c.args.minor c.args.definitions.now (IsIn c.args.named.now) i c.loop-at.at all
+    (c.loop-at.invariant G f)

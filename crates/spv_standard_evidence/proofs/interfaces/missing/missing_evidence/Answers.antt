@@ -1,4 +1,4 @@
-use Rattle.std.proofs.Common.{◌≡◌, ◌<◌, ◌∙◌, ℕ, List, length, map, subst, sym, arith}
+use Rattle.std.proofs.Common.{ℕ, List, length, map, subst, sym, arith}
 use Rattle.std.proofs.lemmas.List.{length-map}
 use Rattle.spv_module.specs.Module.{plain_inst, plain_operands}
 use Rattle.spv_layout.proofs.Misfits.{short_list}
@@ -60,7 +60,8 @@ user_in-user-requires-clause-misses c =
     let l = c.in_ok-nodes.ensures r.0 fit in
     let w = c.without_last-calls.ensures (length is) l.last l.rest l.listed in
     let n = same_length is c.args.insts.now c.requires.same in
-    (r.0, fit, misses_told r.0 c.args.minor is Named (length c.args.insts.now) c.without_last-calls.result.last l.last (sym n) w.1 l.so)
+    let last = c.without_last-calls.result.last in
+    (r.0, fit, misses_told r.0 c.args.minor is Named (length c.args.insts.now) last l.last (sym n) w.1 l.so)
 
 pub unreachable-requires-in_default-number : goal.unreachable-requires-in_default-number
 unreachable-requires-in_default-number c =
@@ -80,11 +81,14 @@ returns c = λ G plan.
     let l = c.in_ok-nodes.ensures G fit in
     let calls = c.without_last-calls.result in
     let w = c.without_last-calls.ensures (length is) l.last l.rest l.listed in
-    let s = shortest_told is (MissesBefore G c.args.minor is Named (length is)) c.in-Some.root (length is) calls.last c.in_ok-nodes.nodes.items calls.functions.items l w.0 w.1 in
-    subst (λ (cs : List ℕ). Shows G c.args.minor is c.args.function os (NotInInterface c.in-Some-number.variable cs c.user_in-user.result.0))
+    let s = shortest_told is (MissesBefore G c.args.minor is Named (length is)) c.in-Some.root (length is) calls.last
+    c.in_ok-nodes.nodes.items calls.functions.items l w.0 w.1 in
+    let v = c.in-Some-number.variable in
+    let user = c.user_in-user.result in
+    subst (λ (cs : List ℕ). Shows G c.args.minor is c.args.function os (NotInInterface v cs user.0))
     (sym c.from_vec.ensures)
-    (lack_shown G c.args.minor is os Named c.args.function c.in-Some.root calls.last c.user_in-user.result.0 c.user_in-user.result.1
-    c.in-Some-number.variable calls.functions.items (λ y. (c.in_ok-named.ensures y).1) c.in-Some.ensures s
+    (lack_shown G c.args.minor is os Named c.args.function c.in-Some.root calls.last user.0 user.1 v
+    calls.functions.items (λ y. (c.in_ok-named.ensures y).1) c.in-Some.ensures s
     (c.user_in-user.ensures G fit) c.in-Some-number.ensures)
 
 pub overflow_cast-total : goal.overflow_cast-total

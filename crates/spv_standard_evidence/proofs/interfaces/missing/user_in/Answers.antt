@@ -1,4 +1,4 @@
-use Rattle.std.proofs.Common.{◌≡◌, ℕ, subst}
+use Rattle.std.proofs.Common.{ℕ, subst}
 use Rattle.spv_declarations.specs.inner.Sets.{IsIn}
 use Rattle.spv_standard_evidence.specs.inner.Interfaces.{MissesIn}
 use Rattle.spv_standard_evidence.proofs.Missed.{no_user_first, no_user_other, no_user_past, user_there}

@@ -1,10 +1,6 @@
-use Rattle.std.proofs.Common.{◌≡◌, ◌+◌, ℕ, List, length, map, replicate, false, subst, sym, ap, arith}
-use Rattle.spv_module.specs.Module.{plain_inst}
-use Rattle.spv_flow.specs.declared.calls.graph.Call.{Call}
+use Rattle.std.proofs.Common.{◌≡◌, ◌+◌, length, replicate, false, arith}
 use Rattle.spv_declarations.specs.inner.Sets.{IsIn}
 use Rattle.spv_interfaces.proofs.Unused.{same_length}
-use Rattle.spv_flow_evidence.specs.calls.inner.Edges.{edge_of}
-use Rattle.spv_standard_evidence.specs.inner.Interfaces.{AddsEdges, MissesBefore}
 use Rattle.spv_standard_evidence.proofs.Missed.{led, ready, their_calls, unreached}
 use Rattle.spv_standard_evidence.proofs.interfaces.missing.way_to.Goals as goal
 
@@ -25,7 +21,8 @@ shortest_way-requires-clause-within c =
     let closed = c.in_ok-closed.closed.items in
     let a = their_calls is insts calls c.requires.same c.in_ok-calls.ensures in
     let adds = rw c.deref.ensures.value at (c.in_ok-edges.ensures r.0 r.1) in
-    let open' : closed ≡ replicate (length is + 1) false = rw n (c.in_ok-closed.ensures.items_if_clones_equal (λ y k. k)) in
+    let open' : closed ≡ replicate (length is + 1) false =
+    rw n (c.in_ok-closed.ensures.items_if_clones_equal (λ y k. k)) in
     let few = c.requires.few in
     let all = ready r.0 c.args.minor is Named calls edges closed c.args.root (length insts) (omega (arith, n)) a adds
     open' c.requires.root (omega (arith, n, few)) in
@@ -42,7 +39,8 @@ unreachable-requires c =
     let edges = c.in_ok-edges.edges.items in
     let closed = c.in_ok-closed.closed.items in
     let a = their_calls is insts calls c.requires.same c.in_ok-calls.ensures in
-    let open' : closed ≡ replicate (length is + 1) false = rw n (c.in_ok-closed.ensures.items_if_clones_equal (λ y k. k)) in
+    let open' : closed ≡ replicate (length is + 1) false =
+    rw n (c.in_ok-closed.ensures.items_if_clones_equal (λ y k. k)) in
     let adds = rw c.deref.ensures.value at (c.in_ok-edges.ensures r.0 r.1) in
     let none = rw (c.deref-2.ensures.value, c.deref-3.ensures.value) at (rw c.in-None.is at c.in_ok-nodes.ensures) in
     unreached r.0 c.args.minor is Named calls edges closed c.args.root (length insts) (omega (arith, n)) a adds open'
@@ -58,7 +56,8 @@ returns c = λ G fit.
     let edges = c.in_ok-edges.edges.items in
     let closed = c.in_ok-closed.closed.items in
     let a = their_calls is insts calls c.requires.same c.in_ok-calls.ensures in
-    let open' : closed ≡ replicate (length is + 1) false = rw n (c.in_ok-closed.ensures.items_if_clones_equal (λ y k. k)) in
+    let open' : closed ≡ replicate (length is + 1) false =
+    rw n (c.in_ok-closed.ensures.items_if_clones_equal (λ y k. k)) in
     let adds = rw c.deref.ensures.value at (c.in_ok-edges.ensures G fit) in
     let s = rw (c.deref-2.ensures.value, c.deref-3.ensures.value) at (rw c.in-Some.is at c.in_ok-nodes.ensures) in
     led G c.args.minor is Named calls edges closed c.args.root (length insts) (omega (arith, n)) a adds open'

@@ -1,4 +1,4 @@
-use Rattle.std.proofs.Common.{◌≡◌, ◌≤◌, ◌∙◌, sym, refl, length, arith}
+use Rattle.std.proofs.Common.{◌≤◌, ◌∙◌, sym, refl, length, arith}
 use Rattle.std.proofs.lemmas.List.{length-map}
 use Rattle.std.proofs.lemmas.Bool.{false≢true}
 use Rattle.spv_module.specs.declared.operand.Operand.TheVariants as code

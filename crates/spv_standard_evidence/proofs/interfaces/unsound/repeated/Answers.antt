@@ -1,10 +1,11 @@
-use Rattle.std.proofs.Common.{◌≡◌, ◌≤◌, ◌∙◌, sym, length, arith}
+use Rattle.std.proofs.Common.{◌≤◌, ◌∙◌, sym, length, arith}
 use Rattle.std.proofs.lemmas.List.{length-map}
 use Rattle.spv_module.specs.declared.operand.Operand.TheVariants as code
 use Rattle.spv_module.specs.Module.{plain_operand, plain_operands}
 use Rattle.spv_interfaces.proofs.Interfaces.{id_there, no_id_there, not_seen, once_all, once_more, once_past}
 use Rattle.spv_interfaces.proofs.Interfaces.{operand_there, seen_before, seen_more, seen_past}
-use Rattle.spv_standard_evidence.proofs.interfaces.unsound.repeated.Goals.{in-Some+in_ok-fresh+else-not-fresh, in_default}
+use Rattle.spv_standard_evidence.proofs.interfaces.unsound.repeated.Goals.{in-Some+in_ok-fresh+else-not-fresh}
+use Rattle.spv_standard_evidence.proofs.interfaces.unsound.repeated.Goals.{in_default}
 use Rattle.spv_standard_evidence.proofs.interfaces.unsound.repeated.Goals as goal
 
 pub returns-then-not-fresh : goal.returns-then-not-fresh
