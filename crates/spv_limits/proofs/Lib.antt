@@ -1,4 +1,3 @@
-pub mod Importing
 pub mod Deep
 pub mod Deepest
 pub mod Modes

@@ -3,8 +3,6 @@
 ghost use Rattle.std.specs.Prelude.{◌≡◌, ◌↔◌, ◌⊎◌, ◌<◌, ◌≤◌, ◌+◌, ℕ, List, Some, IsTrue, IfOk, length, slice_get};
 ghost use Rattle.spv_module.specs.Module.{plain_inst, plain_operands};
 ghost use Rattle.spv_module.specs.Operand.{PlainInst};
-ghost use Rattle.spv_extended.specs.declared.set.Set.TheVariants.{OpenClStd, Other};
-ghost use Rattle.spv_extended.specs.Sets.{imported_by, or_later, set_in};
 ghost use Rattle.spv_limits.specs.Depth.{AreLower};
 ghost use Rattle.spv_limits.specs.Past.{IsPast};
 ghost use Rattle.spv_limits.specs.declared.past.Counts.{Counts};
@@ -15,53 +13,11 @@ use crate::counted::{has_long_text, has_too_many, has_too_many_arguments};
 use crate::depths::is_too_deep;
 use crate::kept::empty_map;
 use crate::tallies::{Variables, has_mode_too_many};
-use spv_extended::{Set, set_named};
 use spv_module::{Inst, Operand, opcode};
+use spv_std_types::is_std;
 use spv_type_forms::Definitions;
 use std::alloc::{AllocError, Global};
 use std::collections::BTreeMap;
-
-/// The id for which an instruction imports a set, and the set; none where it is no OpExtInstImport.
-fn import(inst: &Inst<'_>) -> Option<(u32, Set)>
-    ensures { result ≡ imported_by (plain_inst inst.now) }
-{
-    match (inst.opcode, inst.operands.as_slice()) {
-        (opcode::EXT_INST_IMPORT, [Operand::Result(id), Operand::Text(name), ..]) => {
-            Some((*id, set_named(name)))
-        }
-        _ => None,
-    }
-}
-
-/// The set that an instruction imports for an id.
-fn set_by(inst: &Inst<'_>, id: u32) -> Set
-    ensures { result ≡ or_later id (imported_by (plain_inst inst.now)) Other }
-{
-    match import(inst) {
-        Some((own, set)) => { if own == id { set } else { Set::Other } }
-        None => Set::Other,
-    }
-}
-
-/// The set that an id stands for: that of the one instruction that defines it.
-fn set_of(definitions: &Definitions, id: u32) -> Set
-    ensures { result ≡ set_in definitions.now id }
-{
-    match definitions.number(id) {
-        Some(number) => set_by(definitions.inst(number), id),
-        None => Set::Other,
-    }
-}
-
-/// Whether an id stands for OpenCL.std.
-fn is_std(definitions: &Definitions, id: u32) -> bool
-    ensures { IsTrue result ↔ (set_in definitions.now id ≡ OpenClStd) }
-{
-    match set_of(definitions, id) {
-        Set::OpenClStd => true,
-        _ => false,
-    }
-}
 
 /// Whether operands are those of an instruction of OpenCL.std.
 fn is_std_call(definitions: &Definitions, operands: &[Operand<'_>]) -> bool

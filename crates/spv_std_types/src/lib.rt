@@ -12,5 +12,5 @@ mod table;
 
 pub use asked::asks_types;
 pub use condition::{Among, Classes, Condition, Number, Relation, Subject, Wanted, operand_of};
-pub use mistyped::{first_mistyped, mistyping_at};
+pub use mistyped::{first_mistyped, is_std, mistyping_at};
 pub use table::conditions_of;

@@ -47,7 +47,7 @@ fn set_of(definitions: &Definitions, id: u32) -> Set
 }
 
 /// Whether an id stands for OpenCL.std.
-fn is_std(definitions: &Definitions, id: u32) -> bool
+pub fn is_std(definitions: &Definitions, id: u32) -> bool
     ensures { IsTrue result ↔ (set_in definitions.now id ≡ OpenClStd) }
 {
     match set_of(definitions, id) {
