@@ -2,15 +2,6 @@ use Rattle.std.proofs.Common.{arith}
 use Rattle.std.proofs.lemmas.Grind.{common_steps}
 use Rattle.spv_views.proofs.viewing.Viewed.write.Goals as goal
 
-pub enum_told_at-1 : goal.enum_told_at-1
-enum_told_at-1 g c = grind (arith, common_steps)
-
-pub enum_told_at-in-Beginning-1 : goal.enum_told_at-in-Beginning-1
-enum_told_at-in-Beginning-1 g c = grind (arith, common_steps)
-
-pub enum_told_at-in-Line-1 : goal.enum_told_at-in-Line-1
-enum_told_at-in-Line-1 g c = grind (arith, common_steps)
-
 pub line_for-line-requires : goal.line_for-line-requires
 line_for-line-requires g c = grind (arith, common_steps)
 
