@@ -412,7 +412,7 @@ WORDS, LINES = r"\$what! \{\n(.*?)\n {8}\}\n", r"pub static TABLE: [^\n]* = \[\n
 ROW = r"(?m)^ +(?:[A-Z]\w+.*?:|\d[^:/]*:)"
 TABLES = (
     ("spv_layout", "rows.rt", "shapes (P1, L1, L2, Y1)", r"\$what! \{\n(.*?\n {8}\}\n.*?)\n {8}\}\n", ROW),
-    ("spv_ops", "table.rt", "types (Y5)", WORDS, ROW),
+    ("spv_ops", "table.rt", "types, with `FURTHER` and `OBJECTS` below it (Y5)", WORDS, ROW),
     ("spv_std_types", "table.rt", "OpenCL.std (Y10)", WORDS, ROW),
     ("spv_declarations", "table.rt", "decorations, with `NEVER_ON_MEMBERS` below it (O7)", WORDS, ROW),
     ("spv_kernel_operands", "seats.rt", "scopes and memory semantics (O14)", WORDS, ROW),
@@ -686,10 +686,11 @@ def tables():
     """A line for each table of the code that definitions name, with the number of its rows, and one for the lists."""
     for crate, file, about, pattern, row in TABLES:
         path = CRATES / crate / "src" / file
-        found = re.search(pattern, path.read_text(encoding="utf-8"), re.S)
-        if not found:
+        parts = re.findall(pattern, path.read_text(encoding="utf-8"), re.S)
+        if not parts:
             raise NotFound(f"{crate}/src/{file} has no table")
-        yield f"- `TABLE` of {crate}/src/{file}, the table of {about}: {len(re.findall(row, found[1]))} rows"
+        count = sum(len(re.findall(row, part)) for part in parts)
+        yield f"- `TABLE` of {crate}/src/{file}, the table of {about}: {count} rows"
     crate, file, about = LISTS
     text = (CRATES / crate / "src" / file).read_text(encoding="utf-8")
     found = [f"`{name}` ({count})" for name, count in re.findall(r"pub static (\w+): \[u32; (\d+)\]", text)]
