@@ -221,6 +221,32 @@ def entries_over_layers(module):
         function(module, of, load(module, variable))
 
 
+def entries_and_variables(module):
+    """O4: many entry points over a long chain of functions, and many variables, which the last of another one uses."""
+    count = module.room() // 60
+    own, calling, others = (fresh(module, count) for _ in range(3))
+    used = fresh(module, min(count, NAMED))
+    first, shared = fresh(module, 2)
+
+    def entries(module):
+        entry(module, first, "first", used)
+        for at, of in enumerate(own):
+            entry(module, of, f"k{at}", [shared])
+
+    opened(module, entries)
+    variables(module, [shared, *used])
+    kernel(module)
+    closed(module)
+    for of in own:
+        function(module, of, call(module, calling[0]))
+    for of, callee in zip(calling, calling[1:]):
+        function(module, of, call(module, callee))
+    function(module, calling[-1], load(module, shared))
+    for of, callee in zip([first, *others], others):
+        function(module, of, call(module, callee))
+    function(module, others[-1], *(load(module, it) for it in used))
+
+
 def decorated_alike(module):
     """O7, O8: one value that is decorated again and again."""
     value = module.fresh()
@@ -395,6 +421,7 @@ STANDARD = {
         entries_over_a_chain_fault,
         entries_over_variables,
         entries_over_layers,
+        entries_and_variables,
         decorated_alike,
         groups_of_many,
         groups_of_members,
