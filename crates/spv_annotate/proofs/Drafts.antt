@@ -1,12 +1,11 @@
 -- Texts that are put together in a buffer, from the front.
 use Rattle.std.proofs.Common.{◌≡◌, ◌++◌, ◌∙◌, ◌<◌, ◌≤◌, ◌+◌, ℕ, List, [], ◌∷◌, Bool, true, false, ◌&&◌, length, take}
-use Rattle.std.proofs.Common.{set, get_or, refl, sym, ap, subst, arith, append_assoc, append-nil, drop, length-drop}
-use Rattle.std.proofs.Common.{length-take-le}
+use Rattle.std.proofs.Common.{set, get_or, refl, sym, ap, subst, arith, append_assoc, append-nil}
 use Rattle.std.specs.Prelude.{IfOk, IsUtf8, Result as Answer, Ok, Err, nat_lt, ◌==◌}
-use Rattle.std.specs.List.{AllByRecursion, list_all}
-use Rattle.std.proofs.Math.Seq.{take-append-add, take-length}
+use Rattle.std.specs.List.{AllByRecursion}
+use Rattle.std.proofs.Math.Seq.{take-length}
 use Rattle.std.proofs.lemmas.Bool.Decides.{nat_tests}
-use Rattle.std.proofs.lemmas.List.{take_more, take-append-drop}
+use Rattle.std.proofs.lemmas.List.{take_more}
 use Rattle.std.proofs.lemmas.Str.{IsUtf8-append, IsUtf8-nil}
 use Rattle.spv_printer.proofs.Drafts.{front_copied}
 use Rattle.spv_printer.proofs.Shorts.{all_snoc, copied_next}
@@ -83,42 +82,6 @@ copied_more old buffer octets at count h l p c =
       within = omega (arith, l);
       plain = rw m (all_snoc (λ b. is_plain b ≡ true) _ _ c.plain p);
       all = copied_next old buffer octets at count h l c.all;
-    }
-
--- octets that are copied many at a time
-
-all_joined : (P : ℕ → Type 0) (xs ys : List ℕ) → AllByRecursion P xs → AllByRecursion P ys
-    → AllByRecursion P (xs ++ ys)
-all_joined P [] ys h k = k
-all_joined P (x ∷ xs) ys h k = (h.0, all_joined P xs ys h.1 k)
-
-all_plain : (xs : List ℕ) → list_all is_plain xs ≡ true → AllByRecursion (λ b. is_plain b ≡ true) xs
-all_plain [] h = tt
-all_plain (x ∷ xs) h = let r = both (is_plain x) (list_all is_plain xs) h in (r.0, all_plain xs r.1)
-
-pub copied_chunk : (old buffer new octets chunk : List ℕ) (at count : ℕ) → count + 16 ≤ length octets
-    → chunk ≡ take 16 (drop count octets) → list_all is_plain chunk ≡ true
-    → IsCopied octets at count old buffer
-    → take (at + count + length chunk) new ≡ take (at + count) buffer ++ chunk
-    → IsCopied octets at (count + 16) old new
-copied_chunk old buffer new octets chunk at count l s p c e =
-    let front = take count octets in
-    let rest = drop count octets in
-    let d = length-drop count octets in
-    let f : length front ≡ count = length-take-le count octets (omega (arith, l)) in
-    let k : length chunk ≡ 16 = ap length s ∙ length-take-le 16 rest (omega (arith, d, l)) in
-    let t : take (count + 16) octets ≡ front ++ chunk =
-    ap (take (count + 16)) (sym (take-append-drop count octets))
-    ∙ (ap (λ i. take (i + 16) (front ++ rest)) (sym f)
-    ∙ (take-append-add front rest 16 ∙ ap (λ z. front ++ z) (sym s))) in
-    let i : at + (count + 16) ≡ at + count + length chunk = omega (arith, k) in
-    record {
-      within = l;
-      plain = subst (λ (z : List ℕ). AllByRecursion (λ b. is_plain b ≡ true) z) (sym t)
-          (all_joined (λ b. is_plain b ≡ true) front chunk c.plain (all_plain chunk p));
-      all = ap (λ n. take n new) i
-          ∙ (e ∙ (ap (λ z. z ++ chunk) c.all
-          ∙ (append_assoc (take at old) front chunk ∙ ap (λ z. take at old ++ z) (sym t))));
     }
 
 -- texts that are put together partly in a page, and partly in a buffer

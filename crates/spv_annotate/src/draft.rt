@@ -2,7 +2,6 @@
 
 ghost use Rattle.std.specs.Prelude.{◌≡◌, ◌≤◌, ◌+◌, ◌++◌, IfOk, IsUtf8, OnOk, decimal, length};
 ghost use Rattle.std.specs.Prelude.{string_bytes, take, true};
-ghost use Rattle.std.specs.List.{list_all};
 ghost use Rattle.spv_annotate.specs.declared.draft.TheConstants.{FULL, SIZE};
 ghost use Rattle.spv_annotate.specs.inner.Draft.{IsAdded, IsCopied, IsDrafted};
 ghost use Rattle.spv_annotate.specs.inner.Draft as specs;
@@ -20,12 +19,6 @@ pub const FULL: usize = 1024;
 
 /// The size of a buffer for a number, which ends in its middle.
 const TOKEN: usize = 32;
-
-/// How many octets are copied at once.
-const CHUNK: usize = 16;
-
-/// Behind how many octets no more are copied so.
-const LAST_CHUNK: usize = 112;
 
 /// Adds a text behind a place, and gives where it ends.
 #[inline(always)]
@@ -82,56 +75,6 @@ pub fn add_plain(buffer: &mut [u8], octets: &[u8], at: usize) -> usize
         }
         buffer[at + count] = octet;
         count += 1;
-    }
-    count
-}
-
-/// The same as `is_plain`, told exactly and of any octet alike.
-#[inline(always)]
-fn is_plain_octet(octet: u8) -> bool
-    ensures { result ≡ specs.is_plain octet }
-{
-    octet < 128 && !(octet == b'%' || is_mark(octet))
-}
-
-/// Whether all octets are plain. It looks at all of them, so that a compiler can take many at a time.
-#[inline(always)]
-fn are_plain(octets: &[u8]) -> bool
-    ensures { result ≡ list_all specs.is_plain octets.now }
-{
-    let mut plain = true;
-    for octet in octets {
-        plain &= is_plain_octet(*octet);
-    }
-    plain
-}
-
-/// Copies as many octets as are copied at once behind a place.
-#[inline(always)]
-fn put_chunk(buffer: &mut [u8], chunk: &[u8], at: usize)
-    requires chunk { length chunk.now ≡ 16 }
-    requires room { at + 16 ≤ length buffer.old }
-    ensures { take (at + length chunk.now) buffer.new ≡ take at buffer.old ++ chunk.now }
-{
-    buffer[at..at + CHUNK].copy_from_slice(chunk);
-}
-
-/// Copies octets at the front, many at a time and 128 at most, as long as all of these are plain, behind a place, and
-/// gives how many they are.
-#[inline(always)]
-pub fn add_chunks(buffer: &mut [u8], octets: &[u8], at: usize) -> usize
-    requires { at + 128 ≤ length buffer.old }
-    ensures copied { IsCopied octets.now at result buffer.old buffer.new }
-    ensures few { result ≤ 128 }
-{
-    let mut count = 0;
-    while count <= LAST_CHUNK && octets.len() - count >= CHUNK {
-        let chunk = &octets[count..count + CHUNK];
-        if !are_plain(chunk) {
-            return count;
-        }
-        put_chunk(buffer, chunk, at + count);
-        count += CHUNK;
     }
     count
 }

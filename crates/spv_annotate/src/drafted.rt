@@ -9,13 +9,13 @@ ghost use Rattle.spv_annotate.specs.inner.Linked.{base};
 ghost use Rattle.spv_annotate.specs.inner.Numbers.{kept};
 ghost use Rattle.spv_annotate.specs.declared.linked.Quoting.TheVariants.{Commented};
 
-use crate::draft::{add_chunks, add_number, add_plain, add_text, push_draft};
+use crate::draft::{add_number, add_plain, add_text, push_draft};
 use crate::linked::{Quoting, is_bare, lean_id, push_linked};
 use crate::numbers::Numbers;
 use std::alloc::AllocError;
 
-/// How many octets the end of a comment may have that is put into a buffer at once.
-const SHORT: usize = 16;
+/// How many octets a comment may have that is put into a buffer at once.
+const LONGEST: usize = 512;
 
 /// How many octets a line may have that is put into a buffer part by part.
 const LONGEST_LINE: usize = 128;
@@ -203,9 +203,10 @@ pub fn push_drafted(
     Ok(0)
 }
 
-/// Adds the end of a comment, as `push_drafted` a line: at once where it is short and there is no id in it.
-#[inline(always)]
-fn push_end(
+/// Adds a comment in which ids have links, as `push_drafted` a line.
+///
+/// An `AllocError` comes only where a growth of memory was refused, and then nothing is said of what is left.
+pub fn push_remark(
     out: &mut String,
     buffer: &mut [u8],
     definitions: &Numbers,
@@ -220,33 +221,14 @@ fn push_end(
     ensures text { IfOk result (λ end. string_bytes out.new ++ take end buffer.new
         ≡ string_bytes out.old ++ (take at buffer.old ++ linked (kept definitions.now) Commented text.now)) }
 {
-    if text.len() > SHORT || !is_bare(text.as_bytes()) {
+    if !is_bare(text.as_bytes()) {
         return push_drafted(out, buffer, definitions, Quoting::Commented, text, at);
+    }
+    if text.len() > LONGEST {
+        push_draft(out, buffer, at)?;
+        out.push_str(text)?;
+        return Ok(0);
     }
     let end = add_text(buffer, text, at);
     Ok(end)
-}
-
-/// Adds a comment in which ids have links, as `push_drafted` a line. What stands before the first id is mostly long, and
-/// is copied many octets at a time.
-///
-/// An `AllocError` comes only where a growth of memory was refused, and then nothing is said of what is left.
-pub fn push_remark(
-    out: &mut String,
-    buffer: &mut [u8],
-    definitions: &Numbers,
-    text: &str,
-    at: usize,
-) -> Result<usize, AllocError>
-    requires size { SIZE ≤ length buffer.old }
-    requires begin { at + 128 ≤ most_begun }
-    requires utf8 { IsUtf8 (take at buffer.old) }
-    ensures high { IfOk result (λ end. end ≤ most_ended) }
-    ensures utf8 { IfOk result (λ end. IsUtf8 (take end buffer.new)) }
-    ensures text { IfOk result (λ end. string_bytes out.new ++ take end buffer.new
-        ≡ string_bytes out.old ++ (take at buffer.old ++ linked (kept definitions.now) Commented text.now)) }
-{
-    let count = add_chunks(buffer, text.as_bytes(), at);
-    let rest = &text[count..];
-    push_end(out, buffer, definitions, rest, at + count)
 }

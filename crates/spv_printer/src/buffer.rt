@@ -12,7 +12,6 @@ use itoa::write_digits;
 const TOKEN: usize = 32;
 
 /// Puts octets before a place, and gives where they begin.
-#[inline(always)]
 pub fn put_octets(buffer: &mut [u8], octets: &[u8], end: usize) -> usize
     requires room { length octets.now ≤ end }
     requires within { end ≤ length buffer.old }
@@ -52,7 +51,6 @@ fn put_word(buffer: &mut [u8], word: u32, end: usize) -> usize
 }
 
 /// Puts what a line has of a result before a place, and gives where it begins.
-#[inline(always)]
 pub fn put_result(buffer: &mut [u8], id: Option<u32>, end: usize) -> usize
     requires room { 32 ≤ end }
     requires within { end ≤ length buffer.old }

@@ -45,7 +45,6 @@ pub struct FastLine {
 
 /// Adds the operands that the words from `first` up to `end` are, both counted in words of the module from 0, by the
 /// pattern of their instruction. None where an operand is not added, or the words are no such operands.
-#[inline(always)]
 fn add_operands<'t>(
     buffer: &mut [u8],
     table: &'t Table,
@@ -109,7 +108,6 @@ pub fn whole_line<'b>(buffer: &'b mut [u8], entry: &EntryRef<'_>, draft: Draft) 
 /// not, and then nothing is added.
 ///
 /// An `AllocError` comes only where a growth of memory was refused, and then nothing is said of what is left.
-#[inline(always)]
 pub fn fast_line<'t>(
     out: &mut String,
     buffer: &mut [u8],

@@ -64,7 +64,6 @@ fn push_read<'t, 'a>(
 
 impl<'t, 'a> ImagePrinter<'t, 'a> {
     /// The same as `push_read`, the fast way where that is possible.
-    #[inline(always)]
     fn push_next(
         &mut self,
         out: &mut String,

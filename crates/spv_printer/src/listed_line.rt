@@ -84,7 +84,7 @@ fn add_listed<'t>(
     ensures { IfSome result (λ d. IsOneMore table.now printer.now.definitions (plain_operand operand.entry) draft d
         buffer.old buffer.new) }
 {
-    if buffer.len() < ROOM || draft.at > buffer.len() - ROOM {
+    if buffer.len().saturating_sub(draft.at) < ROOM {
         return None;
     }
     match operand {
@@ -126,7 +126,6 @@ fn add_listed<'t>(
 }
 
 /// Adds the operands of an instruction. None where one of them is not added.
-#[inline(always)]
 fn add_all_listed<'t>(
     buffer: &mut [u8],
     table: &'t Table,
@@ -153,7 +152,6 @@ fn add_all_listed<'t>(
 /// in the buffer, and it declares no width and is no OpSwitch. None where not, and then nothing is added.
 ///
 /// An `AllocError` comes only where a growth of memory was refused, and then nothing is said of what is left.
-#[inline(always)]
 fn listed_line<'t>(
     out: &mut String,
     buffer: &mut [u8],

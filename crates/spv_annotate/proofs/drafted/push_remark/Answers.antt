@@ -1,40 +1,28 @@
-use Rattle.std.proofs.Common.{◌≡◌, ◌++◌, ◌+◌, ◌∙◌, List, ℕ, ap, refl, string_bytes, subst, take}
-use Rattle.std.specs.Prelude.{IfOk}
-use Rattle.spv_annotate.specs.declared.linked.Quoting.TheVariants.{Commented}
-use Rattle.spv_annotate.specs.Page.{linked}
+use Rattle.std.proofs.Common.{◌≡◌, ◌++◌, ◌∙◌, ap, append_assoc, append-nil, string_bytes, sym, take}
+use Rattle.std.specs.List.{list_all}
+use Rattle.spv_annotate.specs.inner.Linked.{is_bare_byte}
 use Rattle.spv_annotate.specs.inner.Numbers.{kept}
-use Rattle.spv_annotate.proofs.Fronts.{front_ends, front_plain}
+use Rattle.spv_annotate.proofs.Steadies.{bare_linked}
 use Rattle.spv_annotate.proofs.drafted.push_remark.Goals as goal
-
-pub range_from-rest-requires : goal.range_from-rest-requires
-range_from-rest-requires c = λ _.
-    let d = kept c.args.definitions.now in
-    let text = c.args.text.now in
-    let n = c.add_chunks-count.result in
-    let new = c.add_chunks-count.new.buffer in
-    let v = c.as_bytes.ensures.value in
-    let f = front_plain d text n c.args.at c.args.buffer.now new (rw v at c.add_chunks-count.ensures.copied) in
-    front_ends d text n c.args.at (c.args.at + n) c.args.buffer.now new c.utf8.text f
-
-pub push_end-requires-clause-utf8 : goal.push_end-requires-clause-utf8
-push_end-requires-clause-utf8 c =
-    let d = kept c.args.definitions.now in
-    let text = c.args.text.now in
-    let n = c.add_chunks-count.result in
-    let new = c.add_chunks-count.new.buffer in
-    let v = c.as_bytes.ensures.value in
-    let f = front_plain d text n c.args.at c.args.buffer.now new (rw v at c.add_chunks-count.ensures.copied) in
-    f.utf8 c.requires.utf8
 
 pub returns-clause-text : goal.returns-clause-text
 returns-clause-text c =
-    let d = kept c.args.definitions.now in
     let text = c.args.text.now in
-    let n = c.add_chunks-count.result in
-    let new = c.add_chunks-count.new.buffer in
-    let v = c.as_bytes.ensures.value in
-    let f = front_plain d text n c.args.at c.args.buffer.now new (rw v at c.add_chunks-count.ensures.copied) in
-    let e = ap (λ z. take (c.args.at + n) new ++ linked d Commented z) c.range_from-rest.ensures.value
-    ∙ f.all Commented refl in
-    subst (λ (z : List ℕ). IfOk c.push_end.result (λ end. string_bytes c.push_end.new.out
-    ++ take end c.push_end.new.buffer ≡ string_bytes c.args.out.now ++ z)) e c.push_end.ensures.text
+    let h = ap (list_all is_bare_byte) (sym c.as_bytes.ensures.value)
+    ∙ (sym c.is_bare.ensures ∙ c.if-not-is_bare.false) in
+    ap (λ z. string_bytes c.args.out.now ++ z)
+    (c.add_text-end.ensures.added.all ∙ ap (λ z. take c.args.at c.args.buffer.now ++ z)
+    (sym (bare_linked (kept c.args.definitions.now) text h)))
+
+pub returns-then-text-gt-LONGEST-clause-text : goal.returns-then-text-gt-LONGEST-clause-text
+returns-then-text-gt-LONGEST-clause-text c =
+    let text = c.args.text.now in
+    let out = string_bytes c.args.out.now in
+    let old = take c.args.at c.args.buffer.now in
+    let last = string_bytes c.push_str.new.self in
+    let h = ap (list_all is_bare_byte) (sym c.as_bytes.ensures.value)
+    ∙ (sym c.is_bare.ensures ∙ c.if-not-is_bare.false) in
+    let e : last ≡ (out ++ old) ++ text = c.in_ok-push_str.ensures.bytes
+    ∙ ap (λ z. z ++ text) c.in_ok-push_draft.ensures in
+    append-nil last ∙ (e ∙ (append_assoc out old text
+    ∙ ap (λ z. out ++ (old ++ z)) (sym (bare_linked (kept c.args.definitions.now) text h))))
