@@ -103,18 +103,3 @@ not_entered i h = rw (test_other i.opcode opcode.ENTRY_POINT h) refl
 
 pub not_imported : (l : Option ℕ) (i : PlainInst) → i.opcode ≢ opcode.DECORATE → imported_by l i ≡ None
 not_imported l i h = rw (test_other i.opcode opcode.DECORATE h) refl
-
--- from an instruction on none declares a capability
-declares_none : (i : PlainInst) (cs : List ℕ) → declared_by i ≡ None → cs ≡ cons_option (declared_by i) cs
-declares_none i cs e = rw e refl
-
-pub declared_all : (is : List PlainInst) (to : ℕ) → ((n : ℕ) (i : PlainInst) → slice_get is n ≡ Some i
-    → i.opcode ≡ opcode.CAPABILITY → n < to) → filter_map declared_by (take to is) ≡ filter_map declared_by is
-declared_all [] zero none = refl
-declared_all [] (suc to) none = refl
-declared_all (i ∷ is) zero none =
-    let here : i.opcode ≢ opcode.CAPABILITY = λ e. let l = none 0 i refl e in absurd (omega (arith, l)) in
-    let rest = declared_all is zero (λ n j at e. let l = none (suc n) j at e in absurd (omega (arith, l))) in
-    rest ∙ declares_none i (filter_map declared_by is) (not_declared i here)
-declared_all (i ∷ is) (suc to) none = ap (cons_option (declared_by i))
-    (declared_all is to (λ n j at e. let l = none (suc n) j at e in omega (arith, l)))

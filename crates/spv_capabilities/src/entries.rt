@@ -15,6 +15,7 @@ ghost use Rattle.spv_capabilities.specs.inner.Known.{IsKnown};
 
 use crate::capable::is_kernel;
 use crate::entry::{has_entry, is_model, keeps_entries, keeps_linkage};
+use crate::having::Capabilities;
 use crate::memo::{Memo, is_asked_more};
 use crate::surveyed::Survey;
 use spv_ids::Ids;
@@ -170,6 +171,14 @@ fn first_of(
 }
 
 impl<'m, 'a> Entries<'m, 'a> {
+    /// The capabilities of the module, for those who ask nothing else of it. It takes no memory.
+    pub fn into_capabilities(self) -> Capabilities<'m, 'a>
+        ensures { result ≡ self.entry }
+    {
+        let Entries { survey, .. } = self;
+        survey.into_capabilities()
+    }
+
     /// The first of the rules C1, C2, M1, E1 and E2, in this order, that is broken at the instruction of a number, from
     /// 0; or none where none of them is.
     ///

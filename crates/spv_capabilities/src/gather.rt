@@ -35,7 +35,7 @@ pub struct Gathered {
 }
 
 /// The capability that the operands of an OpCapability declare.
-pub fn first_value(operands: &[Operand<'_>]) -> Option<u32>
+fn first_value(operands: &[Operand<'_>]) -> Option<u32>
     ensures { result ≡ capable.first_value (plain_operands operands.now) }
 {
     match operands {

@@ -21,6 +21,7 @@ ghost use Rattle.spv_capabilities.specs.inner.Survey.{AreMarked};
 ghost use Rattle.spv_capabilities.specs.inner.Unkinded.{HasNoKinds};
 
 use crate::gather::{Gathered, gather};
+use crate::having::Capabilities;
 use spv_ids::Ids;
 use spv_layout::{DEFINITIONS, Place, Plan, is_unkinded};
 use spv_module::Inst;
@@ -80,6 +81,19 @@ impl<'m, 'a> Survey<'m, 'a> {
             capability: table.kind_named("Capability"),
             gathered,
         })
+    }
+
+    /// The capabilities of the module, without what else was gathered of it. It takes no memory.
+    pub fn into_capabilities(self) -> Capabilities<'m, 'a>
+        ensures { result ≡ self.entry }
+    {
+        let Survey {
+            table,
+            insts,
+            implied,
+            ..
+        } = self;
+        Capabilities::of_implied(table, insts, implied)
     }
 
     /// The grammar table.

@@ -110,11 +110,20 @@ pub fn judge<'a>(
         Ok(()) => (),
         Err(stop) => return refused(stop, module, Reached::Sound),
     }
-    match std_types_check(reach, &module, &plan, &ids) {
+    match std_types_check(reach, &module, &plan, &types) {
         Ok(()) => (),
         Err(stop) => return refused(stop, module, Reached::Called(plan, ids)),
     }
-    match standard_check(alloc, reach, table, &module, &plan, &ids) {
+    let definitions = types.definitions();
+    match standard_check(
+        alloc,
+        reach,
+        types.capabilities(),
+        &definitions,
+        &module,
+        &plan,
+        &ids,
+    ) {
         Ok(()) => Ok(Judged::Valid(Checked::new(module, plan, ids, flow))),
         Err(stop) => refused(stop, module, Reached::Settled(plan, ids)),
     }

@@ -6,19 +6,17 @@ ghost use Rattle.spv_module.specs.Module.{plain_insts};
 ghost use Rattle.spv_module.specs.declared.fault.Rule.{Rule};
 ghost use Rattle.spv_layout.specs.Place.{IsShort};
 ghost use Rattle.spv_layout.specs.Plan.{IsPlan};
-ghost use Rattle.spv_ids.specs.Outcome.{IsDefinitionOf, definition_in};
 ghost use Rattle.spv_std_types.specs.Broken.{Broken};
 ghost use Rattle.spv_check.specs.std_types.Outcome.{IsRefusal};
 
+use crate::types::Types;
 use spv_extended::Reach;
-use spv_ids::Ids;
 use spv_layout::Plan;
 use spv_module::{Module, Rule, Stop};
 use spv_std_types::{asks_types, first_mistyped};
-use spv_type_forms::Definitions;
 
-/// Looks at the types of the calls of OpenCL.std of a module, if it is looked at so far. `plan` and `ids` are what
-/// `lay_out` and `number` answered of that module.
+/// Looks at the types of the calls of OpenCL.std of a module, if it is looked at so far. `plan` and `types` are what
+/// `lay_out` and `type_check` answered of that module.
 ///
 /// A `Fault` tells Y10 (own) at the first instruction that breaks it, with that one's first word (words and
 /// instructions from 0): an OpExtInst of OpenCL.std whose result type, the type of an operand or a number among the
@@ -27,20 +25,19 @@ pub fn std_types_check(
     reach: Reach,
     module: &Module<'_>,
     plan: &Plan,
-    ids: &Ids,
+    types: &Types,
 ) -> Result<(), Stop>
     requires words { IsShort (plain_insts «module».now) }
     requires plan { (G : Table) × IsPlan G (plain_insts «module».now) plan.now }
-    requires ids { (x : ℕ) → IsDefinitionOf (plain_insts «module».now) x (definition_in ids.now x) }
+    requires types { types.now.insts ≡ plain_insts «module».now }
     ensures unbroken { IfOk result (λ _. (r : Rule) (n : ℕ) → ¬ (Broken reach (plain_insts «module».now) r n)) }
     ensures refused { IfErr result (λ s. IsRefusal reach (plain_insts «module».now) s) }
 {
     if !asks_types(reach) {
         return Ok(());
     }
-    let insts = module.insts.as_slice();
-    let definitions = Definitions::new(insts, plan, ids);
-    match first_mistyped(&definitions, insts.len() as u32) {
+    let definitions = types.definitions();
+    match first_mistyped(&definitions, module.insts.len() as u32) {
         None => Ok(()),
         Some(inst) => Err(plan.stop_at(Rule::Y10, inst)),
     }

@@ -16,21 +16,38 @@ mod pass;
 
 use crate::types::listed::meanings_of;
 use crate::types::pass::first_fault;
-use spv_capabilities::survey;
+use spv_capabilities::{Capabilities, survey};
 use spv_ids::Ids;
 use spv_layout::Plan;
 use spv_module::{Module, Stop};
 use spv_table::Table;
-use spv_type_forms::Definitions;
+use spv_type_forms::{Definitions, Meaning};
 use spv_type_rules::Rules;
 use spv_type_rules::roles::roles_check;
 use std::alloc::Global;
+use std::marker::Model;
 
-/// The types that a module's ids are declared with (SPIR-V Specification 1.6, section 2.16). They are read from the
-/// instructions that define the ids.
+/// The types that a module's ids are declared with (SPIR-V Specification 1.6, section 2.16), with what else was found
+/// out of the module. They are read from the instructions that define the ids. Contracts see the grammar table and the
+/// instructions.
 #[derive(Drop)]
 pub struct Types<'m, 'a> {
     definitions: Definitions<'m, 'a>,
+    /// What the ids stand for, or nothing where a list of it would be large beside the module.
+    meanings: Vec<Meaning>,
+    capabilities: Capabilities<'m, 'a>,
+}
+
+impl<'m, 'a> Model for Types<'m, 'a> {
+    ghost use Rattle.std.specs.Prelude.{◌≡◌};
+    ghost use Rattle.spv_capabilities.specs.inner.Subject.{Subject};
+    ghost use Rattle.spv_type_forms.specs.inner.Meaning.{AreMeant};
+
+    ghost Value = { Subject };
+
+    ghost view = { λ t. t.capabilities };
+
+    ghost invariant = { λ t. (t.definitions ≡ t.capabilities.insts) × AreMeant t.definitions t.meanings.items };
 }
 
 impl<'m, 'a> Types<'m, 'a> {
@@ -41,6 +58,20 @@ impl<'m, 'a> Types<'m, 'a> {
         ensures { result ≡ type_in self.now id }
     {
         self.definitions.type_of(id)
+    }
+
+    /// The instructions that define the ids of the module, with what the ids stand for. It takes no memory.
+    pub fn definitions(&self) -> Definitions<'_, 'a>
+        ensures { result ≡ self.now.insts }
+    {
+        self.definitions.noted(self.meanings.as_slice())
+    }
+
+    /// The capabilities that the module has. It takes no memory.
+    pub fn capabilities(&self) -> &Capabilities<'m, 'a>
+        ensures { result.now ≡ self.now }
+    {
+        &self.capabilities
     }
 }
 
@@ -105,6 +136,8 @@ pub fn type_check<'m, 'a>(
         Err(_) => return Err(Stop::Memory),
     }
     Ok(Types {
-        definitions: Definitions::new(insts, plan, ids),
+        definitions,
+        meanings,
+        capabilities: entries.into_capabilities(),
     })
 }

@@ -1,13 +1,13 @@
 -- An instruction whose row asks for no text, no value and no mask has none, and so none by which it breaks a rule.
-use Rattle.std.proofs.Common.{◌≡◌, ◌≤◌, ◌<◌, ◌+◌, ◌∙◌, ◌++◌, suc, List, [], ◌∷◌, inl, inr, refl, ap, true}
-use Rattle.std.proofs.Common.{Some, length, arith, length-append}
+use Rattle.std.proofs.Common.{◌≡◌, ◌⊎◌, ◌++◌, ℕ, zero, suc, List, [], ◌∷◌, inl, inr, refl, sym, subst, true}
+use Rattle.std.proofs.Common.{Some, length, take, drop}
 use Rattle.std.specs.List.{AllByRecursion}
 use Rattle.spv_table.specs.Table.{Table}
 use Rattle.spv_module.specs.Operand.{Plain, PlainInst}
 use Rattle.spv_module.specs.Operand as operand
 use Rattle.spv_layout.specs.declared.form.Form.{Form}
 use Rattle.spv_layout.specs.declared.form.Form.TheVariants as form
-use Rattle.spv_layout.specs.Row.{PlainRow, RowEnding}
+use Rattle.spv_layout.specs.Row.{PlainRow, RowEnding, repeated}
 use Rattle.spv_layout.specs.Rows.{row_of}
 use Rattle.spv_layout.specs.Shape.{is_of, AreOf, Ends, FitsShape}
 use Rattle.spv_layout.proofs.Derivatives.{both_hold, both_true}
@@ -43,37 +43,50 @@ silent_ends : (e : RowEnding) (fs : List Form) → Ends e fs → is_silent_endin
 silent_ends _ _ Ends.nothing h = refl
 silent_ends _ _ (Ends.absent f) h = refl
 silent_ends _ _ (Ends.present f) h = both_true (is_silent f) true h refl
+silent_ends _ _ (Ends.done fs) h = refl
+silent_ends _ _ (Ends.again fs gs r) h = silent_joined fs gs h (silent_ends (repeated fs) gs r h)
+silent_ends _ _ (Ends.no_first f g) h = refl
+silent_ends _ _ (Ends.first f g gs r) h =
+    let p = both_hold (is_silent f) (is_silent g) h in
+    both_true (is_silent f) (are_silent gs) p.0
+    (silent_ends (repeated (g ∷ [])) gs r (both_true (is_silent g) true p.1 refl))
 silent_ends _ _ _ h = cc
 
--- such an ending has one operand at most
-short_ends : (e : RowEnding) (fs : List Form) → Ends e fs → is_silent_ending e ≡ true → length fs ≤ 1
-short_ends _ _ Ends.nothing h = omega arith
-short_ends _ _ (Ends.absent f) h = omega arith
-short_ends _ _ (Ends.present f) h = omega arith
-short_ends _ _ _ h = cc
+-- of operands none of which is one the first ones are none
+pub silent_taken : (n : ℕ) (os : List Plain) → AllByRecursion IsSilent os → AllByRecursion IsSilent (take n os)
+silent_taken zero os h = tt
+silent_taken (suc n) [] h = tt
+silent_taken (suc n) (o ∷ os) h = (h.0, silent_taken n os h.1)
 
--- there are as many operands as forms
-as_many : (G : Table) (fs : List Form) (os : List Plain) → AreOf G fs os → length os ≡ length fs
-as_many G _ _ AreOf.none = refl
-as_many G _ _ (AreOf.more f o fs os k r) = ap suc (as_many G fs os r)
+-- the operands of forms that are followed by others
+silent_front : (G : Table) (fs gs : List Form) (os : List Plain) → are_silent fs ≡ true → AreOf G (fs ++ gs) os
+    → AllByRecursion IsSilent (take (length fs) os)
+silent_front G [] gs os h a = tt
+silent_front G (f ∷ fs) gs _ h (AreOf.more f o _ os k r) =
+    let p = both_hold (is_silent f) (are_silent fs) h in
+    (one_silent G f o p.0 k, silent_front G fs gs os p.1 r)
 
--- the operands of an instruction that fits such a row
+-- the operands of an instruction that fits such a row, and those of the fixed forms of a row
 pub silent_operands : (G : Table) (i : PlainInst) (r : PlainRow) → row_of i.opcode ≡ Some r
-    → length r.fixed < 255 → are_silent r.fixed ≡ true → is_silent_ending r.ending ≡ true → FitsShape G i
-    → AllByRecursion IsSilent i.operands × (length i.operands ≤ 255)
-silent_operands G i r k l a b f =
+    → are_silent r.fixed ≡ true → is_silent_ending r.ending ≡ true → FitsShape G i → AllByRecursion IsSilent i.operands
+silent_operands G i r k a b f =
     let x = f.has in
     let e : x.row ≡ r = (let known = x.known in cc) in
-    let l' : length x.row.fixed < 255 = rw e l in
     let a' : are_silent x.row.fixed ≡ true = rw e a in
     let b' : is_silent_ending x.row.ending ≡ true = rw e b in
     let s = silent_joined x.row.fixed x.rest a' (silent_ends x.row.ending x.rest x.ending b') in
     let s' : are_silent f.forms ≡ true = rw x.forms s in
-    let short : length x.rest ≤ 1 = short_ends x.row.ending x.rest x.ending b' in
-    let whole : length f.forms ≡ length x.row.fixed + length x.rest =
-    ap length x.forms ∙ length-append x.row.fixed x.rest in
-    let same : length i.operands ≡ length f.forms = as_many G f.forms i.operands x.each in
-    (each_silent G f.forms i.operands s' x.each, omega (arith, l', short, whole, same))
+    each_silent G f.forms i.operands s' x.each
+
+pub silent_fixed : (G : Table) (i : PlainInst) (r : PlainRow) → row_of i.opcode ≡ Some r
+    → are_silent r.fixed ≡ true → FitsShape G i → AllByRecursion IsSilent (take (length r.fixed) i.operands)
+silent_fixed G i r k a f =
+    let x = f.has in
+    let e : x.row ≡ r = (let known = x.known in cc) in
+    let a' : are_silent x.row.fixed ≡ true = rw e a in
+    let each : AreOf G (x.row.fixed ++ x.rest) i.operands = rw (sym x.forms) x.each in
+    subst (λ (q : PlainRow). AllByRecursion IsSilent (take (length q.fixed) i.operands)) e
+    (silent_front G x.row.fixed x.rest i.operands a' each)
 
 -- none of them breaks a rule by itself
 pub never_told : (l : Late) (os : List Plain) → AllByRecursion IsSilent os → ¬ (AreTold l os)
@@ -94,3 +107,20 @@ hit_told l (o ∷ os) h = elim h [ inl own ↦ inl (inr own) | inr more ↦ inr 
 pub long_told : (l : Late) (os : List Plain) → AreLong os → AreTold l os
 long_told l [] h = h
 long_told l (o ∷ os) h = elim h [ inl own ↦ inl (inl own) | inr more ↦ inr (long_told l os more) ]
+
+-- one of some operands is among the first ones or among the others
+told_apart : (l : Late) (n : ℕ) (os : List Plain) → AreTold l os → AreTold l (take n os) ⊎ AreTold l (drop n os)
+told_apart l zero os h = inr h
+told_apart l (suc n) [] h = absurd h
+told_apart l (suc n) (o ∷ os) h = elim h [
+  | inl own ↦ inl (inl own)
+  | inr more ↦ elim (told_apart l n os more) [ inl first ↦ inl (inr first) | inr other ↦ inr other ]
+]
+
+-- none is where the first ones break no rule and none of the others is
+pub none_told : (l : Late) (n : ℕ) (os : List Plain) → AllByRecursion IsSilent (take n os)
+    → ¬ (AreTold l (drop n os)) → ¬ (AreTold l os)
+none_told l n os h none a = elim (told_apart l n os a) [
+  | inl first ↦ never_told l (take n os) h first
+  | inr other ↦ none other
+]

@@ -8,7 +8,7 @@ ghost use Rattle.spv_versions.specs.declared.late.Late.{Late};
 ghost use Rattle.spv_versions.specs.inner.Late.{IsLateBy};
 ghost use Rattle.spv_standard.specs.inner.Asked.{AreFit, AreNoted, IsAskedAt, IsAskedBy};
 
-use crate::silent::is_silent;
+use crate::silent::silent_of;
 use crate::told::are_told;
 use spv_module::Inst;
 use spv_versions::Late;
@@ -24,8 +24,8 @@ pub struct Asked {
     pub version: bool,
     /// O22.
     pub limits: bool,
-    /// Of an opcode: O21 and O22, if the operands of an instruction call for it.
-    words: bool,
+    /// How many operands at the beginning never call for O21 and O22; if one of the others does, they are asked.
+    silent: u8,
 }
 
 impl Asked {
@@ -44,10 +44,7 @@ impl Asked {
             → slice_get is n ≡ Some (plain_inst inst.now)
             → IsAskedBy G minor is late.now (plain_inst inst.now).opcode self → IsAskedAt G minor is n result }
     {
-        if !self.words {
-            return self;
-        }
-        if !are_told(late, inst.operands.as_slice()) {
+        if !are_told(late, inst.operands.as_slice(), self.silent) {
             return self;
         }
         Asked {
@@ -55,7 +52,7 @@ impl Asked {
             operands: self.operands,
             version: true,
             limits: true,
-            words: true,
+            silent: self.silent,
         }
     }
 }
@@ -68,13 +65,12 @@ fn asked_of(late: &Late, opcode: u16) -> Asked
     let is_kept = spv_kernel_operands::is_quiet(opcode);
     let is_timely = late.is_quiet(opcode);
     let is_uncounted = spv_limits::is_quiet(opcode);
-    let has_silence = is_silent(opcode);
     Asked {
         is_known: true,
         operands: !is_kept,
         version: !is_timely,
         limits: !is_uncounted,
-        words: !has_silence,
+        silent: silent_of(opcode),
     }
 }
 
@@ -87,7 +83,7 @@ const UNKNOWN: Asked = Asked {
     operands: false,
     version: false,
     limits: false,
-    words: false,
+    silent: 0,
 };
 
 /// What is noted of the opcodes below that number.

@@ -1,6 +1,6 @@
-//! Opcodes of which no instruction has an operand that breaks a rule by itself.
+//! Operands that break no rule by themselves, by the row of an opcode.
 
-ghost use Rattle.std.specs.Prelude.{◌≡◌, ◌≤◌, IsTrue, Some, length};
+ghost use Rattle.std.specs.Prelude.{◌≡◌, Some, take};
 ghost use Rattle.std.specs.List.{AllByRecursion};
 ghost use Rattle.spv_table.specs.Table.{Table};
 ghost use Rattle.spv_module.specs.Operand.{PlainInst};
@@ -11,7 +11,6 @@ ghost use Rattle.spv_standard.specs.inner.Silent as spec;
 ghost use Rattle.spv_standard.specs.inner.Silent.{IsSilent};
 
 use spv_layout::{Ending, Form, Row, row};
-use spv_limits::FEW;
 
 /// Whether no operand of a form is a text, a value or a mask.
 fn is_form_silent(form: Form) -> bool
@@ -32,40 +31,45 @@ fn are_silent(forms: &[Form]) -> bool
     true
 }
 
-/// Whether an ending has one operand at most, and that is none.
+/// Whether no operand that an ending allows is one.
 fn is_ending_silent(ending: Ending) -> bool
     ensures { result ≡ spec.is_silent_ending (plain_ending ending) }
 {
     match ending {
         Ending::Closed => true,
         Ending::Maybe(form) => is_form_silent(form),
-        Ending::FileAndText
-        | Ending::Repeated(_)
-        | Ending::Others
-        | Ending::MaybeOthers(_)
-        | Ending::MaybeRepeated(_, _) => false,
+        Ending::Repeated(forms) => are_silent(forms),
+        Ending::MaybeRepeated(first, other) => is_form_silent(first) && is_form_silent(other),
+        Ending::FileAndText | Ending::Others | Ending::MaybeOthers(_) => false,
     }
 }
 
-/// Whether no instruction that fits a row has a text, a value or a mask, or more than `FEW` operands.
-fn is_row_silent(row: &Row) -> bool
-    ensures { IsTrue result → (G : Table) (i : PlainInst) → FitsShape G i → row_of i.opcode ≡ Some (plain_row row.now)
-        → AllByRecursion IsSilent i.operands × (length i.operands ≤ 255) }
+/// Of how many operands at the beginning of an instruction that fits a row none is a text, a value or a mask: `u8::MAX`
+/// where no operand is one.
+fn silent_in(row: &Row) -> u8
+    ensures { (G : Table) (i : PlainInst) → FitsShape G i → row_of i.opcode ≡ Some (plain_row row.now)
+        → AllByRecursion IsSilent (take result i.operands) }
 {
-    if FEW <= row.fixed.len() {
-        return false;
+    if !are_silent(row.fixed) {
+        return 0;
     }
-    are_silent(row.fixed) && is_ending_silent(row.ending)
+    if is_ending_silent(row.ending) {
+        return u8::MAX;
+    }
+    match u8::try_from(row.fixed.len()) {
+        Ok(count) => count,
+        Err(_) => 0,
+    }
 }
 
-/// Whether no instruction that fits the row of an opcode has a text, a value or a mask, or more than `FEW` operands:
-/// its operands need not be looked at one by one.
-pub fn is_silent(opcode: u16) -> bool
-    ensures { IsTrue result → (G : Table) (i : PlainInst) → FitsShape G i → i.opcode ≡ opcode
-        → AllByRecursion IsSilent i.operands × (length i.operands ≤ 255) }
+/// Of how many operands at the beginning of an instruction of an opcode, that fits its row, none is a text, a value or a
+/// mask: these need not be looked at.
+pub fn silent_of(opcode: u16) -> u8
+    ensures { (G : Table) (i : PlainInst) → FitsShape G i → i.opcode ≡ opcode
+        → AllByRecursion IsSilent (take result i.operands) }
 {
     match row(opcode) {
-        Some(row) => is_row_silent(row),
-        None => false,
+        Some(row) => silent_in(row),
+        None => 0,
     }
 }

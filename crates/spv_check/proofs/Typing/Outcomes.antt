@@ -1,5 +1,5 @@
 -- The worked examples of what `type_check` answers.
-use Rattle.std.proofs.Common.{◌≡◌, ◌≤◌, ℕ, zero, suc, [], ◌∷◌, Option, Some, None, true, false, refl, subst, inl, inr}
+use Rattle.std.proofs.Common.{◌≡◌, ◌≤◌, ℕ, zero, suc, List, [], ◌∷◌, Some, None, true, false, refl, ap, subst, inl, inr}
 use Rattle.std.proofs.Common.{arith, lit≤}
 use Rattle.std.specs.Prelude.{slice_get}
 use Rattle.spv_table.specs.Table.{Table}
@@ -18,6 +18,7 @@ use Rattle.spv_type_rules.specs.roles.Outcome.{AreInRole}
 use Rattle.spv_type_rules.proofs.lemmas.roles.Casting.{unbroken}
 use Rattle.spv_type_rules.proofs.lemmas.roles.Worked.{played}
 use Rattle.spv_capabilities.specs.Capable.{Has}
+use Rattle.spv_capabilities.specs.inner.Subject.{Subject}
 use Rattle.spv_capabilities.specs.Keeps as capabilities
 use Rattle.spv_capabilities.proofs.Firsts as capable
 use Rattle.spv_ops.specs.Table.{lines}
@@ -130,16 +131,16 @@ numbers_typed r (suc zero) i at = let same : seven ≡ i = cc in
     subst (λ (j : PlainInst). rules.Keeps (IsTyped table numbers) numbers r 1 j) same (seven_typed r 1)
 numbers_typed r (suc (suc n)) i at = cc
 
-pub numbers_told : AreTypes table numbers (record { definitions = numbers })
+pub numbers_told : AreTypes table numbers (record { table = table; insts = numbers })
 numbers_told = record {
   roles = numbers_in_role table;
   capabilities = numbers_capable;
   rules = numbers_typed;
-  each = λ x. refl;
+  same = refl;
 }
 
-pub nothing_told : ¬ (AreTypes table numbers (record { definitions = [] }))
-nothing_told a = let e : ◌≡◌ {A = Option ℕ} None (Some 1) = a.each 2 in cc
+pub nothing_told : ¬ (AreTypes table numbers (record { table = table; insts = [] }))
+nothing_told a = let e : ◌≡◌ {A = List PlainInst} [] numbers = ap (λ (s : Subject). s.insts) a.same in cc
 
 -- A memory model alone: no id is used, and no capability is declared.
 

@@ -18,17 +18,17 @@ use Rattle.spv_check.specs.types.Broken.{Broken}
 
 -- the type that is told of an id
 abbrev pub type_in : Types → ℕ → Option ℕ
-type_in types x = width.type_of types.definitions x
+type_in types x = width.type_of types.insts x
 
--- Each use is in its role, each instruction keeps what the rules C1 to E2 and Y2 to Y8 demand, and of each id the type
--- that it is declared with is told, if it has one.
+-- Each use is in its role, each instruction keeps what the rules C1 to E2 and Y2 to Y8 demand, and it is these
+-- instructions, by that table, of which is told which types ids are declared with and which capabilities there are.
 pub record AreTypes (G : Table) (is : List PlainInst) (types : Types) : Type 0 where
   pub roles : AreInRole G is
   pub capabilities : (r : Rule) (n : ℕ) (i : PlainInst) → slice_get is n ≡ Some i
       → capabilities.Keeps G is r n i
   pub rules : (r : Rule) (n : ℕ) (i : PlainInst) → slice_get is n ≡ Some i
       → rules.Keeps (IsTyped G is) is r n i
-  pub each : (x : ℕ) → type_in types x ≡ width.type_of is x
+  pub same : types ≡ record { table = G; insts = is }
 
 -- What a refusal says: out of memory; or the first use that is not in its role, or where all are, the first broken
 -- rule of capabilities, entry points and types; with the first word of its instruction.

@@ -25,9 +25,9 @@ pub fn broken_examples()
 
 /// What is answered of a type and a constant of it, and of a memory model without capabilities.
 pub fn outcome_examples()
-    ensures types { AreTypes table numbers (record { definitions = numbers }) }
+    ensures types { AreTypes table numbers (record { table = table; insts = numbers }) }
     // The constant has a type.
-    ensures no_types { ¬ (AreTypes table numbers (record { definitions = [] })) }
+    ensures no_types { ¬ (AreTypes table numbers (record { table = table; insts = [] })) }
     // C1 is told, which comes before M1.
     ensures refusal { (G : Table) → IsRefusal G logical (Fault (record { rule = C1; inst = 0; word = 5 })) }
     ensures later { (G : Table) → ¬ (IsRefusal G logical (Fault (record { rule = M1; inst = 0; word = 5 }))) }

@@ -38,8 +38,10 @@ pub fn first_fault<'a>(
     requires judged { rules_insts rules.now ≡ map plain_inst insts.now }
     requires surveyed { entries.old.insts ≡ map plain_inst insts.now }
     requires plan { IsPlan entries.old.table (map plain_inst insts.now) rules.now.plan.now }
-    ensures { IfOk result (λ o. MatchOption o (AreKept entries.old.table (map plain_inst insts.now) (length insts.now))
+    ensures first { IfOk result (λ o. MatchOption o
+        (AreKept entries.old.table (map plain_inst insts.now) (length insts.now))
         (λ f. IsFirstFault entries.old.table (map plain_inst insts.now) f.rule f.inst)) }
+    ensures same { entries.new ≡ entries.old }
 {
     let mut seen = Seen::new(alloc, insts)?;
     let mut nulls = Nulls::new(alloc);

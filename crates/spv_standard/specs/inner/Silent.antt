@@ -14,7 +14,7 @@ IsSilent (operand.Value k v) = ⊥
 IsSilent (operand.Mask k m) = ⊥
 IsSilent o = Unit {0}
 
--- no operand of a form is one, nor of any of some forms; an ending has one operand at most, and that is none
+-- no operand of a form is one, nor of any of some forms, nor of those that an ending allows
 abbrev pub is_silent : Form → Bool
 is_silent form.Text = false
 is_silent form.Other = false
@@ -29,7 +29,7 @@ abbrev pub is_silent_ending : RowEnding → Bool
 is_silent_ending closed = true
 is_silent_ending (maybe f) = is_silent f
 is_silent_ending file_and_text = false
-is_silent_ending (repeated fs) = false
+is_silent_ending (repeated fs) = are_silent fs
 is_silent_ending others = false
 is_silent_ending (maybe_others f) = false
-is_silent_ending (maybe_repeated f g) = false
+is_silent_ending (maybe_repeated f g) = is_silent f && is_silent g

@@ -1,4 +1,6 @@
+use Rattle.std.proofs.Common.{◌∙◌, ap}
 use Rattle.spv_module.specs.Module.{plain_insts}
+use Rattle.spv_capabilities.specs.inner.Subject.{Subject}
 use Rattle.spv_extended.specs.Reach.{profile_of}
 use Rattle.spv_standard.proofs.Lower.{are_lower}
 use Rattle.spv_check.specs.Checked.{program_of}
@@ -52,8 +54,16 @@ extended_check-requires c = record { plan = (c.args.table.now, c.in-Ok.ensures.p
 pub std_types_check-requires-clause-plan : goal.std_types_check-requires-clause-plan
 std_types_check-requires-clause-plan c = (c.args.table.now, c.in-Ok.ensures.plan)
 
-pub std_types_check-requires-clause-ids : goal.std_types_check-requires-clause-ids
-std_types_check-requires-clause-ids c = (c.in-Ok-number.ensures.ids c.args.table.now c.in-Ok.ensures.plan).each
+pub std_types_check-requires-clause-types : goal.std_types_check-requires-clause-types
+std_types_check-requires-clause-types c = ap (λ (s : Subject). s.insts) c.in-Ok-type_check.ensures.types.same
+
+pub standard_check-requires-clause-capabilities : goal.standard_check-requires-clause-capabilities
+standard_check-requires-clause-capabilities c =
+    ap (λ (s : Subject). s.insts) (c.capabilities.ensures ∙ c.in-Ok-type_check.ensures.types.same)
+
+pub standard_check-requires-clause-definitions : goal.standard_check-requires-clause-definitions
+standard_check-requires-clause-definitions c =
+    c.definitions.ensures ∙ ap (λ (s : Subject). s.insts) c.in-Ok-type_check.ensures.types.same
 
 pub standard_check-requires-clause-words : goal.standard_check-requires-clause-words
 standard_check-requires-clause-words c = c.requires.short

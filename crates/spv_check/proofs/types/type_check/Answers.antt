@@ -100,7 +100,7 @@ first_fault-requires-clause-plan c =
 pub stop_at-requires : goal.stop_at-requires
 stop_at-requires c =
     let js = map plain_inst c.as_slice-insts.result.now in
-    let f = rw c.in-Ok-Some.field-0-is at c.in-Ok-Some.ensures in
+    let f = rw c.in-Ok-Some.field-0-is at c.in-Ok-Some.ensures.first in
     let w = fault_within c.in-Ok-survey.entries.table js c.in-Ok-Some.found.rule c.in-Ok-Some.found.inst f in
     let v = ap length (ap (λ items. map plain_inst items) c.as_slice-insts.ensures.value) in
     let n = c.requires.plan.count in
@@ -112,25 +112,13 @@ returns-in-Ok-Some-clause-refused c =
     let is = plain_insts c.args.module.now in
     let js = map plain_inst c.as_slice-insts.result.now in
     let v : js ≡ is = ap (λ items. map plain_inst items) c.as_slice-insts.ensures.value in
-    let f = rw c.in-Ok-Some.field-0-is at c.in-Ok-Some.ensures in
+    let f = rw c.in-Ok-Some.field-0-is at c.in-Ok-Some.ensures.first in
     let r = c.in-Ok-Some.found.rule in
     let n = c.in-Ok-Some.found.inst in
     let g = fault_moved c.in-Ok-survey.entries.table G is js r n (ap (λ s. s.table) c.in-Ok-survey.ensures) v f in
     refusal_told G is r n c.stop_at.result
     (roles_unbroken G is (c.in_default-roles_check.ensures.unbroken G c.args.plan.now c.requires.plan)) g
     (c.stop_at.ensures is c.requires.plan.place)
-
-pub new-requires-clause-plan : goal.new-requires-clause-plan
-new-requires-clause-plan c = (
-  c.args.table.now,
-  subst (λ ks. IsPlan c.args.table.now ks c.args.plan.now)
-      (ap (λ items. map plain_inst items) (sym c.as_slice-insts.ensures.value)) c.requires.plan,
-)
-
-pub new-requires-clause-ids : goal.new-requires-clause-ids
-new-requires-clause-ids c = λ x.
-    subst (λ is. IsDefinitionOf is x (definition_in c.args.ids.now x))
-    (ap (λ items. map plain_inst items) (sym c.as_slice-insts.ensures.value)) (c.requires.ids x)
 
 pub returns-clause-types : goal.returns-clause-types
 returns-clause-types c =
@@ -141,12 +129,12 @@ returns-clause-types c =
     let m : length c.as_slice-insts.result.now ≡ length is = sym (length-map c.as_slice-insts.result.now plain_inst)
     ∙ ap length v in
     let k = kept_moved c.in-Ok-survey.entries.table G is js (length c.as_slice-insts.result.now)
-    (ap (λ s. s.table) c.in-Ok-survey.ensures) v m (rw c.in-Ok-None.field-0-is at c.in-Ok-None.ensures) in
+    (ap (λ s. s.table) c.in-Ok-survey.ensures) v m (rw c.in-Ok-None.field-0-is at c.in-Ok-None.ensures.first) in
     record {
       roles = c.in_default-roles_check.ensures.roles G c.args.plan.now c.requires.plan;
       capabilities = λ r n i at. (k.each r n i (slice_get_within is n i at) at).capabilities;
       rules = λ r n i at. (k.each r n i (slice_get_within is n i at) at).types;
-      each = λ x. ap (λ ks. type_of ks x) (c.new.ensures ∙ v);
+      same = c.into_capabilities.ensures ∙ (c.in-Ok-first_fault.ensures.same ∙ c.in-Ok-survey.ensures);
     }
 
 pub returns-clause-unbroken : goal.returns-clause-unbroken
@@ -158,7 +146,7 @@ returns-clause-unbroken c =
     let m : length c.as_slice-insts.result.now ≡ length is = sym (length-map c.as_slice-insts.result.now plain_inst)
     ∙ ap length v in
     let k = kept_moved c.in-Ok-survey.entries.table G is js (length c.as_slice-insts.result.now)
-    (ap (λ s. s.table) c.in-Ok-survey.ensures) v m (rw c.in-Ok-None.field-0-is at c.in-Ok-None.ensures) in (
+    (ap (λ s. s.table) c.in-Ok-survey.ensures) v m (rw c.in-Ok-None.field-0-is at c.in-Ok-None.ensures.first) in (
       roles_unbroken G is (c.in_default-roles_check.ensures.unbroken G c.args.plan.now c.requires.plan),
       kept_unbroken G is k,
     )

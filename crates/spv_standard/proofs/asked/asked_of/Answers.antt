@@ -1,4 +1,3 @@
-use Rattle.spv_standard.proofs.Silences.{never_told}
 use Rattle.spv_standard.proofs.Singles.{denied}
 use Rattle.spv_standard.proofs.asked.asked_of.Goals as goal
 
@@ -9,7 +8,5 @@ returns c = λ G minor is late fit. record {
       c.is_quiet-is_timely.ensures (denied c.is_quiet-is_timely.result e) G minor is late n i at o none;
   limits = λ e n i counts at o short few up_to.
       c.is_quiet-is_uncounted.ensures (denied c.is_quiet-is_uncounted.result e) is n i counts at o short few up_to;
-  words = λ e n i at o.
-      let s = c.is_silent-has_silence.ensures (denied c.is_silent-has_silence.result e) G i (fit n i at) o in
-      (never_told c.args.late.now i.operands s.0, s.1);
+  silent = λ n i at o. c.silent_of.ensures G i (fit n i at) o;
 }

@@ -9,7 +9,7 @@ use Rattle.spv_standard.proofs.check.standard_check.Goals as goal
 
 pub stop_at-requires : goal.stop_at-requires
 stop_at-requires c =
-    let G = c.args.table.now in
+    let G = c.args.capabilities.now.table in
     let is = plain_insts c.args.module.now in
     let m = c.in-OpenCl.minor in
     let first = subst (λ o. IsFirstIn (KernelBroken G m is) o) c.in-Ok-Some.field-0-is c.in-Ok-Some.ensures in
@@ -18,7 +18,7 @@ stop_at-requires c =
 
 pub returns-in-Ok-None-clause-unbroken : goal.returns-in-Ok-None-clause-unbroken
 returns-in-Ok-None-clause-unbroken c = λ r n b.
-    let G = c.args.table.now in
+    let G = c.args.capabilities.now.table in
     let is = plain_insts c.args.module.now in
     let m = c.in-OpenCl.minor in
     let none = subst (λ o. IsFirstIn (KernelBroken G m is) o) c.in-Ok-None.field-0-is c.in-Ok-None.ensures in
@@ -27,7 +27,7 @@ returns-in-Ok-None-clause-unbroken c = λ r n b.
 
 pub returns-in-Ok-Some-clause-refused : goal.returns-in-Ok-Some-clause-refused
 returns-in-Ok-Some-clause-refused c =
-    let G = c.args.table.now in
+    let G = c.args.capabilities.now.table in
     let is = plain_insts c.args.module.now in
     let m = c.in-OpenCl.minor in
     let first = subst (λ o. IsFirstIn (KernelBroken G m is) o) c.in-Ok-Some.field-0-is c.in-Ok-Some.ensures in
