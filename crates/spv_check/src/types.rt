@@ -61,14 +61,14 @@ impl<'m, 'a> Types<'m, 'a> {
     }
 
     /// The instructions that define the ids of the module, with what the ids stand for. It takes no memory.
-    pub fn definitions(&self) -> Definitions<'_, 'a>
+    pub(crate) fn definitions(&self) -> Definitions<'_, 'a>
         ensures { result ≡ self.now.insts }
     {
         self.definitions.noted(self.meanings.as_slice())
     }
 
     /// The capabilities that the module has. It takes no memory.
-    pub fn capabilities(&self) -> &Capabilities<'m, 'a>
+    pub(crate) fn capabilities(&self) -> &Capabilities<'m, 'a>
         ensures { result.now ≡ self.now }
     {
         &self.capabilities

@@ -408,13 +408,6 @@ front_by G is places count plan next n i at early = elim (cases_lt n count) [
       absurd (class_behind is count n i plan.layout (next is plan.place q) g at early)
 ]
 
-pub capability_front : (G : Table) (is : List PlainInst) (places : List Place) (count : ℕ) → IsPlan G is places
-    → ((is : List PlainInst) → ArePlacesOf is places → count < length places → IsAt is count (class.Function ∷ []))
-    → (n : ℕ) (i : PlainInst) → slice_get is n ≡ Some i → i.opcode ≡ opcode.CAPABILITY → n < count
-unfolding rows
-capability_front G is places count plan next n i at e = front_by G is places count plan next n i at
-    (subst (λ (k : ℕ). is_late (class_of k) ≡ false) (sym e) refl)
-
 pub extension_front : (G : Table) (is : List PlainInst) (places : List Place) (count : ℕ) → IsPlan G is places
     → ((is : List PlainInst) → ArePlacesOf is places → count < length places → IsAt is count (class.Function ∷ []))
     → (n : ℕ) (i : PlainInst) → slice_get is n ≡ Some i → i.opcode ≡ opcode.EXTENSION → n < count

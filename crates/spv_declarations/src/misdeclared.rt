@@ -1,15 +1,13 @@
 //! The first of the rules O3 and O5 to O13 that is broken.
 
-ghost use Rattle.std.specs.Prelude.{◌≡◌, ◌≤◌, ◌∷◌, [], ℕ, IfOk, MatchOption, codes, length, map, true};
+ghost use Rattle.std.specs.Prelude.{◌≡◌, ◌≤◌, ◌∷◌, [], IfOk, MatchOption, codes, length, true};
 ghost use Rattle.spv_table.specs.Table.{Table};
 ghost use Rattle.spv_table.specs.Lookups.{number_named};
-ghost use Rattle.spv_module.specs.Module.{plain_inst};
 ghost use Rattle.spv_module.specs.declared.fault.Rule.TheVariants as rule;
 ghost use Rattle.spv_layout.specs.First.{IsFirst, IsUnbroken};
 ghost use Rattle.spv_layout.specs.Place.{AreFew};
 ghost use Rattle.spv_layout.specs.Plan.{IsPlan};
 ghost use Rattle.spv_layout.specs.Stage.{of_standard};
-ghost use Rattle.spv_ids.specs.Outcome.{IsDefinitionOf, definition_in};
 ghost use Rattle.spv_declarations.specs.Broken.{Broken};
 ghost use Rattle.spv_declarations.specs.inner.Early.{AreEarly};
 ghost use Rattle.spv_declarations.specs.inner.First.{IsFirstAmong};
@@ -30,9 +28,8 @@ use crate::pointer::first_elsewhere;
 use crate::said::Said;
 use crate::second::first_second;
 use spv_capabilities::Capabilities;
-use spv_ids::Ids;
 use spv_layout::Plan;
-use spv_module::{Inst, Rule};
+use spv_module::Rule;
 use spv_type_forms::Definitions;
 use std::alloc::{AllocError, Global};
 
@@ -84,8 +81,8 @@ fn linkage_type(capabilities: &Capabilities<'_, '_>, kinds: &Kinds) -> Option<u3
 }
 
 /// The first of the rules O3 and O5 to O13 that is broken in a module: the lowest instruction at which one is, and
-/// there the first of them. `capabilities` are those of the module, and `plan` and `ids` are what `lay_out` and
-/// `number` answered of it.
+/// there the first of them. `capabilities` and `definitions` are those of the module, and `plan` is what `lay_out`
+/// answered of it.
 ///
 /// One pass over the sections before the functions finds which kinds of instructions stand there, and each rule that
 /// speaks of a kind that does has a pass of its own. Time is near-linear in the words of these sections. An
@@ -93,33 +90,30 @@ fn linkage_type(capabilities: &Capabilities<'_, '_>, kinds: &Kinds) -> Option<u3
 pub fn first_misdeclared(
     alloc: Global,
     capabilities: &Capabilities<'_, '_>,
-    insts: &[Inst<'_>],
+    definitions: &Definitions<'_, '_>,
     plan: &Plan,
-    ids: &Ids,
 ) -> Result<Option<Found>, AllocError>
-    requires few { AreFew insts.now }
-    requires plan { IsPlan capabilities.now.table (map plain_inst insts.now) plan.now }
-    requires ids { (x : ℕ) → IsDefinitionOf (map plain_inst insts.now) x (definition_in ids.now x) }
-    requires capabilities { capabilities.now.insts ≡ map plain_inst insts.now }
+    requires few { AreFew definitions.now }
+    requires plan { IsPlan capabilities.now.table definitions.now plan.now }
+    requires capabilities { capabilities.now.insts ≡ definitions.now }
     ensures { IfOk result (λ found. MatchOption found
         (IsUnbroken (Broken capabilities.now.table capabilities.now.insts) of_standard)
         (λ f. IsFirst (Broken capabilities.now.table capabilities.now.insts) of_standard f.rule f.inst)) }
 {
-    let definitions = Definitions::new(insts, plan, ids);
     let count = plan.before_functions();
-    let (kinds, spans) = kinds_among(&definitions, count);
+    let (kinds, spans) = kinds_among(definitions, count);
     let front = Front {
         count,
         kinds,
         spans,
     };
     let linkage = linkage_type(capabilities, &kinds);
-    let repeated = first_repeated(alloc, &definitions, &kinds, count)?;
-    let with_id = first_with_id(&definitions, &kinds, count);
+    let repeated = first_repeated(alloc, definitions, &kinds, count)?;
+    let with_id = first_with_id(definitions, &kinds, count);
     let found = earlier(None, Rule::O3, repeated);
     let found = earlier(found, Rule::O5, with_id);
-    let decorated = first_decorated(alloc, &definitions, &front, linkage, found)?;
-    let elsewhere = first_elsewhere(&definitions, &kinds, count);
+    let decorated = first_decorated(alloc, definitions, &front, linkage, found)?;
+    let elsewhere = first_elsewhere(definitions, &kinds, count);
     let incapable = first_incapable(capabilities, &kinds, count);
     let found = earlier(decorated, Rule::O12, elsewhere);
     Ok(earlier(found, Rule::O13, incapable))

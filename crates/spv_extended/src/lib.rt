@@ -15,5 +15,5 @@ pub use call::{Call, call_at};
 pub use miscalled::first_miscalled;
 pub use opening::open;
 pub use reach::{Reach, opens, profile_of};
-pub use set::{Set, set_named};
+pub use set::{Set, import, set_named};
 pub use signature::{More, Signature, signature_of};

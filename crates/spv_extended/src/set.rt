@@ -1,7 +1,7 @@
 //! The sets of extended instructions, and which of them each id stands for.
 
 ghost use Rattle.std.specs.Prelude.{◌≡◌, IfOk, map};
-ghost use Rattle.spv_module.specs.Module.{plain_inst};
+ghost use Rattle.spv_module.specs.Module.{plain_inst, plain_operands};
 ghost use Rattle.spv_extended.specs.Sets as spec;
 ghost use Rattle.spv_extended.specs.inner.Found.{Finds, set_found};
 
@@ -41,16 +41,26 @@ pub fn set_named(name: &str) -> Set
     Set::Other
 }
 
-/// The id for which an instruction imports a set, and the set; none where it is no OpExtInstImport.
+/// The id and the set of the operands of an OpExtInstImport.
+#[inline(never)]
+fn import_in(operands: &[Operand<'_>]) -> Option<(u32, Set)>
+    ensures { result ≡ spec.import_in (plain_operands operands.now) }
+{
+    match operands {
+        [Operand::Result(id), Operand::Text(name), ..] => Some((*id, set_named(name))),
+        _ => None,
+    }
+}
+
+/// The id for which an instruction imports a set, and the set; none where it is no OpExtInstImport. It takes no memory.
 #[inline(always)]
-fn import(inst: &Inst<'_>) -> Option<(u32, Set)>
+pub fn import(inst: &Inst<'_>) -> Option<(u32, Set)>
     ensures { result ≡ spec.imported_by (plain_inst inst.now) }
 {
-    match (inst.opcode, inst.operands.as_slice()) {
-        (opcode::EXT_INST_IMPORT, [Operand::Result(id), Operand::Text(name), ..]) => {
-            Some((*id, set_named(name)))
-        }
-        _ => None,
+    if inst.opcode == opcode::EXT_INST_IMPORT {
+        import_in(inst.operands.as_slice())
+    } else {
+        None
     }
 }
 

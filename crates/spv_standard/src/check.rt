@@ -54,7 +54,7 @@ fn first_broken(
     let front = plan.before_functions();
     let late = Late::of(capabilities.table(), definitions, minor, front);
     let order = in_order(alloc, module, plan, ids)?;
-    let declarations = in_declarations(alloc, capabilities, insts, plan, ids)?;
+    let declarations = in_declarations(alloc, capabilities, definitions, plan)?;
     let interfaces = in_interfaces(alloc, definitions, insts, plan, ids, minor)?;
     let alone = first_alone(alloc, capabilities, definitions, &late, count)?;
     let found = earlier(order, declarations);

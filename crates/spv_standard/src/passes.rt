@@ -59,17 +59,15 @@ pub fn in_order(
 pub fn in_declarations(
     alloc: Global,
     capabilities: &Capabilities<'_, '_>,
-    insts: &[Inst<'_>],
+    definitions: &Definitions<'_, '_>,
     plan: &Plan,
-    ids: &Ids,
 ) -> Result<Option<Found>, Memory>
-    requires few { AreFew insts.now }
-    requires plan { IsPlan capabilities.now.table (map plain_inst insts.now) plan.now }
-    requires ids { (x : ℕ) → IsDefinitionOf (map plain_inst insts.now) x (definition_in ids.now x) }
-    requires capabilities { capabilities.now.insts ≡ map plain_inst insts.now }
+    requires few { AreFew definitions.now }
+    requires plan { IsPlan capabilities.now.table definitions.now plan.now }
+    requires capabilities { capabilities.now.insts ≡ definitions.now }
     ensures { IfOk result (IsFirstIn (declarations.Broken capabilities.now.table capabilities.now.insts)) }
 {
-    match first_misdeclared(alloc, capabilities, insts, plan, ids)? {
+    match first_misdeclared(alloc, capabilities, definitions, plan)? {
         Some(found) => Ok(Some(Found {
             rule: found.rule,
             inst: found.inst,

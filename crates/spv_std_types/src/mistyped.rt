@@ -10,21 +10,9 @@ ghost use Rattle.spv_std_types.specs.inner.Failing.{BreaksBy, IsFound};
 use crate::condition::Condition;
 use crate::first::first_failing;
 use crate::table::conditions_of;
-use spv_extended::{Set, set_named};
+use spv_extended::{Set, import};
 use spv_module::{Inst, Operand, opcode};
 use spv_type_forms::Definitions;
-
-/// The id for which an instruction imports a set, and the set; none where it is no OpExtInstImport.
-fn import(inst: &Inst<'_>) -> Option<(u32, Set)>
-    ensures { result ≡ imported_by (plain_inst inst.now) }
-{
-    match (inst.opcode, inst.operands.as_slice()) {
-        (opcode::EXT_INST_IMPORT, [Operand::Result(id), Operand::Text(name), ..]) => {
-            Some((*id, set_named(name)))
-        }
-        _ => None,
-    }
-}
 
 /// The set that an instruction imports for an id.
 fn set_by(inst: &Inst<'_>, id: u32) -> Set

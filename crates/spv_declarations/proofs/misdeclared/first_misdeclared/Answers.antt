@@ -1,4 +1,4 @@
-use Rattle.std.proofs.Common.{◌∙◌, sym, subst, [], ◌∷◌, List}
+use Rattle.std.proofs.Common.{sym, subst, [], ◌∷◌, List}
 use Rattle.spv_module.specs.Operand.{PlainInst}
 use Rattle.spv_module.specs.declared.fault.Rule.TheVariants as rule
 use Rattle.spv_declarations.specs.inner.Early.{AreEarly}
@@ -10,24 +10,23 @@ use Rattle.spv_declarations.proofs.Standing.{o3_early, o5_early, o12_early, o13_
 use Rattle.spv_declarations.proofs.misdeclared.first_misdeclared.Goals as goal
 
 pub first_decorated-requires-clause-early : goal.first_decorated-requires-clause-early
-first_decorated-requires-clause-early c = subst (λ (is : List PlainInst). AreEarly is c.before_functions-count.result)
-    (sym c.new-definitions.ensures)
-    (early_of c.args.capabilities.now.table _ c.args.plan.now c.before_functions-count.result c.requires.plan
-    c.before_functions-count.ensures.next)
+first_decorated-requires-clause-early c =
+    early_of c.args.capabilities.now.table c.args.definitions.now c.args.plan.now c.before_functions-count.result
+    c.requires.plan c.before_functions-count.ensures.next
 
 pub first_incapable-incapable-requires-clause-kinds : goal.first_incapable-incapable-requires-clause-kinds
 first_incapable-incapable-requires-clause-kinds c =
     subst (λ (is : List PlainInst). AreKinds is c.before_functions-count.result c.kinds_among.result.0)
-    (c.new-definitions.ensures ∙ sym c.requires.capabilities) c.kinds_among.ensures.kinds
+    (sym c.requires.capabilities) c.kinds_among.ensures.kinds
 
 pub returns : goal.returns
 returns c =
     let G = c.args.capabilities.now.table in
-    let is = c.new-definitions.result in
+    let is = c.args.definitions.now in
     let count = c.before_functions-count.result in
-    let early : AreEarly is count = subst (λ (is : List PlainInst). AreEarly is count) (sym c.new-definitions.ensures)
-    (early_of G _ c.args.plan.now count c.requires.plan c.before_functions-count.ensures.next) in
-    let same = c.new-definitions.ensures ∙ sym c.requires.capabilities in
+    let early : AreEarly is count =
+    early_of G is c.args.plan.now count c.requires.plan c.before_functions-count.ensures.next in
+    let same = sym c.requires.capabilities in
     let o3 = c.earlier-found.ensures G is [] (first_none G is) before_o3
     (of_o3 G is count c.in_ok-repeated.repeated (o3_early is count early) c.in_ok-repeated.ensures) in
     let o5 = c.earlier-found-2.ensures G is (rule.O3 ∷ []) o3 before_o5

@@ -1,4 +1,4 @@
-use Rattle.std.proofs.Common.{◌∙◌, ◌≡◌, List, ap, map, sym, subst, arith}
+use Rattle.std.proofs.Common.{◌∙◌, ◌≡◌, List, ap, length, map, sym, subst, arith}
 use Rattle.std.proofs.lemmas.List.{length-map}
 use Rattle.spv_module.specs.Module.{plain_inst, plain_insts}
 use Rattle.spv_module.specs.Operand.{PlainInst}
@@ -24,18 +24,21 @@ overflow_cast-count c =
     let q : IsShort (map plain_inst xs) = rw c.as_slice-insts.ensures.value c.requires.words in
     omega arith
 
-pub in_declarations-requires-clause-ids : goal.in_declarations-requires-clause-ids
-in_declarations-requires-clause-ids c = λ x.
-    subst (λ is. IsDefinitionOf is x (definition_in c.args.ids.now x))
-    (ap (λ items. map plain_inst items) (sym c.as_slice-insts.ensures.value)) (c.requires.ids.each x)
-
 pub in_declarations-requires-clause-few : goal.in_declarations-requires-clause-few
 in_declarations-requires-clause-few c =
-    let xs = c.as_slice-insts.result.now in
-    let s = short_list (map plain_inst xs) in
-    let l = length-map xs plain_inst in
-    let q : IsShort (map plain_inst xs) = rw c.as_slice-insts.ensures.value c.requires.words in
+    let is = plain_insts c.args.module.now in
+    let s = short_list is in
+    let l = ap length c.requires.definitions in
+    let q : IsShort is = c.requires.words in
     omega arith
+
+pub in_declarations-requires-clause-plan : goal.in_declarations-requires-clause-plan
+in_declarations-requires-clause-plan c =
+    subst (λ (js : List PlainInst). IsPlan c.args.capabilities.now.table js c.args.plan.now)
+    (sym c.requires.definitions) c.requires.plan
+
+pub in_declarations-requires-clause-capabilities : goal.in_declarations-requires-clause-capabilities
+in_declarations-requires-clause-capabilities c = c.requires.capabilities ∙ sym c.requires.definitions
 
 pub in_interfaces-requires-clause-few : goal.in_interfaces-requires-clause-few
 in_interfaces-requires-clause-few c =
