@@ -62,7 +62,7 @@ silent_taken (suc n) (o ∷ os) h = (h.0, silent_taken n os h.1)
 silent_front : (G : Table) (fs gs : List Form) (os : List Plain) → are_silent fs ≡ true → AreOf G (fs ++ gs) os
     → AllByRecursion IsSilent (take (length fs) os)
 silent_front G [] gs os h a = tt
-silent_front G (f ∷ fs) gs _ h (AreOf.more f o _ os k r) =
+silent_front G (f ∷ fs) gs _ h (AreOf.more _ o _ os k r) =
     let p = both_hold (is_silent f) (are_silent fs) h in
     (one_silent G f o p.0 k, silent_front G fs gs os p.1 r)
 
