@@ -9,7 +9,6 @@ use Rattle.spv_extended.specs.Reach.{profile_of}
 use Rattle.spv_std_types.specs.Broken as std_types
 use Rattle.spv_standard.specs.Broken as standard
 use Rattle.spv_standard.proofs.Stages.{standard_stage}
-use Rattle.spv_layout.specs.declared.place.Place.{Place}
 use Rattle.spv_layout.specs.DeadPlace.{IsDeadPlace}
 use Rattle.spv_layout.specs.Layout.{IsLayout, seen_classes}
 use Rattle.spv_layout.specs.First as stage

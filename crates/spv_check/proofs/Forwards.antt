@@ -1,13 +1,12 @@
 -- What an OpTypeForwardPointer names is a pointer type, where Y2 is kept.
-use Rattle.std.proofs.Common.{◌≡◌, ℕ, List, [], ◌∷◌, Some, refl, subst}
-use Rattle.std.specs.Prelude.{MatchOption, slice_get}
-use Rattle.std.proofs.lemmas.Option.{same_Some}
+use Rattle.std.proofs.Common.{◌≡◌, ℕ, List, [], ◌∷◌, Some, subst}
+use Rattle.std.specs.Prelude.{slice_get}
 use Rattle.spv_table.specs.Table.{Table}
 use Rattle.spv_module.specs.Operand.{Plain, PlainInst, Id, Value}
 use Rattle.spv_module.specs.declared.fault.Rule.{Rule}
 use Rattle.spv_module.specs.declared.fault.Rule.TheVariants.{Y2}
 use Rattle.spv_ops.specs.Typed.{IsTyped}
-use Rattle.spv_type_rules.specs.Declaration.{DeclaresSoundly, IsPointerAfter, declaration_of}
+use Rattle.spv_type_rules.specs.Declaration.{DeclaresSoundly, IsPointerAfter}
 use Rattle.spv_type_rules.specs.declared.declaration.Declaration.TheVariants.{Forward}
 use Rattle.spv_type_rules.specs.Keeps.{Keeps}
 use Rattle.spv_standard.proofs.Lower.{AreForwards, IsPointerType}

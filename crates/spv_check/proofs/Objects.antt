@@ -1,5 +1,5 @@
 -- Sizes, ranges and images, and what instructions ask of image operands: decided.
-use Rattle.std.proofs.Common.{◌≡◌, ◌+◌, ◌⊎◌, ℕ, List, [], ◌∷◌, Option, Some, Bool, true, false, refl, inl, inr, length}
+use Rattle.std.proofs.Common.{◌≡◌, ◌+◌, ◌⊎◌, ℕ, List, [], ◌∷◌, Option, Some, Bool, true, false, refl, inl, inr}
 use Rattle.std.proofs.Common.{nat_eq}
 use Rattle.std.specs.Prelude.{IsTrue, IsSomeAnd, option_and_then, slice_get, ◌||◌}
 use Rattle.std.proofs.lemmas.Bool.{cases_eq}
@@ -8,7 +8,6 @@ use Rattle.spv_type_forms.specs.declared.form.Form.{Form}
 use Rattle.spv_type_forms.specs.declared.form.Form.TheVariants as form
 use Rattle.spv_type_forms.specs.declared.form.Sort.{Sort}
 use Rattle.spv_type_forms.specs.declared.form.Sort.TheVariants as sort
-use Rattle.spv_type_forms.specs.declared.form.Components.{Components}
 use Rattle.spv_type_forms.specs.declared.objects.Image.{Image}
 use Rattle.spv_type_forms.specs.Form.{form_of}
 use Rattle.spv_type_forms.specs.Definitions.{IsConstant}

@@ -1,11 +1,10 @@
 -- What instructions of groups, dot products and instructions outside blocks ask: decided.
 use Rattle.std.proofs.Common.{◌≡◌, ◌≢◌, ◌⊎◌, ◌<◌, ◌≤◌, ℕ, List, [], ◌∷◌, Option, Some, None, refl, inl, inr}
-use Rattle.std.specs.Prelude.{IsTrue, IsSomeAnd, MatchOption, slice_get}
+use Rattle.std.specs.Prelude.{IsTrue, IsSomeAnd, slice_get}
 use Rattle.std.proofs.lemmas.Bool.{cases_eq}
 use Rattle.spv_module.specs.declared.opcode.TheConstants as opcode
 use Rattle.spv_module.specs.Operand.{Plain, Id, Word, Text, PlainInst}
 use Rattle.spv_module.specs.Width.{definition_of, type_of}
-use Rattle.spv_layout.specs.Place.{IsOfBlock}
 use Rattle.spv_type_forms.specs.declared.form.Form.TheVariants as form
 use Rattle.spv_type_forms.specs.Form.{form_of}
 use Rattle.spv_type_forms.specs.Parts.{count_of}

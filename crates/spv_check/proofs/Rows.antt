@@ -1,6 +1,6 @@
 -- The rows of types: decided.
 use Rattle.std.proofs.Common.{◌≡◌, ◌≢◌, ◌<◌, ◌≤◌, ◌+◌, ℕ, List, [], ◌∷◌, Option, Some, None, Bool, true, false, refl}
-use Rattle.std.proofs.Common.{ap, subst, inl, inr, length}
+use Rattle.std.proofs.Common.{subst, inl, inr, length}
 use Rattle.std.specs.Prelude.{IsSome, IsSomeAnd, slice_get, drop}
 use Rattle.std.specs.List.{AllByRecursion}
 use Rattle.std.proofs.lemmas.Bool.{cases_eq}

@@ -9,6 +9,7 @@ use crate::checked::Checked;
 use crate::extended::extended_check;
 use crate::flow::flow_check;
 use crate::fork::fork_of;
+use crate::standard::standard_of;
 use crate::std_types::std_types_check;
 use crate::types::type_check;
 use spv_extended::{Reach, profile_of};
@@ -17,7 +18,6 @@ use spv_ids::{Ids, number};
 use spv_layout::laws::member_or_dead;
 use spv_layout::{Plan, lay_out};
 use spv_module::{Fault, Module, Stop};
-use spv_standard::standard_check;
 use spv_table::{Memory, Table};
 use std::alloc::Global;
 
@@ -104,26 +104,28 @@ pub fn judge<'a>(
     };
     let flow = match flow_check(alloc, &module, &plan, &ids, &types, fork_of(reach)) {
         Ok(flow) => flow,
-        Err(stop) => return refused(stop, module, Reached::Typed(plan, ids)),
+        Err(stop) => {
+            drop(types);
+            return refused(stop, module, Reached::Typed(plan, ids));
+        }
     };
     match extended_check(alloc, reach, &module, &plan) {
         Ok(()) => (),
-        Err(stop) => return refused(stop, module, Reached::Sound),
+        Err(stop) => {
+            drop(types);
+            return refused(stop, module, Reached::Sound);
+        }
     }
     match std_types_check(reach, &module, &plan, &types) {
         Ok(()) => (),
-        Err(stop) => return refused(stop, module, Reached::Called(plan, ids)),
+        Err(stop) => {
+            drop(types);
+            return refused(stop, module, Reached::Called(plan, ids));
+        }
     }
-    let definitions = types.definitions();
-    match standard_check(
-        alloc,
-        reach,
-        types.capabilities(),
-        &definitions,
-        &module,
-        &plan,
-        &ids,
-    ) {
+    let standard = standard_of(alloc, reach, &types, &module, &plan, &ids);
+    drop(types);
+    match standard {
         Ok(()) => Ok(Judged::Valid(Checked::new(module, plan, ids, flow))),
         Err(stop) => refused(stop, module, Reached::Settled(plan, ids)),
     }

@@ -11,6 +11,7 @@ pub mod laws;
 mod line;
 mod operation;
 mod reading;
+mod standard;
 mod std_types;
 mod stream;
 pub mod types;

@@ -36,8 +36,9 @@ pub fn std_types_check(
     if !asks_types(reach) {
         return Ok(());
     }
+    let insts = module.insts.as_slice();
     let definitions = types.definitions();
-    match first_mistyped(&definitions, module.insts.len() as u32) {
+    match first_mistyped(&definitions, insts.len() as u32) {
         None => Ok(()),
         Some(inst) => Err(plan.stop_at(Rule::Y10, inst)),
     }

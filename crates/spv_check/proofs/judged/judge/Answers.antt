@@ -1,5 +1,13 @@
-use Rattle.std.proofs.Common.{◌∙◌, ap}
+use Rattle.std.proofs.Common.{ℕ, ap, subst, sym}
+use Rattle.spv_table.specs.Table.{Table}
 use Rattle.spv_module.specs.Module.{plain_insts}
+use Rattle.spv_module.specs.declared.fault.Rule.{Rule}
+use Rattle.spv_layout.specs.First.{IsUnbroken}
+use Rattle.spv_layout.specs.Stage.{of_branches, of_values}
+use Rattle.spv_ids.specs.Outcome.{AreIds}
+use Rattle.spv_flow.specs.branches.Broken as branches
+use Rattle.spv_flow.specs.declared.branches.fork.Fork.{Fork}
+use Rattle.spv_standard.specs.Broken as standard
 use Rattle.spv_capabilities.specs.inner.Subject.{Subject}
 use Rattle.spv_extended.specs.Reach.{profile_of}
 use Rattle.spv_standard.proofs.Lower.{are_lower}
@@ -57,32 +65,26 @@ std_types_check-requires-clause-plan c = (c.args.table.now, c.in-Ok.ensures.plan
 pub std_types_check-requires-clause-types : goal.std_types_check-requires-clause-types
 std_types_check-requires-clause-types c = ap (λ (s : Subject). s.insts) c.in-Ok-type_check.ensures.types.same
 
-pub standard_check-requires-clause-capabilities : goal.standard_check-requires-clause-capabilities
-standard_check-requires-clause-capabilities c =
-    ap (λ (s : Subject). s.insts) (c.capabilities.ensures ∙ c.in-Ok-type_check.ensures.types.same)
-
-pub standard_check-requires-clause-definitions : goal.standard_check-requires-clause-definitions
-standard_check-requires-clause-definitions c =
-    c.definitions.ensures ∙ ap (λ (s : Subject). s.insts) c.in-Ok-type_check.ensures.types.same
-
-pub standard_check-requires-clause-words : goal.standard_check-requires-clause-words
-standard_check-requires-clause-words c = c.requires.short
-
-pub standard_check-requires-clause-plan : goal.standard_check-requires-clause-plan
-standard_check-requires-clause-plan c = c.in-Ok.ensures.plan
-
-pub standard_check-requires-clause-ids : goal.standard_check-requires-clause-ids
-standard_check-requires-clause-ids c = c.in-Ok-number.ensures.ids c.args.table.now c.in-Ok.ensures.plan
-
-pub standard_check-requires-clause-flow : goal.standard_check-requires-clause-flow
-standard_check-requires-clause-flow c =
+pub standard_of-standard-requires-clause-ids : goal.standard_of-standard-requires-clause-ids
+standard_of-standard-requires-clause-ids c =
     let G = c.args.table.now in
+    subst (λ (T : Table). AreIds T c.args.module.header.bound (plain_insts c.args.module) c.in-Ok-number.ids)
+    (sym (ap (λ (s : Subject). s.table) c.in-Ok-type_check.ensures.types.same))
+    (c.in-Ok-number.ensures.ids G c.in-Ok.ensures.plan)
+
+pub standard_of-standard-requires-clause-flow : goal.standard_of-standard-requires-clause-flow
+standard_of-standard-requires-clause-flow c =
+    let G = c.args.table.now in
+    let is = plain_insts c.args.module in
+    let fork = c.fork_of.result in
     let plan = c.in-Ok.ensures.plan in
     let flow = c.in-Ok-flow_check.ensures.flow G plan (c.in-Ok-number.ensures.ids G plan) in
-    (c.fork_of.result, flow.branches, flow.values)
+    subst (λ (T : Table). (fork : Fork) × IsUnbroken (branches.Broken fork T is) of_branches
+        × IsUnbroken (branches.Broken fork T is) of_values)
+    (sym (ap (λ (s : Subject). s.table) c.in-Ok-type_check.ensures.types.same)) (fork, flow.branches, flow.values)
 
-pub standard_check-requires-clause-structs : goal.standard_check-requires-clause-structs
-standard_check-requires-clause-structs c =
+pub standard_of-standard-requires-clause-structs : goal.standard_of-standard-requires-clause-structs
+standard_of-standard-requires-clause-structs c =
     let G = c.args.table.now in
     let plan = c.in-Ok.ensures.plan in
     let ids = c.in-Ok-number.ensures.ids G plan in
@@ -104,7 +106,8 @@ new-requires c =
     let p = program_of c.args.module in
     let y9 = c.in-Ok-extended_check.ensures.unbroken in
     let y10 = c.in-Ok-std_types_check.ensures.unbroken in
-    let o = c.in-Ok-standard_check.ensures.unbroken in
+    let o = subst (λ (T : Table). (r : Rule) (n : ℕ) → ¬ (standard.Broken T reach p.insts r n))
+    (ap (λ (s : Subject). s.table) types.same) c.in-Ok-standard.ensures.unbroken in
     let kept = kept_of G reach p _ _ c.requires.short laid ids types.roles types.capabilities types.rules u flow y9 y10
     o in
     let w = c.requires.words in
@@ -123,8 +126,8 @@ new-requires c =
       },
     )
 
-pub returns-in-Ok-standard_check : goal.returns-in-Ok-standard_check
-returns-in-Ok-standard_check c =
+pub returns-in-Ok-standard : goal.returns-in-Ok-standard
+returns-in-Ok-standard c =
     let G = c.args.table.now in
     let reach = c.args.reach in
     let plan = c.in-Ok.ensures.plan in
@@ -136,7 +139,8 @@ returns-in-Ok-standard_check c =
     let p = program_of c.args.module in
     let y9 = c.in-Ok-extended_check.ensures.unbroken in
     let y10 = c.in-Ok-std_types_check.ensures.unbroken in
-    let o = c.in-Ok-standard_check.ensures.unbroken in
+    let o = subst (λ (T : Table). (r : Rule) (n : ℕ) → ¬ (standard.Broken T reach p.insts r n))
+    (ap (λ (s : Subject). s.table) types.same) c.in-Ok-standard.ensures.unbroken in
     let kept = kept_of G reach p _ _ c.requires.short laid ids types.roles types.capabilities types.rules u flow y9 y10
     o in
     let none = planned reach G _ (c.member_or_dead.ensures.not_both (profile_of reach)) laid in
@@ -163,8 +167,8 @@ returns-in-Err-std_types_check c =
     refused_so G reach c.args.module _ c.in-Err-std_types_check.stop _ c.refused-in-Err-std_types_check.ensures
     (told_std_types G reach p.bound p.insts c.in-Err-std_types_check.stop most y9 h) (plan, ids, h)
 
-pub returns-in-Err-standard_check : goal.returns-in-Err-standard_check
-returns-in-Err-standard_check c =
+pub returns-in-Err-standard : goal.returns-in-Err-standard
+returns-in-Err-standard c =
     let G = c.args.table.now in
     let reach = c.args.reach in
     let plan = c.in-Ok.ensures.plan in
@@ -177,9 +181,10 @@ returns-in-Err-standard_check c =
     let most = up_to_calls G reach p.bound p.insts _ _ none ids u flow in
     let y9 = c.in-Ok-extended_check.ensures.unbroken in
     let y10 = c.in-Ok-std_types_check.ensures.unbroken in
-    let h = c.in-Err-standard_check.ensures.refused in
-    refused_so G reach c.args.module _ c.in-Err-standard_check.stop _ c.refused-in-Err-standard_check.ensures
-    (told_standard G reach p.bound p.insts c.in-Err-standard_check.stop most y9 y10 h) (plan, ids, h)
+    let h = subst (λ (T : Table). standard.IsRefusal T reach p.insts c.in-Err-standard.stop)
+    (ap (λ (s : Subject). s.table) c.in-Ok-type_check.ensures.types.same) c.in-Err-standard.ensures.refused in
+    refused_so G reach c.args.module _ c.in-Err-standard.stop _ c.refused-in-Err-standard.ensures
+    (told_standard G reach p.bound p.insts c.in-Err-standard.stop most y9 y10 h) (plan, ids, h)
 
 pub returns-in-Err-extended_check : goal.returns-in-Err-extended_check
 returns-in-Err-extended_check c =

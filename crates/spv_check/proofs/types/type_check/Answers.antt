@@ -1,13 +1,13 @@
-use Rattle.std.proofs.Common.{◌≡◌, inl, length, map, sym, ap, subst, ◌∙◌, arith}
+use Rattle.std.proofs.Common.{◌≡◌, inl, length, map, refl, sym, ap, subst, ◌∙◌, arith}
 use Rattle.std.proofs.lemmas.List.{length-map}
 use Rattle.std.proofs.lemmas.Option.{slice_get_within}
 use Rattle.spv_module.specs.Module.{plain_inst, plain_insts}
-use Rattle.spv_module.specs.Width.{type_of}
 use Rattle.spv_layout.specs.Place.{IsShort}
 use Rattle.spv_layout.specs.Plan.{IsPlan}
 use Rattle.spv_ids.specs.Outcome.{IsDefinitionOf, definition_in}
 use Rattle.spv_layout.proofs.Misfits.{short_list}
 use Rattle.spv_type_forms.specs.inner.Meaning.{AreMeant}
+use Rattle.spv_capabilities.specs.inner.Subject.{Subject}
 use Rattle.spv_check.proofs.Typing.Firsts.{roles_first, roles_unbroken, kept_moved, fault_moved, fault_within}
 use Rattle.spv_check.proofs.Typing.Firsts.{refusal_told, kept_unbroken}
 use Rattle.spv_check.proofs.types.type_check.Goals as goal
@@ -120,6 +120,15 @@ returns-in-Ok-Some-clause-refused c =
     (roles_unbroken G is (c.in_default-roles_check.ensures.unbroken G c.args.plan.now c.requires.plan)) g
     (c.stop_at.ensures is c.requires.plan.place)
 
+pub same-entries : goal.same-entries
+same-entries c = refl
+
+pub invariant_of-result : goal.invariant_of-result
+invariant_of-result c =
+    let v = ap (λ items. map plain_inst items) c.as_slice-insts.ensures.value in
+    let same = c.into_capabilities.ensures ∙ (c.first_fault.ensures.same ∙ c.in-Ok-survey.ensures) in
+    (c.new-definitions.ensures ∙ (v ∙ sym (ap (λ (s : Subject). s.insts) same)), c.in-Ok.ensures)
+
 pub returns-clause-types : goal.returns-clause-types
 returns-clause-types c =
     let G = c.args.table.now in
@@ -134,7 +143,7 @@ returns-clause-types c =
       roles = c.in_default-roles_check.ensures.roles G c.args.plan.now c.requires.plan;
       capabilities = λ r n i at. (k.each r n i (slice_get_within is n i at) at).capabilities;
       rules = λ r n i at. (k.each r n i (slice_get_within is n i at) at).types;
-      same = c.into_capabilities.ensures ∙ (c.in-Ok-first_fault.ensures.same ∙ c.in-Ok-survey.ensures);
+      same = c.into_capabilities.ensures ∙ (c.first_fault.ensures.same ∙ c.in-Ok-survey.ensures);
     }
 
 pub returns-clause-unbroken : goal.returns-clause-unbroken

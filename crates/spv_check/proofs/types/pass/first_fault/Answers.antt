@@ -52,8 +52,11 @@ first_at-requires-clause-repeats c =
     let at = inst_there xs n c.index-insts-n.result c.loop-n-test.true c.index-insts-n.is in
     rw c.requires.judged (c.in_ok-repeats.ensures.repeats (map plain_inst xs) n at c.loop-n.invariant.seen)
 
-pub returns-in-Some : goal.returns-in-Some
-returns-in-Some c =
+pub returns-in-Some-clause-same : goal.returns-in-Some-clause-same
+returns-in-Some-clause-same c = c.first_in.ensures.same ∙ c.loop-n.invariant.same
+
+pub returns-in-Some-clause-first : goal.returns-in-Some-clause-first
+returns-in-Some-clause-first c =
     let G = c.args.entries.now.table in
     let xs = c.args.insts.now in
     let is = map plain_inst xs in
@@ -68,8 +71,11 @@ returns-in-Some c =
     let k = rw c.in-Some.is at h in
     capable_fault G is n i c.in-Some.rule at k.0 k.1 c.loop-n.invariant.kept
 
-pub returns-then-not-branch : goal.returns-then-not-branch
-returns-then-not-branch c =
+pub returns-then-not-branch-clause-same : goal.returns-then-not-branch-clause-same
+returns-then-not-branch-clause-same c = c.first_in.ensures.same ∙ c.loop-n.invariant.same
+
+pub returns-then-not-branch-clause-first : goal.returns-then-not-branch-clause-first
+returns-then-not-branch-clause-first c =
     let G = c.args.entries.now.table in
     let xs = c.args.insts.now in
     let is = map plain_inst xs in
@@ -103,8 +109,11 @@ first_at-requires-clause-few c =
 pub first_at-requires-clause-nulls : goal.first_at-requires-clause-nulls
 first_at-requires-clause-nulls c = rw c.requires.judged c.loop-n.invariant.nulls
 
-pub returns-in-Some-2 : goal.returns-in-Some-2
-returns-in-Some-2 c =
+pub returns-in-Some-2-clause-same : goal.returns-in-Some-2-clause-same
+returns-in-Some-2-clause-same c = c.first_in.ensures.same ∙ c.loop-n.invariant.same
+
+pub returns-in-Some-2-clause-first : goal.returns-in-Some-2-clause-first
+returns-in-Some-2-clause-first c =
     let G = c.args.entries.now.table in
     let xs = c.args.insts.now in
     let is = map plain_inst xs in
