@@ -80,7 +80,7 @@ standard_of-standard-requires-clause-flow c =
     let plan = c.in-Ok.ensures.plan in
     let flow = c.in-Ok-flow_check.ensures.flow G plan (c.in-Ok-number.ensures.ids G plan) in
     subst (λ (T : Table). (fork : Fork) × IsUnbroken (branches.Broken fork T is) of_branches
-        × IsUnbroken (branches.Broken fork T is) of_values)
+    × IsUnbroken (branches.Broken fork T is) of_values)
     (sym (ap (λ (s : Subject). s.table) c.in-Ok-type_check.ensures.types.same)) (fork, flow.branches, flow.values)
 
 pub standard_of-standard-requires-clause-structs : goal.standard_of-standard-requires-clause-structs
