@@ -16,6 +16,9 @@ use crate::surveyed::Survey;
 use spv_module::{Inst, Operand, opcode};
 use spv_table::NameListRef;
 
+/// How many capabilities are many: so many are looked up once, and what was found is kept.
+const MANY: usize = 2;
+
 /// Whether the module has Kernel and has not Shader.
 pub fn is_kernel(survey: &Survey<'_, '_>) -> bool
     ensures { IsTrue result ↔ IsKernel survey.now.table survey.now.insts }
@@ -92,17 +95,27 @@ pub fn is_covered_value(survey: &Survey<'_, '_>, kind: u32, value: u32) -> bool
     }
 }
 
-/// Whether the enumerant of a value of a kind, if there is one, lists no capabilities.
+/// Whether listed capabilities are none, or the module has one of them; unknown where they are many.
 #[inline(always)]
-pub fn asks_nothing(survey: &Survey<'_, '_>, kind: u32, value: u32) -> bool
-    ensures exactly { IsTrue result ↔ IfSome
-        (option_and_then (λ s. enumerant_of s.enumerants value) (kind_of survey.now.table kind))
-        (λ e. e.capabilities ≡ []) }
-    ensures covered { IsTrue result → IsCoveredValue survey.now.table survey.now.insts kind value }
+fn covered_if_few(survey: &Survey<'_, '_>, names: &NameListRef<'_>) -> Option<bool>
+    ensures { IfSome result (λ b. IsTrue b ↔ IsCovered survey.now.table survey.now.insts names.now) }
+{
+    if names.len() < MANY {
+        Some(is_covered(survey, names))
+    } else {
+        None
+    }
+}
+
+/// Whether the enumerant of a value of a kind, if there is one, lists no capabilities, or one that the module has;
+/// unknown where it lists many.
+#[inline(always)]
+pub fn known_at_once(survey: &Survey<'_, '_>, kind: u32, value: u32) -> Option<bool>
+    ensures { IfSome result (λ b. IsTrue b ↔ IsCoveredValue survey.now.table survey.now.insts kind value) }
 {
     match survey.table().enumerant(kind, value) {
-        Some(enumerant) => enumerant.capabilities().is_empty(),
-        None => true,
+        Some(enumerant) => covered_if_few(survey, &enumerant.capabilities()),
+        None => Some(true),
     }
 }
 

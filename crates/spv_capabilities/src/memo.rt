@@ -11,7 +11,7 @@ ghost use Rattle.spv_capabilities.specs.inner.Known as known;
 ghost use Rattle.spv_capabilities.specs.inner.Known.{IsKnown, IsAskedAlone, AreCovered, answer_of};
 
 use crate::capable::{
-    asks_nothing, has_needed, is_capability_kind, is_covered_entry, is_covered_value,
+    has_needed, is_capability_kind, is_covered_entry, is_covered_value, known_at_once,
 };
 use crate::surveyed::Survey;
 use spv_module::{Inst, Operand, opcode};
@@ -48,13 +48,13 @@ struct Enumerated {
 pub struct Memo {
     /// Of each opcode, as far as the list goes, whether its entry is covered.
     entries: Vec<Answer>,
-    /// Of the enumerants that were met, by their kinds and values, whether they are covered.
+    /// Of the enumerants that were met and list many capabilities, by their kinds and values, whether they are covered.
     enumerants: BTreeMap<(u32, u32), bool>,
     /// A mask whose set bits are all covered, the last that was asked of, or 0; and its kind.
     mask: u32,
     mask_kind: u32,
-    /// Enumerants that are covered, each at the place of its value modulo that many: of two that share a place the one
-    /// that was asked of last.
+    /// Enumerants that are covered, each at its place among so many: of two that share a place the one that was asked
+    /// of last.
     recent: [Option<Enumerated>; RECENT],
 }
 
@@ -124,6 +124,14 @@ fn kept_answer(covered: bool, alone: bool) -> Answer
     } else {
         Answer::Yes
     }
+}
+
+/// The place of the enumerant of a value of a kind among those that were met of late.
+#[inline(always)]
+fn recent_place(kind: u32, value: u32) -> usize
+    ensures { result < RECENT }
+{
+    (kind ^ value) as usize % RECENT
 }
 
 impl Memo {
@@ -208,7 +216,7 @@ impl Memo {
     fn is_recent(&self, kind: u32, value: u32) -> bool
         ensures { (s : Subject) → IsKnown s self.now → IsTrue result → IsCoveredValue s.table s.insts kind value }
     {
-        match self.recent[value as usize % RECENT] {
+        match self.recent[recent_place(kind, value)] {
             Some(met) => met.kind == kind && met.value == value,
             None => false,
         }
@@ -218,7 +226,7 @@ impl Memo {
     fn keep_recent(&mut self, kind: u32, value: u32)
         ensures { (s : Subject) → IsKnown s self.old → IsCoveredValue s.table s.insts kind value → IsKnown s self.new }
     {
-        self.recent[value as usize % RECENT] = Some(Enumerated { kind, value });
+        self.recent[recent_place(kind, value)] = Some(Enumerated { kind, value });
     }
 
     /// Asks of a value that is not among those met of late.
@@ -228,8 +236,10 @@ impl Memo {
         ensures answer { IfOk result (λ b. IsTrue b ↔ IsCoveredValue survey.now.table survey.now.insts kind value) }
         ensures known { IsKnown survey.now self.new }
     {
-        let covered = asks_nothing(survey, kind, value)
-            || self.is_covered_listing(survey, kind, value)?;
+        let covered = match known_at_once(survey, kind, value) {
+            Some(covered) => covered,
+            None => self.is_covered_listing(survey, kind, value)?,
+        };
         if covered {
             self.keep_recent(kind, value);
         }

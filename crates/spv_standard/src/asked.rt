@@ -75,7 +75,7 @@ fn asked_of(late: &Late, opcode: u16) -> Asked
 }
 
 /// Of how many opcodes it is noted what there is to ask: nearly all instructions have lower ones.
-const NOTED: usize = 512;
+const NOTED: usize = 400;
 
 /// Of an opcode of which nothing is noted.
 const UNKNOWN: Asked = Asked {
