@@ -46,6 +46,7 @@ fn has_name(survey: &Survey<'_, '_>, name: &str) -> bool
 }
 
 /// Whether the module has one of the named capabilities.
+#[inline(never)]
 fn has_named(survey: &Survey<'_, '_>, names: &NameListRef<'_>) -> bool
     ensures { IsTrue result ↔ HasNamed survey.now.table survey.now.insts names.now }
 {
@@ -58,6 +59,7 @@ fn has_named(survey: &Survey<'_, '_>, names: &NameListRef<'_>) -> bool
 }
 
 /// Whether listed capabilities are none, or the module has one of them.
+#[inline(always)]
 fn is_covered(survey: &Survey<'_, '_>, names: &NameListRef<'_>) -> bool
     ensures { IsTrue result ↔ IsCovered survey.now.table survey.now.insts names.now }
 {
