@@ -10,3 +10,4 @@ mod Fronts
 mod Floors
 mod Asking
 mod Undated
+mod Low

@@ -12,7 +12,7 @@ use Rattle.spv_versions.specs.inner.Told.{AreLeast, place_of, undated}
 use Rattle.spv_versions.proofs.Listed.{line_at, read_at, unread}
 
 -- what holds of each line behind the first n
-all_behind : (p : Line → Bool) (ls : List Line) (n k : ℕ) (l : Line) → list_all p (drop n ls) ≡ true → n ≤ k
+pub all_behind : (p : Line → Bool) (ls : List Line) (n k : ℕ) (l : Line) → list_all p (drop n ls) ≡ true → n ≤ k
     → slice_get ls k ≡ Some l → p l ≡ true
 all_behind p [] n k l a b e = absurd (none-some l e)
 all_behind p (m ∷ ls) zero zero l a b e =

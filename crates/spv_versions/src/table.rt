@@ -1,9 +1,10 @@
 //! Table V, and table X behind it: in which version what came first, and which extensions have it.
 
-ghost use Rattle.std.specs.Prelude.{◌≡◌, ◌↔◌, IsTrue, map, option_map};
+ghost use Rattle.std.specs.Prelude.{◌≡◌, ◌↔◌, IsTrue, map, option_map, slice_index};
 ghost use Rattle.spv_versions.specs.Table as spec;
 ghost use Rattle.spv_versions.specs.inner.Lines.{plain_line};
 ghost use Rattle.spv_versions.specs.inner.Told as told;
+ghost use Rattle.spv_versions.specs.inner.Told.{place_of};
 
 /// A kind of numbers: opcodes, or a kind of operands by its name in a grammar.
 #[derive(Clone, Copy, Debug, PartialEq, Eq)]
@@ -184,6 +185,21 @@ pub static UNDATED: [u32; ALL_KINDS] = [
     2,
 ];
 
+/// By the place of a kind the bits of its numbers below 64 that a line of the tables is of. They are reckoned from the
+/// tables by hand, and compared with them by a proof: a new line may add some here.
+pub static LOW: [u64; ALL_KINDS] = [
+    0,
+    0xfc00_0000_0000_0000,
+    0xfe_0000_0000,
+    0xe000_0800_0000,
+    0,
+    0x1_0001_0110,
+    0,
+    0x8,
+    0x1,
+    0x4,
+];
+
 /// How many kinds of operands there are of which the table speaks.
 pub const KIND_COUNT: usize = 9;
 
@@ -212,6 +228,20 @@ pub fn undated() -> [u32; ALL_KINDS]
     ensures { result ≡ told.undated }
 {
     UNDATED
+}
+
+/// These bits.
+pub fn low() -> &'static [u64; ALL_KINDS]
+    ensures { result.now ≡ told.low }
+{
+    &LOW
+}
+
+/// The bits of the numbers of a kind below 64 that a line of the tables is of.
+pub fn low_bits(kind: Kind) -> u64
+    ensures { result ≡ slice_index told.low (place_of kind) }
+{
+    low()[kind as usize]
 }
 
 /// These kinds.

@@ -1,5 +1,6 @@
 -- What is told of a module to find what it has that its version does not. (For the code alone.)
-use Rattle.std.specs.Prelude.{◌≡◌, ◌<◌, ◌≤◌, ℕ, List, Option, Bool, length, slice_index}
+use Rattle.std.specs.Prelude.{◌≡◌, ◌<◌, ◌≤◌, ℕ, List, Option, Bool, false, length, slice_index}
+use Rattle.std.specs.Int.{bit_at}
 use Rattle.spv_table.specs.Table.{Table}
 use Rattle.spv_module.specs.Operand.{Plain, PlainInst}
 use Rattle.spv_versions.specs.declared.late.Late.{Late}
@@ -11,9 +12,15 @@ abbrev pub AreFloors : List Bool → List (Option ℕ) → List ℕ → Type 0
 AreFloors flags ns floors =
     (j v : ℕ) (is_mask : Bool) → j < length floors → IsAnyHit flags ns j is_mask v → slice_index floors j ≤ v
 
--- its floors are so; an operand is a value, or has a set bit, that is missing; one of some is
+-- a value below 64 that is missing, of the kind of a number, has its bit in the word at the place of that number
+abbrev pub AreListed : List Bool → List (Option ℕ) → List ℕ → Type 0
+AreListed flags ns words = (j v : ℕ) → j < length words → v < 64 → IsAnyHit flags ns j false v
+    → bit_at (slice_index words j) v ≡ 1
+
+-- its floors and its words are so; an operand is a value, or has a set bit, that is missing; one of some is
 abbrev pub AreFloored : Late → Type 0
 AreFloored l = AreFloors l.missing.lines l.kinds.numbers l.floors
+    × AreListed l.missing.lines l.kinds.numbers l.listed
 
 abbrev pub IsHitIn : Late → Plain → Type 0
 IsHitIn l o = IsOperandHit l.missing.lines l.kinds.numbers o
@@ -27,4 +34,4 @@ pub record IsLateBy (G : Table) (minor : ℕ) (is : List PlainInst) (l : Late) :
   pub told : AreTold minor is l.missing.lines l.missing.is_without_meaning
   pub least : AreLeast l.missing.lines l.missing.least
   pub numbers : AreKnown G l.missing.lines l.kinds.numbers
-  pub floors : AreFloors l.missing.lines l.kinds.numbers l.floors
+  pub floors : AreFloored l

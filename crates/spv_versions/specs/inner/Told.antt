@@ -9,7 +9,7 @@ use Rattle.spv_module.specs.declared.opcode.TheConstants as opcode
 use Rattle.spv_module.specs.Operand.{Plain, Text, Value, Mask, PlainInst}
 use Rattle.spv_versions.specs.declared.table.Kind.{Kind}
 use Rattle.spv_versions.specs.declared.table.Kind.TheVariants as kind
-use Rattle.spv_versions.specs.declared.table.TheConstants.{KINDS, UNDATED}
+use Rattle.spv_versions.specs.declared.table.TheConstants.{KINDS, LOW, UNDATED}
 use Rattle.spv_versions.specs.contracts.table.Kind.{the_type}
 use Rattle.spv_versions.specs.Named.{IsDeclared, IsSetBit}
 use Rattle.spv_versions.specs.Table.{IsBefore, Line, Text as Name, lines, name_of}
@@ -94,6 +94,10 @@ place_of k = tag_of the_type k
 -- by the place of a kind a number that none of the kind in table X is below
 unfoldable pub undated : List ℕ
 undated = UNDATED
+
+-- by the place of a kind the bits of the numbers below 64 that a line is of
+unfoldable pub low : List ℕ
+low = LOW
 
 -- no number of a kind that is missing is below that at the place of the kind
 abbrev pub AreLeast : List Bool → List ℕ → Type 0

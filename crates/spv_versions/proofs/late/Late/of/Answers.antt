@@ -7,5 +7,5 @@ returns c = record {
   told = c.of_front-missing.ensures.told;
   least = c.of_front-missing.ensures.least;
   numbers = c.of_missing-kinds.ensures;
-  floors = c.floors.ensures c.of_front-missing.ensures.least;
+  floors = (c.floors.ensures c.of_front-missing.ensures.least, c.listed.ensures c.of_front-missing.result.lines);
 }
