@@ -40,7 +40,7 @@ pub fn left_out(count: usize) -> usize
 fn push_block(
     out: &mut String,
     insts: &[Inst<'_>],
-    known: &Known,
+    known: &Known<'_>,
     at: u32,
     inst: &Inst<'_>,
 ) -> Result<(), AllocError>
@@ -54,7 +54,7 @@ fn push_block(
     let Some(label) = inst.result_id() else {
         return Ok(());
     };
-    if known.definitions.get(label) != Some(at) {
+    if known.firsts.definitions.get(label) != Some(at) {
         return Ok(());
     }
     push_predecessors(out, &known.edges, label)
@@ -62,7 +62,7 @@ fn push_block(
 
 /// Whether it is found at once that no name stands in the comment on an instruction.
 #[inline(always)]
-fn is_nameless(known: &Known, inst: &Inst<'_>) -> bool
+fn is_nameless(known: &Known<'_>, inst: &Inst<'_>) -> bool
     ensures { (is : List PlainInst) → IsKnown is known.now → result ≡ true
         → name_notes is (plain_inst inst.now) ≡ [] }
 {
@@ -76,7 +76,7 @@ fn is_nameless(known: &Known, inst: &Inst<'_>) -> bool
 fn push_known_names(
     out: &mut String,
     insts: &[Inst<'_>],
-    known: &Known,
+    known: &Known<'_>,
     inst: &Inst<'_>,
 ) -> Result<(), AllocError>
     requires { IsKnown (map plain_inst insts.now) known.now }
@@ -86,14 +86,20 @@ fn push_known_names(
     if is_nameless(known, inst) {
         return Ok(());
     }
-    push_names(out, insts, &known.definitions, &known.namings, inst)
+    push_names(
+        out,
+        insts,
+        &known.firsts.definitions,
+        &known.firsts.namings,
+        inst,
+    )
 }
 
 /// Adds the notes on an instruction.
 fn push_notes(
     out: &mut String,
     insts: &[Inst<'_>],
-    known: &Known,
+    known: &Known<'_>,
     at: u32,
     inst: &Inst<'_>,
 ) -> Result<(), AllocError>
@@ -102,7 +108,13 @@ fn push_notes(
         (value_in known.now.values at) at (plain_inst inst.now)) }
 {
     push_known_names(out, insts, known, inst)?;
-    push_call(out, insts, &known.definitions, known.calls.as_slice(), inst)?;
+    push_call(
+        out,
+        insts,
+        &known.firsts.definitions,
+        known.calls.as_slice(),
+        inst,
+    )?;
     push_note(out, known.values.of(at))?;
     push_block(out, insts, known, at, inst)
 }
@@ -111,7 +123,7 @@ fn push_notes(
 fn push_notes_at(
     out: &mut String,
     insts: &[Inst<'_>],
-    known: &Known,
+    known: &Known<'_>,
     at: u32,
 ) -> Result<(), AllocError>
     requires known { IsKnown (map plain_inst insts.now) known.now }
@@ -124,7 +136,7 @@ fn push_notes_at(
 
 /// Whether it is found at once that there are no notes on an instruction.
 #[inline(always)]
-pub fn is_bare(known: &Known, at: u32, inst: &Inst<'_>) -> bool
+pub fn is_bare(known: &Known<'_>, at: u32, inst: &Inst<'_>) -> bool
     ensures { (is : List PlainInst) → IsKnown is known.now → result ≡ true
         → notes is (value_in known.now.values at) at (plain_inst inst.now) ≡ [] }
 {
@@ -180,7 +192,7 @@ fn push_place(out: &mut String, omitted: usize, at: u32, word: u32) -> Result<()
 pub fn push_comment(
     out: &mut String,
     insts: &[Inst<'_>],
-    known: &Known,
+    known: &Known<'_>,
     at: u32,
     word: u32,
     line: &str,
