@@ -1,8 +1,8 @@
 -- Texts that are put together in a buffer, from the front.
 use Rattle.std.proofs.Common.{◌≡◌, ◌++◌, ◌∙◌, ◌<◌, ◌≤◌, ◌+◌, ℕ, List, [], ◌∷◌, Bool, true, false, ◌&&◌, length, take}
-use Rattle.std.proofs.Common.{set, get_or, refl, sym, ap, subst, arith, append_assoc, append-nil}
+use Rattle.std.proofs.Common.{set, get_or, refl, sym, ap, subst, arith, append_assoc, append-nil, length-take-le}
 use Rattle.std.specs.Prelude.{IfOk, IsUtf8, Result as Answer, Ok, Err, nat_lt, ◌==◌}
-use Rattle.std.specs.List.{AllByRecursion}
+use Rattle.std.specs.List.{AllByRecursion, list_all}
 use Rattle.std.proofs.Math.Seq.{take-length}
 use Rattle.std.proofs.lemmas.Bool.Decides.{nat_tests}
 use Rattle.std.proofs.lemmas.List.{take_more}
@@ -82,6 +82,23 @@ copied_more old buffer octets at count h l p c =
       within = omega (arith, l);
       plain = rw m (all_snoc (λ b. is_plain b ≡ true) _ _ c.plain p);
       all = copied_next old buffer octets at count h l c.all;
+    }
+
+-- octets that are copied at once
+
+all_plain : (xs : List ℕ) → list_all is_plain xs ≡ true → AllByRecursion (λ b. is_plain b ≡ true) xs
+all_plain [] h = tt
+all_plain (x ∷ xs) h = let r = both (is_plain x) (list_all is_plain xs) h in (r.0, all_plain xs r.1)
+
+pub copied_lead : (old new octets lead : List ℕ) (at count : ℕ) → count ≤ length octets
+    → lead ≡ take count octets → list_all is_plain lead ≡ true
+    → take (at + length lead) new ≡ take at old ++ lead → IsCopied octets at count old new
+copied_lead old new octets lead at count l s p e =
+    let k : length lead ≡ count = ap length s ∙ length-take-le count octets l in
+    record {
+      within = l;
+      plain = subst (λ (z : List ℕ). AllByRecursion (λ b. is_plain b ≡ true) z) s (all_plain lead p);
+      all = ap (λ n. take (at + n) new) (sym k) ∙ (e ∙ ap (λ z. take at old ++ z) s);
     }
 
 -- texts that are put together partly in a page, and partly in a buffer

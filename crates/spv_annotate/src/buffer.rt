@@ -35,6 +35,17 @@ pub fn put_number(buffer: &mut [u8], number: u32, end: usize) -> usize
     write_digits(u64::from(number), buffer, end)
 }
 
+/// Adds a number in decimal behind a short text.
+///
+/// An `AllocError` comes only where a growth of memory was refused, and then nothing is said of what is left.
+#[inline(always)]
+pub fn push_behind(out: &mut String, begin: &str, number: u32) -> Result<(), AllocError>
+    requires { length begin.now ≤ most_beside }
+    ensures { OnOk result (string_bytes out.new ≡ string_bytes out.old ++ (begin.now ++ decimal number)) }
+{
+    push_between(out, begin, number, "")
+}
+
 /// Adds a number in decimal between two short texts.
 ///
 /// An `AllocError` comes only where a growth of memory was refused, and then nothing is said of what is left.

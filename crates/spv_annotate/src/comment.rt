@@ -6,7 +6,7 @@ ghost use Rattle.spv_module.specs.Operand.{PlainInst};
 ghost use Rattle.spv_layout.specs.Place.{first_word_of};
 ghost use Rattle.spv_annotate.specs.declared.comment.TheConstants.{PLACE};
 ghost use Rattle.spv_annotate.specs.Module.{inst_at};
-ghost use Rattle.spv_annotate.specs.Notes.{block_note, column, comment, gap, notes, place_text};
+ghost use Rattle.spv_annotate.specs.Notes.{block_note, column, comment, gap, name_notes, notes, place_text};
 ghost use Rattle.spv_annotate.specs.inner.Known.{IsKnown};
 ghost use Rattle.spv_annotate.specs.inner.Numbers.{kept};
 ghost use Rattle.spv_annotate.specs.inner.Values.{value_in};
@@ -40,7 +40,7 @@ pub fn left_out(count: usize) -> usize
 fn push_block(
     out: &mut String,
     insts: &[Inst<'_>],
-    known: &Known,
+    known: &Known<'_>,
     at: u32,
     inst: &Inst<'_>,
 ) -> Result<(), AllocError>
@@ -54,17 +54,52 @@ fn push_block(
     let Some(label) = inst.result_id() else {
         return Ok(());
     };
-    if known.definitions.get(label) != Some(at) {
+    if known.firsts.definitions.get(label) != Some(at) {
         return Ok(());
     }
     push_predecessors(out, &known.edges, label)
+}
+
+/// Whether it is found at once that no name stands in the comment on an instruction.
+#[inline(always)]
+fn is_nameless(known: &Known<'_>, inst: &Inst<'_>) -> bool
+    ensures { (is : List PlainInst) → IsKnown is known.now → result ≡ true
+        → name_notes is (plain_inst inst.now) ≡ [] }
+{
+    if inst.opcode == opcode::NAME {
+        return true;
+    }
+    !known.named
+}
+
+/// Adds the names of the ids on the line of an instruction.
+fn push_known_names(
+    out: &mut String,
+    insts: &[Inst<'_>],
+    known: &Known<'_>,
+    inst: &Inst<'_>,
+) -> Result<(), AllocError>
+    requires { IsKnown (map plain_inst insts.now) known.now }
+    ensures { OnOk result (string_bytes out.new ≡ string_bytes out.old ++ name_notes (map plain_inst insts.now)
+        (plain_inst inst.now)) }
+{
+    if is_nameless(known, inst) {
+        return Ok(());
+    }
+    push_names(
+        out,
+        insts,
+        &known.firsts.definitions,
+        &known.firsts.namings,
+        inst,
+    )
 }
 
 /// Adds the notes on an instruction.
 fn push_notes(
     out: &mut String,
     insts: &[Inst<'_>],
-    known: &Known,
+    known: &Known<'_>,
     at: u32,
     inst: &Inst<'_>,
 ) -> Result<(), AllocError>
@@ -72,8 +107,14 @@ fn push_notes(
     ensures { OnOk result (string_bytes out.new ≡ string_bytes out.old ++ notes (map plain_inst insts.now)
         (value_in known.now.values at) at (plain_inst inst.now)) }
 {
-    push_names(out, insts, &known.definitions, &known.namings, inst)?;
-    push_call(out, insts, &known.definitions, known.calls.as_slice(), inst)?;
+    push_known_names(out, insts, known, inst)?;
+    push_call(
+        out,
+        insts,
+        &known.firsts.definitions,
+        known.calls.as_slice(),
+        inst,
+    )?;
     push_note(out, known.values.of(at))?;
     push_block(out, insts, known, at, inst)
 }
@@ -82,7 +123,7 @@ fn push_notes(
 fn push_notes_at(
     out: &mut String,
     insts: &[Inst<'_>],
-    known: &Known,
+    known: &Known<'_>,
     at: u32,
 ) -> Result<(), AllocError>
     requires known { IsKnown (map plain_inst insts.now) known.now }
@@ -95,11 +136,11 @@ fn push_notes_at(
 
 /// Whether it is found at once that there are no notes on an instruction.
 #[inline(always)]
-pub fn is_bare(known: &Known, at: u32, inst: &Inst<'_>) -> bool
+pub fn is_bare(known: &Known<'_>, at: u32, inst: &Inst<'_>) -> bool
     ensures { (is : List PlainInst) → IsKnown is known.now → result ≡ true
         → notes is (value_in known.now.values at) at (plain_inst inst.now) ≡ [] }
 {
-    if known.named {
+    if !is_nameless(known, inst) {
         return false;
     }
     if inst.opcode == opcode::EXT_INST || inst.opcode == opcode::LABEL {
@@ -151,7 +192,7 @@ fn push_place(out: &mut String, omitted: usize, at: u32, word: u32) -> Result<()
 pub fn push_comment(
     out: &mut String,
     insts: &[Inst<'_>],
-    known: &Known,
+    known: &Known<'_>,
     at: u32,
     word: u32,
     line: &str,

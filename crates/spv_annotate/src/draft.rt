@@ -2,12 +2,14 @@
 
 ghost use Rattle.std.specs.Prelude.{◌≡◌, ◌≤◌, ◌+◌, ◌++◌, IfOk, IsUtf8, OnOk, decimal, length};
 ghost use Rattle.std.specs.Prelude.{string_bytes, take, true};
+ghost use Rattle.std.specs.List.{list_all};
 ghost use Rattle.spv_annotate.specs.declared.draft.TheConstants.{FULL, SIZE};
 ghost use Rattle.spv_annotate.specs.inner.Draft.{IsAdded, IsCopied, IsDrafted};
 ghost use Rattle.spv_annotate.specs.inner.Draft as specs;
 
 use crate::buffer::put_number;
 use crate::html::is_mark;
+use memchr::memchr;
 use std::alloc::AllocError;
 use std::str::from_utf8_unchecked;
 
@@ -19,6 +21,9 @@ pub const FULL: usize = 1024;
 
 /// The size of a buffer for a number, which ends in its middle.
 const TOKEN: usize = 32;
+
+/// How many octets may stand before an id that are copied at once.
+const LONGEST_LEAD: usize = 128;
 
 /// Adds a text behind a place, and gives where it ends.
 #[inline(always)]
@@ -76,6 +81,56 @@ pub fn add_plain(buffer: &mut [u8], octets: &[u8], at: usize) -> usize
         buffer[at + count] = octet;
         count += 1;
     }
+    count
+}
+
+/// The same as `is_plain`, told exactly and of any octet alike.
+#[inline(always)]
+fn is_plain_octet(octet: u8) -> bool
+    ensures { result ≡ specs.is_plain octet }
+{
+    octet < 128 && !(octet == b'%' || is_mark(octet))
+}
+
+/// Whether all octets are plain. It looks at all of them, so that a compiler can take many at a time.
+fn are_plain(octets: &[u8]) -> bool
+    ensures { result ≡ list_all specs.is_plain octets.now }
+{
+    let mut plain = true;
+    for octet in octets {
+        plain &= is_plain_octet(*octet);
+    }
+    plain
+}
+
+/// Copies octets behind a place.
+#[inline(always)]
+fn put_plain(buffer: &mut [u8], octets: &[u8], at: usize)
+    requires { at + length octets.now ≤ length buffer.old }
+    ensures { take (at + length octets.now) buffer.new ≡ take at buffer.old ++ octets.now }
+{
+    buffer[at..at + octets.len()].copy_from_slice(octets);
+}
+
+/// Copies the octets before the first `%` behind a place, if all of them are plain, and gives how many they are. Where
+/// one is not, where there is no `%`, and where they are more than 128, it copies none.
+#[inline(always)]
+pub fn add_lead(buffer: &mut [u8], octets: &[u8], at: usize) -> usize
+    requires { at + 128 ≤ length buffer.old }
+    ensures copied { IsCopied octets.now at result buffer.old buffer.new }
+    ensures few { result ≤ 128 }
+{
+    let Some(count) = memchr(b'%', octets) else {
+        return 0;
+    };
+    if count > LONGEST_LEAD {
+        return 0;
+    }
+    let lead = &octets[..count];
+    if !are_plain(lead) {
+        return 0;
+    }
+    put_plain(buffer, lead, at);
     count
 }
 

@@ -9,7 +9,7 @@ ghost use Rattle.spv_annotate.specs.inner.Linked.{base};
 ghost use Rattle.spv_annotate.specs.inner.Numbers.{kept};
 ghost use Rattle.spv_annotate.specs.declared.linked.Quoting.TheVariants.{Commented};
 
-use crate::draft::{add_number, add_plain, add_text, push_draft};
+use crate::draft::{add_lead, add_number, add_plain, add_text, push_draft};
 use crate::linked::{Quoting, is_bare, lean_id, push_linked};
 use crate::numbers::Numbers;
 use std::alloc::AllocError;
@@ -203,6 +203,35 @@ pub fn push_drafted(
     Ok(0)
 }
 
+/// Adds a comment, as `push_drafted` a line. What stands before the first id is mostly long, and is copied at once.
+#[inline(never)]
+fn push_mixed(
+    out: &mut String,
+    buffer: &mut [u8],
+    definitions: &Numbers,
+    text: &str,
+    at: usize,
+) -> Result<usize, AllocError>
+    requires size { SIZE ≤ length buffer.old }
+    requires begin { at + 128 ≤ most_begun }
+    requires utf8 { IsUtf8 (take at buffer.old) }
+    ensures high { IfOk result (λ end. end ≤ most_ended) }
+    ensures utf8 { IfOk result (λ end. IsUtf8 (take end buffer.new)) }
+    ensures text { IfOk result (λ end. string_bytes out.new ++ take end buffer.new
+        ≡ string_bytes out.old ++ (take at buffer.old ++ linked (kept definitions.now) Commented text.now)) }
+{
+    let count = add_lead(buffer, text.as_bytes(), at);
+    let rest = &text[count..];
+    push_drafted(
+        out,
+        buffer,
+        definitions,
+        Quoting::Commented,
+        rest,
+        at + count,
+    )
+}
+
 /// Adds a comment in which ids have links, as `push_drafted` a line.
 ///
 /// An `AllocError` comes only where a growth of memory was refused, and then nothing is said of what is left.
@@ -214,7 +243,7 @@ pub fn push_remark(
     at: usize,
 ) -> Result<usize, AllocError>
     requires size { SIZE ≤ length buffer.old }
-    requires begin { at ≤ most_begun }
+    requires begin { at + 128 ≤ most_begun }
     requires utf8 { IsUtf8 (take at buffer.old) }
     ensures high { IfOk result (λ end. end ≤ most_ended) }
     ensures utf8 { IfOk result (λ end. IsUtf8 (take end buffer.new)) }
@@ -222,7 +251,7 @@ pub fn push_remark(
         ≡ string_bytes out.old ++ (take at buffer.old ++ linked (kept definitions.now) Commented text.now)) }
 {
     if !is_bare(text.as_bytes()) {
-        return push_drafted(out, buffer, definitions, Quoting::Commented, text, at);
+        return push_mixed(out, buffer, definitions, text, at);
     }
     if text.len() > LONGEST {
         push_draft(out, buffer, at)?;

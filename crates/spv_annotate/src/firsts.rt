@@ -31,9 +31,14 @@ fn keep(numbers: &mut Numbers, id: Option<u32>, number: u32) -> Result<(), Alloc
 }
 
 /// The id that an instruction names, if it is an OpName.
+#[inline(always)]
 fn named_by(inst: &Inst<'_>) -> Option<u32>
     ensures { result ≡ specs.named_by (plain_inst inst.now) }
 {
+    // Most are none, as is seen without a call.
+    if inst.opcode != opcode::NAME {
+        return None;
+    }
     let (id, _) = named(Naming::Name, inst)?;
     Some(id)
 }

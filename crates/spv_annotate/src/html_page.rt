@@ -12,13 +12,15 @@ ghost use Rattle.spv_annotate.specs.Module.{definition_of, function_of};
 ghost use Rattle.spv_annotate.specs.Page.{IsPage, IsScene, beginnings, contents_of, front_of, id_html, if_asked};
 ghost use Rattle.spv_annotate.specs.Page.{notice, on_page, page_of, users_of};
 ghost use Rattle.spv_annotate.specs.inner.Edges.{leading};
+ghost use Rattle.spv_annotate.specs.inner.Known.{AreFirsts};
 ghost use Rattle.spv_annotate.specs.inner.Numbers.{kept};
 ghost use Rattle.spv_annotate.specs.inner.Look.{scene};
 
 use crate::draft::SIZE;
 use crate::finding::Finding;
-use crate::firsts::{find_asked, find_definitions, find_namings};
+use crate::firsts::find_asked;
 use crate::html::push_escaped;
+use crate::known::Firsts;
 use crate::linked::push_link;
 use crate::look::Look;
 use crate::numbers::Numbers;
@@ -154,11 +156,13 @@ fn push_lines(
     look: Look<'_, '_>,
     table: &Table,
     module: &Module<'_>,
+    firsts: &Firsts,
     reach: Reach,
     finding: Option<Finding<'_>>,
     function: Option<u32>,
 ) -> Result<String, AllocError>
     requires spelled { IsSpelled table.now (plain_insts «module».now) }
+    requires firsts { AreFirsts (plain_insts «module».now) firsts.now }
     requires words { IsShort (plain_insts «module».now) }
     ensures { IfOk result (λ t. (S : Subject) × IsSubject table.now reach «module».now finding.entry function S
         × (string_bytes t ≡ string_bytes out ++ flat_map (page_of (scene look.entry)) (document S))) }
@@ -173,6 +177,7 @@ fn push_lines(
     write_text(
         look.alloc,
         module,
+        firsts,
         reach,
         finding,
         function,
@@ -189,19 +194,21 @@ fn page_by(
     look: Look<'_, '_>,
     table: &Table,
     module: &Module<'_>,
+    firsts: &Firsts,
     reach: Reach,
     title: &str,
     finding: Option<Finding<'_>>,
     function: Option<u32>,
 ) -> Result<String, AllocError>
     requires known { IsScene (plain_insts «module».now) finding function (scene look) }
+    requires firsts { AreFirsts (plain_insts «module».now) firsts.now }
     requires spelled { IsSpelled table.now (plain_insts «module».now) }
     requires words { IsShort (plain_insts «module».now) }
     ensures { IfOk result (λ t. IsPage table.now reach «module».now title.now finding.entry function (string_bytes t)) }
 {
     let mut front = page_contents(look, title, finding, function)?;
     front.push_str(MIDDLE)?;
-    let mut out = push_lines(front, look, table, module, reach, finding, function)?;
+    let mut out = push_lines(front, look, table, module, firsts, reach, finding, function)?;
     out.push_str(END)?;
     Ok(out)
 }
@@ -211,6 +218,7 @@ fn page_over(
     alloc: Global,
     table: &Table,
     module: &Module<'_>,
+    firsts: &Firsts,
     reach: Reach,
     title: &str,
     finding: Option<Finding<'_>>,
@@ -219,6 +227,7 @@ fn page_over(
     uses: &Uses,
 ) -> Result<String, AllocError>
     requires spelled { IsSpelled table.now (plain_insts «module».now) }
+    requires firsts { AreFirsts (plain_insts «module».now) firsts.now }
     requires words { IsShort (plain_insts «module».now) }
     requires definitions { (x : ℕ) → kept definitions.now x
         ≡ option_and_then (if_asked (plain_insts «module».now) function) (definition_of (plain_insts «module».now) x) }
@@ -226,19 +235,18 @@ fn page_over(
     ensures { IfOk result (λ t. IsPage table.now reach «module».now title.now finding.entry function (string_bytes t)) }
 {
     let insts = module.insts.as_slice();
-    let namings = find_namings(alloc, insts)?;
     let walk = walk_of(alloc, finding)?;
     let look = Look {
         alloc,
         insts,
         definitions,
-        namings: &namings,
+        namings: &firsts.namings,
         uses,
         fault: fault_of(finding),
         faulty: faulty_of(insts, finding),
         walk: &walk,
     };
-    page_by(look, table, module, reach, title, finding, function)
+    page_by(look, table, module, firsts, reach, title, finding, function)
 }
 
 /// The page of a module that words spell: what `annotate` writes, as a document of HTML that needs nothing beside it.
@@ -263,23 +271,24 @@ pub fn page(
     ensures { IfOk result (λ t. IsPage table.now reach «module».now title.now finding.entry function (string_bytes t)) }
 {
     let insts = module.insts.as_slice();
-    let definitions = find_definitions(alloc, insts)?;
-    let uses = Uses::new(alloc, insts, &definitions, function)?;
+    let firsts = Firsts::new(alloc, insts)?;
+    let uses = Uses::new(alloc, insts, &firsts.definitions, function)?;
     if function.is_none() {
         return page_over(
             alloc,
             table,
             module,
+            &firsts,
             reach,
             title,
             finding,
             function,
-            &definitions,
+            &firsts.definitions,
             &uses,
         );
     }
-    let asked = find_asked(alloc, insts, &definitions, function)?;
+    let asked = find_asked(alloc, insts, &firsts.definitions, function)?;
     page_over(
-        alloc, table, module, reach, title, finding, function, &asked, &uses,
+        alloc, table, module, &firsts, reach, title, finding, function, &asked, &uses,
     )
 }

@@ -13,11 +13,11 @@ ghost use Rattle.spv_annotate.specs.Notes.{each_once, name_note, name_notes, nam
 ghost use Rattle.spv_annotate.specs.inner.Numbers.{kept};
 ghost use Rattle.spv_annotate.specs.inner.Seen.{if_unseen};
 
+use crate::buffer::push_between;
 use crate::literals::{signature_at, told};
 use crate::numbers::Numbers;
 use crate::seen::Seen;
 use crate::short::push_short;
-use crate::words::push_id;
 use spv_extended::Signature;
 use spv_module::{Inst, Operand, opcode};
 use spv_names::{Naming, named};
@@ -48,9 +48,7 @@ fn push_name(out: &mut String, insts: &[Inst<'_>], id: u32, naming: u32) -> Resu
     ensures { OnOk result (string_bytes out.new
         ≡ string_bytes out.old ++ name_text (map plain_inst insts.now) id (Some naming)) }
 {
-    out.push_str(", ")?;
-    push_id(out, id)?;
-    out.push(' ')?;
+    push_between(out, ", %", id, " ")?;
     push_short(out, name_at(insts, naming))
 }
 

@@ -33,10 +33,9 @@ impl<'p, 'a> Pen for PagePen<'p, 'a> {
 
     #[inline(always)]
     fn write(&mut self, piece: Piece<'_>) -> Result<(), AllocError> {
-        let look = self.look;
         let at = self.at;
         self.at = 0;
-        self.at = look.push(&mut self.out, &mut self.buffer, at, piece)?;
+        self.at = self.look.push(&mut self.out, &mut self.buffer, at, piece)?;
         Ok(())
     }
 }

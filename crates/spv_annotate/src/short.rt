@@ -1,10 +1,13 @@
 //! Names in comments, of which a long one is cut.
 
-ghost use Rattle.std.specs.Prelude.{◌≡◌, ◌≤◌, ◌<◌, ◌++◌, OnOk, length, string_bytes, take};
+ghost use Rattle.std.specs.Prelude.{◌≡◌, ◌≤◌, ◌<◌, ◌++◌, OnOk, length, string_bytes, take, true};
+ghost use Rattle.std.specs.List.{list_all};
 ghost use Rattle.spv_lines.specs.Plain as plain;
 ghost use Rattle.spv_annotate.specs.Notes as specs;
 ghost use Rattle.spv_annotate.specs.Notes.{beginning_of, cut_at, short_by, short_name};
+ghost use Rattle.spv_annotate.specs.inner.Tame as tame;
 
+use crate::html::is_mark;
 use crate::tame::push_tame;
 use std::alloc::AllocError;
 
@@ -111,11 +114,46 @@ fn push_short_by(out: &mut String, most: usize, name: &str) -> Result<(), AllocE
     out.push_str("..")
 }
 
+/// Whether an octet is of ASCII, is no control character, and stands in HTML for itself.
+#[inline(always)]
+fn is_single(octet: u8) -> bool
+    ensures { result ≡ tame.is_single octet }
+{
+    octet >= 32 && octet < 127 && !is_mark(octet)
+}
+
+/// Whether all octets are such.
+#[inline(always)]
+fn are_single(octets: &[u8]) -> bool
+    ensures { result ≡ list_all tame.is_single octets.now }
+{
+    for octet in octets {
+        if !is_single(*octet) {
+            return false;
+        }
+    }
+    true
+}
+
+/// Whether it is found at once that a name is told as it is, as most are.
+#[inline(always)]
+fn is_told_whole(name: &str) -> bool
+    ensures { result ≡ true → short_name name.now ≡ name.now }
+{
+    if name.len() > MOST {
+        return false;
+    }
+    are_single(name.as_bytes())
+}
+
 /// Adds a name without its control characters, or the beginning of a long one.
 ///
 /// An `AllocError` comes only where a growth of memory was refused, and then nothing is said of what is left.
 pub fn push_short(out: &mut String, name: &str) -> Result<(), AllocError>
     ensures { OnOk result (string_bytes out.new ≡ string_bytes out.old ++ short_name name.now) }
 {
+    if is_told_whole(name) {
+        return out.push_str(name);
+    }
     push_short_by(out, told_most(name), name)
 }

@@ -3,6 +3,7 @@
 ghost use Rattle.std.specs.Prelude.{◌≡◌, ◌++◌, ◌∷◌, OnOk, decimal, string_bytes};
 ghost use Rattle.spv_lines.specs.Operand.{id_text};
 
+use crate::buffer::push_behind;
 use itoa::Buffer;
 use std::alloc::AllocError;
 
@@ -18,6 +19,5 @@ pub fn push_number(out: &mut String, number: u64) -> Result<(), AllocError>
 pub fn push_id(out: &mut String, id: u32) -> Result<(), AllocError>
     ensures { OnOk result (string_bytes out.new ≡ string_bytes out.old ++ id_text id) }
 {
-    out.push('%')?;
-    push_number(out, u64::from(id))
+    push_behind(out, "%", id)
 }

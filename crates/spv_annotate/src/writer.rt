@@ -19,7 +19,7 @@ ghost use Rattle.spv_annotate.specs.Called.{told_line, unmarked};
 ghost use Rattle.spv_annotate.specs.Module.{function_of, inst_at};
 ghost use Rattle.spv_annotate.specs.Notes.{comment, gap, place_text};
 ghost use Rattle.spv_annotate.specs.Piece.{Break, Comment, IsWritten, Line};
-ghost use Rattle.spv_annotate.specs.inner.Known.{IsKnown};
+ghost use Rattle.spv_annotate.specs.inner.Known.{AreFirsts, IsKnown};
 ghost use Rattle.spv_annotate.specs.inner.Standing.{IsStanding, section_behind};
 ghost use Rattle.spv_annotate.specs.inner.Tame.{is_tame_octet};
 ghost use Rattle.spv_annotate.specs.inner.Task.{subject_of};
@@ -27,7 +27,7 @@ ghost use Rattle.spv_annotate.specs.inner.Values.{value_in};
 
 use crate::comment::{PLACE, is_bare, left_out, place_in, push_comment};
 use crate::finding::Finding;
-use crate::known::Known;
+use crate::known::{Firsts, Known};
 use crate::literals::{push_unmarked, signature_at};
 use crate::outline::{function_at, is_in_asked};
 use crate::piece::{Pen, Piece};
@@ -52,7 +52,7 @@ pub struct Task<'m, 'a> {
     /// How far it is looked at.
     reach: Reach,
     /// What is known of it.
-    known: &'m Known,
+    known: &'m Known<'m>,
     /// What is told of a fault.
     finding: Option<Finding<'m>>,
     /// The function that is asked for.
@@ -352,7 +352,7 @@ fn write_call<P: Pen>(
         0 Outside line.now))) pen.old pen.new) }
 {
     let insts = task.module.insts.as_slice();
-    let signature = signature_at(insts, &task.known.definitions, &insts[at as usize]);
+    let signature = signature_at(insts, &task.known.firsts.definitions, &insts[at as usize]);
     let mut told = String::new(task.alloc);
     push_unmarked(&mut told, signature, line)?;
     write_line(pen, task, drafts, at, word, false, told.as_str())
@@ -482,12 +482,14 @@ fn write_shown<P: Pen>(pen: &mut P, task: &Task<'_, '_>, text: &str) -> Result<(
 pub fn write_text<P: Pen>(
     alloc: Global,
     module: &Module<'_>,
+    firsts: &Firsts,
     reach: Reach,
     finding: Option<Finding<'_>>,
     function: Option<u32>,
     text: &str,
     pen: &mut P,
 ) -> Result<(), AllocError>
+    requires firsts { AreFirsts (plain_insts «module».now) firsts.now }
     requires words { IsShort (plain_insts «module».now) }
     requires shown { (G : TableView) × IsSpelled G (plain_insts «module».now)
         × IsShownText G «module».now.header (plain_insts «module».now) text.now }
@@ -496,7 +498,7 @@ pub fn write_text<P: Pen>(
         → IsSubject G reach «module».now finding.entry function S)
         × IsWritten P.text P.writes (document S) pen.old pen.new) }
 {
-    let known = Known::new(alloc, module.insts.as_slice())?;
+    let known = Known::new(alloc, module.insts.as_slice(), firsts)?;
     let task = Task {
         alloc,
         module,
@@ -534,5 +536,15 @@ pub fn annotate_with<P: Pen>(
         × IsWritten P.text P.writes (document S) pen.old pen.new) }
 {
     let text = show_listed(alloc, table, module)?;
-    write_text(alloc, module, reach, finding, function, text.as_str(), pen)
+    let firsts = Firsts::new(alloc, module.insts.as_slice())?;
+    write_text(
+        alloc,
+        module,
+        &firsts,
+        reach,
+        finding,
+        function,
+        text.as_str(),
+        pen,
+    )
 }

@@ -51,6 +51,7 @@ fn put_word(buffer: &mut [u8], word: u32, end: usize) -> usize
 }
 
 /// Puts what a line has of a result before a place, and gives where it begins.
+#[inline(always)]
 pub fn put_result(buffer: &mut [u8], id: Option<u32>, end: usize) -> usize
     requires room { 32 ≤ end }
     requires within { end ≤ length buffer.old }

@@ -238,7 +238,7 @@ pub fn add_operand<'t>(
     ensures { IfSome result (λ a. IsFront table.now printer.now.definitions kind (between image.now at end) draft a
         buffer.old buffer.new) }
 {
-    if buffer.len().saturating_sub(draft.at) < ROOM {
+    if buffer.len() < ROOM || draft.at > buffer.len() - ROOM {
         return None;
     }
     let Form::Leaf(leaf) = form_in(printer.forms, kind) else {

@@ -41,6 +41,15 @@ fn is_plain(octet: u8) -> bool
     octet == b' ' || octet == b'!'
 }
 
+/// How many of so many octets are looked at.
+#[inline(always)]
+fn looked_at(count: usize) -> usize
+    ensures within { result ≤ count }
+    ensures few { result ≤ 65 }
+{
+    if count <= LONGEST { count } else { LONGEST + 1 }
+}
+
 /// Copies octets up to the first that is zero behind a place, and gives how many they are. None where they are more
 /// than 64, or one of them is not plain (`is_plain`).
 #[inline(always)]
@@ -48,8 +57,9 @@ fn copy_plain(buffer: &mut [u8], octets: &[u8], at: usize) -> Option<usize>
     requires { at + 65 ≤ length buffer.old }
     ensures { IfSome result (λ n. IsCopied octets.now at n buffer.old buffer.new) }
 {
+    let end = looked_at(octets.len());
     let mut count = 0;
-    while count < octets.len() && count <= LONGEST {
+    while count < end {
         let octet = octets[count];
         if !is_plain(octet) {
             if octet == 0 {

@@ -84,7 +84,7 @@ fn add_listed<'t>(
     ensures { IfSome result (λ d. IsOneMore table.now printer.now.definitions (plain_operand operand.entry) draft d
         buffer.old buffer.new) }
 {
-    if buffer.len().saturating_sub(draft.at) < ROOM {
+    if buffer.len() < ROOM || draft.at > buffer.len() - ROOM {
         return None;
     }
     match operand {

@@ -10,7 +10,7 @@ use Rattle.spv_annotate.specs.inner.Linked.{base, is_bare_byte}
 
 -- up to where a line may begin in the buffer, and up to where it may end
 abbrev pub most_begun : ℕ
-most_begun = 1200
+most_begun = 1328
 
 abbrev pub most_ended : ℕ
 most_ended = 2300

@@ -9,5 +9,5 @@ pub returns : goal.returns
 returns c = λ is k h.
     let v = value_in c.args.known.now.values c.args.at in
     let z = ap length (sym c.of.ensures) ∙ zero_by (length c.of.result.now) (sym c.is_empty.ensures ∙ h) in
-    no_notes is v c.args.at (plain_inst c.args.inst.now)
-    (sym k.named ∙ c.if-known.false) c.if-inst-eq-EXT_INST.false c.if-inst-eq-LABEL.false z
+    no_notes is v c.args.at (plain_inst c.args.inst.now) (c.is_nameless.ensures is k c.if-not-is_nameless.false)
+    c.if-inst-eq-EXT_INST.false c.if-inst-eq-LABEL.false z

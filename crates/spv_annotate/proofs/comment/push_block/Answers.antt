@@ -7,7 +7,7 @@ pub returns : goal.returns
 returns c =
     let is = map plain_inst c.args.insts.now in
     let x = c.in-Some.label in
-    let d = sym (c.requires.definitions x)
+    let d = sym (c.requires.firsts.definitions x)
     ∙ (sym c.get.ensures ∙ same_number c.get.result c.args.at (sym c.ne.ensures ∙ c.if-ne.false)) in
     let r = sym c.result_id.ensures ∙ c.in-Some.is in
     let e = block_told is c.args.at (plain_inst c.args.inst.now) x c.args.known.now.edges.edges.items

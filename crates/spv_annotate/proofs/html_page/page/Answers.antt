@@ -7,12 +7,12 @@ use Rattle.spv_annotate.proofs.Asked.{all_asked}
 use Rattle.spv_annotate.proofs.Pages.{few}
 use Rattle.spv_annotate.proofs.html_page.page.Goals as goal
 
-pub find_definitions-requires : goal.find_definitions-requires
-find_definitions-requires c = rw (c.as_slice-insts.ensures.value) (few c.args.module.now.insts.items c.requires.words)
+pub new-requires : goal.new-requires
+new-requires c = rw (c.as_slice-insts.ensures.value) c.requires.words
 
 pub find_asked-requires-clause-few : goal.find_asked-requires-clause-few
 find_asked-requires-clause-few c =
     rw (c.as_slice-insts.ensures.value) (few c.args.module.now.insts.items c.requires.words)
 
-pub new-requires-clause-words : goal.new-requires-clause-words
-new-requires-clause-words c = rw (c.as_slice-insts.ensures.value) c.requires.words
+pub new-requires-2-clause-words : goal.new-requires-2-clause-words
+new-requires-2-clause-words c = rw (c.as_slice-insts.ensures.value) c.requires.words

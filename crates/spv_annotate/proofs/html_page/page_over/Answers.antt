@@ -1,12 +1,8 @@
 use Rattle.std.proofs.Common.{◌∙◌, ap, map}
 use Rattle.std.specs.Prelude.{option_and_then}
 use Rattle.spv_module.specs.Module.{plain_inst}
-use Rattle.spv_annotate.specs.Module.{function_of, naming_of}
-use Rattle.spv_annotate.proofs.Pages.{few}
+use Rattle.spv_annotate.specs.Module.{function_of}
 use Rattle.spv_annotate.proofs.html_page.page_over.Goals as goal
-
-pub find_namings-requires : goal.find_namings-requires
-find_namings-requires c = rw (c.as_slice-insts.ensures.value) (few c.args.module.now.insts.items c.requires.words)
 
 pub page_by-requires-clause-known : goal.page_by-requires-clause-known
 page_by-requires-clause-known c =
@@ -14,7 +10,7 @@ page_by-requires-clause-known c =
     record {
       insts = ap (map plain_inst) v;
       definition = c.requires.definitions;
-      naming = λ x. c.in_ok-namings.ensures x ∙ ap (λ z. naming_of (map plain_inst z) x) v;
+      naming = c.requires.firsts.namings;
       users = c.requires.uses;
       fault = c.fault_of.ensures;
       faulty = c.faulty_of.ensures ∙ ap (λ z. option_and_then (λ f. function_of (map plain_inst z) f.inst)

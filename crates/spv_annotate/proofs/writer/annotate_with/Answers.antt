@@ -7,6 +7,9 @@ use Rattle.spv_annotate.specs.Document.{IsSpelled, IsSubject, Subject, document}
 use Rattle.spv_annotate.specs.Piece.{IsWritten}
 use Rattle.spv_annotate.proofs.writer.annotate_with.Goals as goal
 
+pub new-requires : goal.new-requires
+new-requires g c = rw c.as_slice.ensures.value c.requires.words
+
 pub write_text-requires-clause-shown : goal.write_text-requires-clause-shown
 write_text-requires-clause-shown g c =
     let m = c.args.module.now in

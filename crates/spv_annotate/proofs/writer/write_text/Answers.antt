@@ -12,8 +12,11 @@ use Rattle.spv_annotate.proofs.Shown.{shown_count}
 use Rattle.spv_annotate.proofs.Texts.{text_lines}
 use Rattle.spv_annotate.proofs.writer.write_text.Goals as goal
 
-pub new-requires : goal.new-requires
-new-requires g c = rw c.as_slice.ensures.value c.requires.words
+pub new-requires-clause-words : goal.new-requires-clause-words
+new-requires-clause-words g c = rw c.as_slice.ensures.value c.requires.words
+
+pub new-requires-clause-firsts : goal.new-requires-clause-firsts
+new-requires-clause-firsts g c = rw c.as_slice.ensures.value c.requires.firsts
 
 pub write_shown-requires-clause-header : goal.write_shown-requires-clause-header
 write_shown-requires-clause-header g c =

@@ -33,7 +33,7 @@ returns-in-Value c =
             (record { at = c.in_ok-at.at; result = u.result; type_id = u.type_id }) c.args.buffer.now
             c.add_name.new.buffer c.add_name.auto.buffer a (rw d.shown c.in_ok-at.ensures) d.steady d.result refl
             (sym (or_none u.type_id) ∙ ap (λ z. option_or u.type_id z) (sym d.type_id))
-            (omega (arith, c.if-saturating_sub-lt-ROOM.false, c.saturating_sub.ensures));
+            (omega (arith, c.if-buffer-lt-ROOM.false, c.if-draft-buffer.false));
       };
     }
 

@@ -1,4 +1,4 @@
-use Rattle.std.proofs.Common.{◌≡◌, ◌≢◌, ◌<◌, ◌+◌, ◌∙◌, refl, sym, arith, take, append-nil, length-set}
+use Rattle.std.proofs.Common.{◌≡◌, ◌≢◌, ◌<◌, ◌+◌, ◌∙◌, refl, sym, arith, length, take, append-nil, length-set}
 use Rattle.std.proofs.lemmas.List.{take_more}
 use Rattle.spv_printer.proofs.Drafts.{plain_next}
 use Rattle.spv_printer.proofs.Shorts.{all_snoc, copied_next}
@@ -22,7 +22,10 @@ loop-count-preserved c =
     let i = c.loop-count.invariant in
     let s = i.size in
     let r = c.requires in
-    let t = c.loop-count-test.true in
+    let w = c.looked_at-end.ensures.within in
+    let f = c.looked_at-end.ensures.few in
+    let l = c.loop-count-test.true in
+    let t : c.loop-count.count < length c.args.octets.now = omega (arith, w, l) in
     let m = take_more c.args.octets.now c.loop-count.count 0 t in
     let p = c.if-not-is_plain.ensures refl in
     record {

@@ -9,7 +9,7 @@ use Rattle.spv_printer.proofs.listed_line.add_listed.Goals as goal
 pub returns-in-OfType : goal.returns-in-OfType
 returns-in-OfType c =
     let room : c.args.draft.at + 96 ≤ length c.args.buffer.now = omega
-    (arith, c.if-saturating_sub-lt-ROOM.false, c.saturating_sub.ensures) in
+    (arith, c.if-buffer-lt-ROOM.false, c.if-draft-buffer.false) in
     rw c.in-OfType.is (record {
       added = λ os h. drafted_more c.args.table.now _ os
           (OfType c.in-OfType.id) c.args.draft _ c.args.buffer.now c.add_id.new.buffer c.add_id.auto.buffer h
@@ -25,7 +25,7 @@ returns-in-None c = rw c.in-Result.is (record {
 pub returns-in-Id : goal.returns-in-Id
 returns-in-Id c =
     let room : c.args.draft.at + 96 ≤ length c.args.buffer.now = omega
-    (arith, c.if-saturating_sub-lt-ROOM.false, c.saturating_sub.ensures) in
+    (arith, c.if-buffer-lt-ROOM.false, c.if-draft-buffer.false) in
     rw c.in-Id.is (name_more c.args.table.now _ (Id c.in-Id.id)
     (id_text c.in-Id.id) c.args.draft _ c.args.buffer.now c.add_other_id.new.buffer c.add_other_id.auto.buffer room
     refl refl refl refl c.add_other_id.ensures)
@@ -33,7 +33,7 @@ returns-in-Id c =
 pub returns-in-Word : goal.returns-in-Word
 returns-in-Word c =
     let room : c.args.draft.at + 96 ≤ length c.args.buffer.now = omega
-    (arith, c.if-saturating_sub-lt-ROOM.false, c.saturating_sub.ensures) in
+    (arith, c.if-buffer-lt-ROOM.false, c.if-draft-buffer.false) in
     rw c.in-Word.is (text_more c.args.table.now _
     (Word c.in-Word.word) c.args.draft _ c.args.buffer.now c.add_word.new.buffer c.add_word.auto.buffer room refl
     refl refl c.add_word.ensures refl refl)
@@ -44,7 +44,7 @@ returns-in-Number c = rw c.in-Number.is (c.add_number.ensures c.args.table.now)
 pub returns-in_ok-label-in-Value : goal.returns-in_ok-label-in-Value
 returns-in_ok-label-in-Value c =
     let room : c.args.draft.at + 96 ≤ length c.args.buffer.now = omega
-    (arith, c.if-saturating_sub-lt-ROOM.false, c.saturating_sub.ensures) in
+    (arith, c.if-buffer-lt-ROOM.false, c.if-draft-buffer.false) in
     let o = Value c.in-Value.kind c.in-Value.value in
     rw c.in-Value.is (some_by c.add_label.result
     (λ d a. name_more c.args.table.now _ o c.in_ok-label-in-Value.label.name.now c.args.draft d c.args.buffer.now
@@ -54,7 +54,7 @@ returns-in_ok-label-in-Value c =
 pub returns-in_ok-bits-in-Mask : goal.returns-in_ok-bits-in-Mask
 returns-in_ok-bits-in-Mask c =
     let room : c.args.draft.at + 96 ≤ length c.args.buffer.now = omega
-    (arith, c.if-saturating_sub-lt-ROOM.false, c.saturating_sub.ensures) in
+    (arith, c.if-buffer-lt-ROOM.false, c.if-draft-buffer.false) in
     let o = Mask c.in-Mask.kind c.in-Mask.value in
     rw c.in-Mask.is (some_by c.add_label-in-Mask.result
     (λ d a. name_more c.args.table.now _ o c.in_ok-bits-in-Mask.bits.name.now c.args.draft d c.args.buffer.now
@@ -64,7 +64,7 @@ returns-in_ok-bits-in-Mask c =
 pub returns-in_ok-at-in-Text : goal.returns-in_ok-at-in-Text
 returns-in_ok-at-in-Text c =
     let room : c.args.draft.at + 96 ≤ length c.args.buffer.now = omega
-    (arith, c.if-saturating_sub-lt-ROOM.false, c.saturating_sub.ensures) in
+    (arith, c.if-buffer-lt-ROOM.false, c.if-draft-buffer.false) in
     rw c.in-Text.is (text_more c.args.table.now _
     (Text c.in-Text.text.now) c.args.draft _ c.args.buffer.now c.add_short.new.buffer c.add_short.auto.buffer room
     refl refl refl c.in_ok-at-in-Text.ensures refl refl)
@@ -72,7 +72,7 @@ returns-in_ok-at-in-Text c =
 pub returns-in-Argument : goal.returns-in-Argument
 returns-in-Argument c =
     let room : c.args.draft.at + 96 ≤ length c.args.buffer.now = omega
-    (arith, c.if-saturating_sub-lt-ROOM.false, c.saturating_sub.ensures) in
+    (arith, c.if-buffer-lt-ROOM.false, c.if-draft-buffer.false) in
     rw c.in-Argument.is (name_more c.args.table.now _ (Argument c.in-Argument.id)
     (id_text c.in-Argument.id) c.args.draft _ c.args.buffer.now c.add_other_id-in-Argument.new.buffer
     c.add_other_id-in-Argument.auto.buffer room refl refl refl refl c.add_other_id-in-Argument.ensures)
@@ -80,7 +80,7 @@ returns-in-Argument c =
 pub returns-in-Mention : goal.returns-in-Mention
 returns-in-Mention c =
     let room : c.args.draft.at + 96 ≤ length c.args.buffer.now = omega
-    (arith, c.if-saturating_sub-lt-ROOM.false, c.saturating_sub.ensures) in
+    (arith, c.if-buffer-lt-ROOM.false, c.if-draft-buffer.false) in
     rw c.in-Mention.is (name_more c.args.table.now _ (Mention c.in-Mention.id)
     (id_text c.in-Mention.id) c.args.draft _ c.args.buffer.now c.add_other_id-in-Mention.new.buffer
     c.add_other_id-in-Mention.auto.buffer room refl refl refl refl c.add_other_id-in-Mention.ensures)

@@ -1,11 +1,5 @@
 use Rattle.spv_annotate.proofs.Pages.{few}
 use Rattle.spv_annotate.proofs.known.Known.new.Goals as goal
 
-pub find_definitions-requires : goal.find_definitions-requires
-find_definitions-requires c = few c.args.insts.now c.requires
-
-pub find_namings-requires : goal.find_namings-requires
-find_namings-requires c = few c.args.insts.now c.requires
-
 pub find_values-requires-clause-few : goal.find_values-requires-clause-few
-find_values-requires-clause-few c = few c.args.insts.now c.requires
+find_values-requires-clause-few c = few c.args.insts.now c.requires.words
