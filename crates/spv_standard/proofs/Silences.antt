@@ -1,6 +1,6 @@
 -- An instruction whose row asks for no text, no value and no mask has none, and so none by which it breaks a rule.
-use Rattle.std.proofs.Common.{◌≡◌, ◌⊎◌, ◌++◌, ℕ, zero, suc, List, [], ◌∷◌, inl, inr, refl, sym, subst, true}
-use Rattle.std.proofs.Common.{Some, length, take, drop}
+use Rattle.std.proofs.Common.{◌≡◌, ◌⊎◌, ◌++◌, ◌&&◌, ◌<◌, ◌+◌, if◌then◌else◌, Bool, false, ℕ, zero, suc, List, [], ◌∷◌, inl, inr, refl, sym, subst, true}
+use Rattle.std.proofs.Common.{Some, length, take, drop, get_or, arith}
 use Rattle.std.specs.List.{AllByRecursion}
 use Rattle.spv_table.specs.Table.{Table}
 use Rattle.spv_module.specs.Operand.{Plain, PlainInst}
@@ -14,7 +14,7 @@ use Rattle.spv_layout.proofs.Derivatives.{both_hold, both_true}
 use Rattle.spv_limits.specs.inner.Alone.{AreLong}
 use Rattle.spv_versions.specs.declared.late.Late.{Late}
 use Rattle.spv_versions.specs.inner.Late.{AreHitIn}
-use Rattle.spv_standard.specs.inner.Silent.{IsSilent, are_silent, is_silent, is_silent_ending}
+use Rattle.spv_standard.specs.inner.Silent.{IsSilent, are_silent, is_silent, is_silent_ending, silent_front}
 use Rattle.spv_standard.specs.inner.Told.{AreTold}
 
 one_silent : (G : Table) (f : Form) (o : Plain) → is_silent f ≡ true → is_of G f o ≡ true → IsSilent o
@@ -58,13 +58,42 @@ silent_taken zero os h = tt
 silent_taken (suc n) [] h = tt
 silent_taken (suc n) (o ∷ os) h = (h.0, silent_taken n os h.1)
 
--- the operands of forms that are followed by others
-silent_front : (G : Table) (fs gs : List Form) (os : List Plain) → are_silent fs ≡ true → AreOf G (fs ++ gs) os
-    → AllByRecursion IsSilent (take (length fs) os)
-silent_front G [] gs os h a = tt
-silent_front G (f ∷ fs) gs _ h (AreOf.more _ o _ os k r) =
-    let p = both_hold (is_silent f) (are_silent fs) h in
-    (one_silent G f o p.0 k, silent_front G fs gs os p.1 r)
+-- the operands of the first forms, which others follow
+front_by : (b : Bool) (o : Plain) (os : List Plain) (n : ℕ) → (b ≡ true → IsSilent o)
+    → AllByRecursion IsSilent (take n os) → AllByRecursion IsSilent (take (if b then suc n else 0) (o ∷ os))
+front_by true o os n own rest = (own refl, rest)
+front_by false o os n own rest = tt
+
+front_silent : (G : Table) (fs gs : List Form) (os : List Plain) → AreOf G (fs ++ gs) os
+    → AllByRecursion IsSilent (take (silent_front fs) os)
+front_silent G [] gs os a = tt
+front_silent G (f ∷ fs) gs _ (AreOf.more _ o _ os k r) =
+    front_by (is_silent f) o os (silent_front fs) (λ h. one_silent G f o h k) (front_silent G fs gs os r)
+
+-- how many first ones there are, by the one at a place
+pub front_ends : (fs : List Form) (n : ℕ) (d : Form) → n < length fs → is_silent (get_or fs n d) ≡ false
+    → silent_front (drop n fs) ≡ 0
+front_ends [] n d l e = absurd (omega (arith, l))
+front_ends (f ∷ fs) zero d l e = rw e refl
+front_ends (f ∷ fs) (suc n) d l e = front_ends fs n d (omega (arith, l)) e
+
+pub front_goes_on : (fs : List Form) (n m : ℕ) (d : Form) → n < length fs → m ≡ n + 1
+    → is_silent (get_or fs n d) ≡ true → silent_front (drop n fs) ≡ suc (silent_front (drop m fs))
+front_goes_on [] n m d l q e = absurd (omega (arith, l))
+front_goes_on (f ∷ fs) zero zero d l q e = absurd (omega (arith, q))
+front_goes_on (f ∷ fs) zero (suc m) d l q e = let z : m ≡ 0 = omega (arith, q) in rw (e, z) refl
+front_goes_on (f ∷ fs) (suc n) zero d l q e = absurd (omega (arith, q))
+front_goes_on (f ∷ fs) (suc n) (suc m) d l q e = front_goes_on fs n m d (omega (arith, l)) (omega (arith, q)) e
+
+-- where all forms are first ones
+all_by : (b c : Bool) (n m : ℕ) → (if b then suc n else 0) ≡ suc m → (n ≡ m → c ≡ true) → (b && c) ≡ true
+all_by true c n m e rest = rest (omega arith)
+all_by false c n m e rest = cc
+
+pub all_silent : (fs : List Form) → silent_front fs ≡ length fs → are_silent fs ≡ true
+all_silent [] e = refl
+all_silent (f ∷ fs) e =
+    all_by (is_silent f) (are_silent fs) (silent_front fs) (length fs) e (all_silent fs)
 
 -- the operands of an instruction that fits such a row, and those of the fixed forms of a row
 pub silent_operands : (G : Table) (i : PlainInst) (r : PlainRow) → row_of i.opcode ≡ Some r
@@ -78,15 +107,14 @@ silent_operands G i r k a b f =
     let s' : are_silent f.forms ≡ true = rw x.forms s in
     each_silent G f.forms i.operands s' x.each
 
-pub silent_fixed : (G : Table) (i : PlainInst) (r : PlainRow) → row_of i.opcode ≡ Some r
-    → are_silent r.fixed ≡ true → FitsShape G i → AllByRecursion IsSilent (take (length r.fixed) i.operands)
-silent_fixed G i r k a f =
+pub silent_fixed : (G : Table) (i : PlainInst) (r : PlainRow) → row_of i.opcode ≡ Some r → FitsShape G i
+    → AllByRecursion IsSilent (take (silent_front r.fixed) i.operands)
+silent_fixed G i r k f =
     let x = f.has in
     let e : x.row ≡ r = (let known = x.known in cc) in
-    let a' : are_silent x.row.fixed ≡ true = rw e a in
     let each : AreOf G (x.row.fixed ++ x.rest) i.operands = rw (sym x.forms) x.each in
-    subst (λ (q : PlainRow). AllByRecursion IsSilent (take (length q.fixed) i.operands)) e
-    (silent_front G x.row.fixed x.rest i.operands a' each)
+    subst (λ (q : PlainRow). AllByRecursion IsSilent (take (silent_front q.fixed) i.operands)) e
+    (front_silent G x.row.fixed x.rest i.operands each)
 
 -- none of them breaks a rule by itself
 pub never_told : (l : Late) (os : List Plain) → AllByRecursion IsSilent os → ¬ (AreTold l os)

@@ -120,40 +120,6 @@ fn found_by_all(
     Ok(earlier(found, limits))
 }
 
-/// The same, if there is something to ask; of most instructions there is nothing.
-#[inline(always)]
-fn found_at(
-    alloc: Global,
-    capabilities: &Capabilities<'_, '_>,
-    definitions: &Definitions,
-    late: &Late,
-    counts: &mut Counts,
-    number: u32,
-    asked: Asked,
-) -> Result<Option<Found>, AllocError>
-    requires same { capabilities.now.insts ≡ definitions.now }
-    requires lower { AreLower definitions.now }
-    requires number { number < length definitions.now }
-    requires counted { IsUpTo definitions.now number counts.old }
-    ensures { (minor : ℕ) → IsLateBy capabilities.now.table minor definitions.now late.now
-        → IsAskedAt capabilities.now.table minor definitions.now number asked
-        → IfOk result (λ o. IsFirstIn (At number (Alone capabilities.now.table minor definitions.now)) o
-        × (o ≡ None → IsUpTo definitions.now (number + 1) counts.new)) }
-{
-    if asked.is_nothing() {
-        return Ok(None);
-    }
-    found_by_all(
-        alloc,
-        capabilities,
-        definitions,
-        late,
-        counts,
-        number,
-        asked,
-    )
-}
-
 /// The first of the rules O14 to O23 that is broken, by instruction and then by number. `late` is what the module has
 /// too early, and `count` how many instructions there are.
 ///
@@ -179,7 +145,10 @@ pub fn first_alone(
     let mut counts = Counts::new(alloc);
     for number in 0..count {
         let asked = notes.asked_at(late, definitions.inst(number));
-        if let Some(found) = found_at(
+        if asked.is_nothing() {
+            continue;
+        }
+        if let Some(found) = found_by_all(
             alloc,
             capabilities,
             definitions,

@@ -31,6 +31,18 @@ fn are_silent(forms: &[Form]) -> bool
     true
 }
 
+/// Of how many of the first forms no operand is one.
+fn silent_front(forms: &[Form]) -> usize
+    ensures { result ≡ spec.silent_front forms.now }
+{
+    for (count, form) in forms.iter().enumerate() {
+        if !is_form_silent(*form) {
+            return count;
+        }
+    }
+    forms.len()
+}
+
 /// Whether no operand that an ending allows is one.
 fn is_ending_silent(ending: Ending) -> bool
     ensures { result ≡ spec.is_silent_ending (plain_ending ending) }
@@ -50,13 +62,11 @@ fn silent_in(row: &Row) -> u8
     ensures { (G : Table) (i : PlainInst) → FitsShape G i → row_of i.opcode ≡ Some (plain_row row.now)
         → AllByRecursion IsSilent (take result i.operands) }
 {
-    if !are_silent(row.fixed) {
-        return 0;
-    }
-    if is_ending_silent(row.ending) {
+    let front = silent_front(row.fixed);
+    if front == row.fixed.len() && is_ending_silent(row.ending) {
         return u8::MAX;
     }
-    match u8::try_from(row.fixed.len()) {
+    match u8::try_from(front) {
         Ok(count) => count,
         Err(_) => 0,
     }

@@ -1,5 +1,5 @@
 -- Operands that break no rule by themselves, and rows that have no others. (For the code alone.)
-use Rattle.std.specs.Prelude.{List, [], ◌∷◌, Bool, true, false, ◌&&◌}
+use Rattle.std.specs.Prelude.{ℕ, suc, List, [], ◌∷◌, Bool, true, false, ◌&&◌, if◌then◌else◌}
 use Rattle.spv_module.specs.Operand.{Plain}
 use Rattle.spv_module.specs.Operand as operand
 use Rattle.spv_layout.specs.declared.form.Form.{Form}
@@ -24,6 +24,11 @@ is_silent f = true
 abbrev pub are_silent : List Form → Bool
 are_silent [] = true
 are_silent (f ∷ fs) = is_silent f && are_silent fs
+
+-- of how many of the first forms no operand is one
+abbrev pub silent_front : List Form → ℕ
+silent_front [] = 0
+silent_front (f ∷ fs) = if is_silent f then suc (silent_front fs) else 0
 
 abbrev pub is_silent_ending : RowEnding → Bool
 is_silent_ending closed = true
