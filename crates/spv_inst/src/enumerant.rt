@@ -13,6 +13,7 @@ use spv_module::{Operand, Rule};
 use spv_table::Table;
 
 /// Whether the kind of a number, from 0, has an enumerant of a value. A kind that the table has not has none.
+#[inline(always)]
 pub fn knows(table: &Table, kind: u32, value: u32) -> bool
     ensures { result ≡ is_some (parameters_of (enumerants_at (kind_of table.now kind)) value) }
 {

@@ -57,6 +57,7 @@ pub struct Pending<'t> {
 }
 
 /// Takes the first of some kinds, and leaves the others due. Where memory runs out, nothing is said of what is left.
+#[inline(always)]
 fn take_first<'t>(
     frames: &mut Vec<Frame<'t>>,
     kinds: &'t [u32],
@@ -80,6 +81,7 @@ fn take_first<'t>(
 }
 
 /// The parameters of an enumerant; none where there is no such enumerant.
+#[inline(always)]
 fn parameters_in<'t>(table: &'t Table, kind: u32, value: u32) -> &'t [u32]
     ensures { result.now ≡ unwrap_or (parameters_of (enumerants_at (kind_of table.now kind)) value) [] }
 {
@@ -90,6 +92,7 @@ fn parameters_in<'t>(table: &'t Table, kind: u32, value: u32) -> &'t [u32]
 }
 
 /// The parameters of the first set bit, from a position up, that has any.
+#[inline(always)]
 fn parameters_at<'t>(table: &'t Table, kind: u32, mask: u32, from: u32) -> Option<Found<'t>>
     ensures { MatchOption result (parameters_from table.now kind mask from ≡ [])
         (λ f. (0 < length f.kinds.now) × (parameters_from table.now kind mask from
@@ -115,6 +118,7 @@ fn parameters_at<'t>(table: &'t Table, kind: u32, mask: u32, from: u32) -> Optio
 
 /// Takes the first kind of an open parameter list, if it has one left, and leaves the others due. Where memory runs
 /// out, nothing is said of what is left.
+#[inline(always)]
 fn take_of_frame<'t>(
     frames: &mut Vec<Frame<'t>>,
     table: &'t Table,

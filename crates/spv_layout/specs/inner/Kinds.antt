@@ -1,5 +1,5 @@
 -- The numbers that are kept of a grammar table. (For the code alone.)
-use Rattle.std.specs.Prelude.{◌≡◌, ℕ, Some, slice_get}
+use Rattle.std.specs.Prelude.{◌≡◌, ◌<◌, ℕ, Some, slice_get}
 use Rattle.spv_table.specs.Lookups.{number_named}
 use Rattle.spv_layout.specs.declared.form.Named.{Named}
 use Rattle.spv_layout.specs.declared.form.Named.TheVariants as kind_of
@@ -29,6 +29,7 @@ place_of kind_of.GroupOperation = 17
 place_of kind_of.PackedVectorFormat = 18
 place_of kind_of.ImageOperands = 19
 
--- each number is that of the kind of the name
+-- each number that is kept is that of the kind of the name
 pub record AreNumbered (k : Inside) : Type 0 where
-  pub known : (kind : Named) → slice_get k.numbers (place_of kind) ≡ Some (number_named k.table.now (name_of kind))
+  pub known : (kind : Named) → place_of kind < 12
+      → slice_get k.numbers (place_of kind) ≡ Some (number_named k.table.now (name_of kind))

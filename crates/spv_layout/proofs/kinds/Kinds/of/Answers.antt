@@ -1,4 +1,4 @@
-use Rattle.std.proofs.Common.{◌≡◌, ap, Some}
+use Rattle.std.proofs.Common.{◌≡◌, ◌<◌, ap, arith, Some}
 use Rattle.std.specs.Prelude.{slice_get}
 use Rattle.spv_table.specs.Lookups.{number_named}
 use Rattle.spv_layout.specs.declared.form.Named.{Named}
@@ -21,37 +21,31 @@ by_kind : (k : Inside)
     → slice_get k.numbers 9 ≡ Some (number_named k.table.now (name_of kind_of.MemoryAccess))
     → slice_get k.numbers 10 ≡ Some (number_named k.table.now (name_of kind_of.LoopControl))
     → slice_get k.numbers 11 ≡ Some (number_named k.table.now (name_of kind_of.SelectionControl))
-    → slice_get k.numbers 12 ≡ Some (number_named k.table.now (name_of kind_of.Dim))
-    → slice_get k.numbers 13 ≡ Some (number_named k.table.now (name_of kind_of.ImageFormat))
-    → slice_get k.numbers 14 ≡ Some (number_named k.table.now (name_of kind_of.AccessQualifier))
-    → slice_get k.numbers 15 ≡ Some (number_named k.table.now (name_of kind_of.SamplerAddressingMode))
-    → slice_get k.numbers 16 ≡ Some (number_named k.table.now (name_of kind_of.SamplerFilterMode))
-    → slice_get k.numbers 17 ≡ Some (number_named k.table.now (name_of kind_of.GroupOperation))
-    → slice_get k.numbers 18 ≡ Some (number_named k.table.now (name_of kind_of.PackedVectorFormat))
-    → slice_get k.numbers 19 ≡ Some (number_named k.table.now (name_of kind_of.ImageOperands))
     → AreNumbered k
-by_kind k h0 h1 h2 h3 h4 h5 h6 h7 h8 h9 h10 h11 h12 h13 h14 h15 h16 h17 h18 h19 = record { known = of_kind } where
-  of_kind : (kind : Named) → slice_get k.numbers (place_of kind) ≡ Some (number_named k.table.now (name_of kind))
-  of_kind kind_of.SourceLanguage = h0
-  of_kind kind_of.AddressingModel = h1
-  of_kind kind_of.MemoryModel = h2
-  of_kind kind_of.ExecutionModel = h3
-  of_kind kind_of.ExecutionMode = h4
-  of_kind kind_of.Capability = h5
-  of_kind kind_of.StorageClass = h6
-  of_kind kind_of.Decoration = h7
-  of_kind kind_of.FunctionControl = h8
-  of_kind kind_of.MemoryAccess = h9
-  of_kind kind_of.LoopControl = h10
-  of_kind kind_of.SelectionControl = h11
-  of_kind kind_of.Dim = h12
-  of_kind kind_of.ImageFormat = h13
-  of_kind kind_of.AccessQualifier = h14
-  of_kind kind_of.SamplerAddressingMode = h15
-  of_kind kind_of.SamplerFilterMode = h16
-  of_kind kind_of.GroupOperation = h17
-  of_kind kind_of.PackedVectorFormat = h18
-  of_kind kind_of.ImageOperands = h19
+by_kind k h0 h1 h2 h3 h4 h5 h6 h7 h8 h9 h10 h11 = record { known = of_kind } where
+  of_kind : (kind : Named) → place_of kind < 12
+      → slice_get k.numbers (place_of kind) ≡ Some (number_named k.table.now (name_of kind))
+  of_kind kind_of.SourceLanguage l = h0
+  of_kind kind_of.AddressingModel l = h1
+  of_kind kind_of.MemoryModel l = h2
+  of_kind kind_of.ExecutionModel l = h3
+  of_kind kind_of.ExecutionMode l = h4
+  of_kind kind_of.Capability l = h5
+  of_kind kind_of.StorageClass l = h6
+  of_kind kind_of.Decoration l = h7
+  of_kind kind_of.FunctionControl l = h8
+  of_kind kind_of.MemoryAccess l = h9
+  of_kind kind_of.LoopControl l = h10
+  of_kind kind_of.SelectionControl l = h11
+  of_kind kind_of.Dim l = absurd (omega arith)
+  of_kind kind_of.ImageFormat l = absurd (omega arith)
+  of_kind kind_of.AccessQualifier l = absurd (omega arith)
+  of_kind kind_of.SamplerAddressingMode l = absurd (omega arith)
+  of_kind kind_of.SamplerFilterMode l = absurd (omega arith)
+  of_kind kind_of.GroupOperation l = absurd (omega arith)
+  of_kind kind_of.PackedVectorFormat l = absurd (omega arith)
+  of_kind kind_of.ImageOperands l = absurd (omega arith)
 
 pub invariant_of-result : goal.invariant_of-result
-invariant_of-result c = by_kind _ (ap Some c.kind_named.ensures) (ap Some c.kind_named-2.ensures) (ap Some c.kind_named-3.ensures) (ap Some c.kind_named-4.ensures) (ap Some c.kind_named-5.ensures) (ap Some c.kind_named-6.ensures) (ap Some c.kind_named-7.ensures) (ap Some c.kind_named-8.ensures) (ap Some c.kind_named-9.ensures) (ap Some c.kind_named-10.ensures) (ap Some c.kind_named-11.ensures) (ap Some c.kind_named-12.ensures) (ap Some c.kind_named-13.ensures) (ap Some c.kind_named-14.ensures) (ap Some c.kind_named-15.ensures) (ap Some c.kind_named-16.ensures) (ap Some c.kind_named-17.ensures) (ap Some c.kind_named-18.ensures) (ap Some c.kind_named-19.ensures) (ap Some c.kind_named-20.ensures)
+invariant_of-result c =
+    by_kind _ (ap Some c.number_of.ensures) (ap Some c.number_of-2.ensures) (ap Some c.number_of-3.ensures) (ap Some c.number_of-4.ensures) (ap Some c.number_of-5.ensures) (ap Some c.number_of-6.ensures) (ap Some c.number_of-7.ensures) (ap Some c.number_of-8.ensures) (ap Some c.number_of-9.ensures) (ap Some c.number_of-10.ensures) (ap Some c.number_of-11.ensures) (ap Some c.number_of-12.ensures)
