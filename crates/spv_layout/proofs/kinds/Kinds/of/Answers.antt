@@ -48,4 +48,7 @@ by_kind k h0 h1 h2 h3 h4 h5 h6 h7 h8 h9 h10 h11 = record { known = of_kind } whe
 
 pub invariant_of-result : goal.invariant_of-result
 invariant_of-result c =
-    by_kind _ (ap Some c.number_of.ensures) (ap Some c.number_of-2.ensures) (ap Some c.number_of-3.ensures) (ap Some c.number_of-4.ensures) (ap Some c.number_of-5.ensures) (ap Some c.number_of-6.ensures) (ap Some c.number_of-7.ensures) (ap Some c.number_of-8.ensures) (ap Some c.number_of-9.ensures) (ap Some c.number_of-10.ensures) (ap Some c.number_of-11.ensures) (ap Some c.number_of-12.ensures)
+    by_kind _ (ap Some c.number_of.ensures) (ap Some c.number_of-2.ensures) (ap Some c.number_of-3.ensures)
+    (ap Some c.number_of-4.ensures) (ap Some c.number_of-5.ensures) (ap Some c.number_of-6.ensures)
+    (ap Some c.number_of-7.ensures) (ap Some c.number_of-8.ensures) (ap Some c.number_of-9.ensures)
+    (ap Some c.number_of-10.ensures) (ap Some c.number_of-11.ensures) (ap Some c.number_of-12.ensures)
