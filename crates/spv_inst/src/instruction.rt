@@ -170,6 +170,49 @@ fn read_further<'t, 'a>(
     read_rest(scene, pending, operands, place, begin, rest)
 }
 
+/// The same as `read_further`. What the call takes is put together here, since most instructions do not come to it.
+#[inline(always)]
+fn read_left<'t, 'a>(
+    scene: &Scene<'t, '_, 'a>,
+    pending: &mut Pending<'t>,
+    operands: &mut Vec<Operand<'a>>,
+    place: Place,
+    begin: usize,
+    rest: Rest<'t>,
+) -> Result<(), Stop>
+    requires forms { scene.now.forms.now ≡ map form_of scene.now.table.now.kinds }
+    requires whole { IsWhole scene.now.table.now }
+    requires within { (place.first ≤ rest.at) × (rest.at ≤ place.end) }
+    requires fits { place.end ≤ length scene.now.image.now }
+    requires room { begin ≤ length operands.now.items }
+    requires spare { vec_len operands.now + (place.end - rest.at) ≤ vec_capacity operands.now }
+    // With the operands that stand there already, what is added is what the words from the first up to the end spell.
+    ensures read { (before : List PlainInst) (pattern : List Item) → Knows scene.now.definitions.now before
+        → SofarAt scene.now.table.now before place.opcode pattern scene.now.image.now place.first place.end
+        (drop begin operands.old.items) (due_first rest.entry.kinds.now rest.entry.items.left.now) rest.entry.at
+        → OnOk result
+        (Match scene.now.table.now (start before place.opcode) pattern (plain_operands (drop begin operands.new.items))
+        (between scene.now.image.now place.first place.end)) }
+    ensures kept { OnOk result (take begin operands.new.items ≡ take begin operands.old.items) }
+    ensures few { OnOk result (length operands.new.items + rest.entry.at ≤ length operands.old.items + place.end) }
+    // A fault tells what refuses these words.
+    ensures misfit { (before : List PlainInst) (pattern : List Item) → Knows scene.now.definitions.now before
+        → SofarAt scene.now.table.now before place.opcode pattern scene.now.image.now place.first place.end
+        (drop begin operands.old.items) (due_first rest.entry.kinds.now rest.entry.items.left.now) rest.entry.at
+        → IfErr result
+        (λ e. IsMisfit scene.now.table.now (start before place.opcode) pattern
+        (between scene.now.image.now place.first place.end) place.number place.first e) }
+{
+    let scene = *scene;
+    let place = Place {
+        number: place.number,
+        opcode: place.opcode,
+        first: place.first,
+        end: place.end,
+    };
+    read_further(&scene, pending, operands, place, begin, rest)
+}
+
 /// Adds the operands of an instruction to a list, by its pattern: all of its further words, and no fewer. After an error
 /// nothing is said of what is left of the list.
 #[inline(always)]
@@ -213,15 +256,7 @@ fn read_operands<'t, 'a>(
     if is_read(place, rest) {
         return Ok(());
     }
-    // What the call takes is put together here, since most instructions do not come to it.
-    let scene = *scene;
-    let place = Place {
-        number: place.number,
-        opcode: place.opcode,
-        first: place.first,
-        end: place.end,
-    };
-    read_further(&scene, pending, operands, place, begin, rest)
+    read_left(scene, pending, operands, place, begin, rest)
 }
 
 /// Reads an instruction by the items of its pattern, as `read_instruction` says.

@@ -8,7 +8,7 @@ use spv_table::Table;
 use std::marker::Model;
 
 /// How many kinds are looked up ahead: those that nearly all modules use.
-const AHEAD: usize = 12;
+const AHEAD: usize = 10;
 
 /// A grammar table, with the numbers of the kinds that rows name: those that most modules use are looked up once.
 /// Contracts see it as the table.
@@ -107,8 +107,6 @@ impl<'a> Kinds<'a> {
                 number_of(table, Named::Decoration),
                 number_of(table, Named::FunctionControl),
                 number_of(table, Named::MemoryAccess),
-                number_of(table, Named::LoopControl),
-                number_of(table, Named::SelectionControl),
             ],
         }
     }

@@ -31,5 +31,5 @@ place_of kind_of.ImageOperands = 19
 
 -- each number that is kept is that of the kind of the name
 pub record AreNumbered (k : Inside) : Type 0 where
-  pub known : (kind : Named) → place_of kind < 12
+  pub known : (kind : Named) → place_of kind < 10
       → slice_get k.numbers (place_of kind) ≡ Some (number_named k.table.now (name_of kind))

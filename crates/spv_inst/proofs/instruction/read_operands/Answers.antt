@@ -50,7 +50,7 @@ returns-clause-read c = λ b know.
     c.args.place.end c.len-begin.result c.args.operands.now.items e)) in
     let s2 = c.read_parameters-rest.ensures.sofar b (items_of c.args.pattern.now) know s1 in
     let s3 = c.read_run-rest.ensures.sofar b (items_of c.args.pattern.now) know s2 in
-    rw e at (c.read_further.ensures.read b (items_of c.args.pattern.now) know s3)
+    rw e at (c.read_left.ensures.read b (items_of c.args.pattern.now) know s3)
 
 pub returns-clause-misfit : goal.returns-clause-misfit
 returns-clause-misfit c = λ b know.
@@ -62,4 +62,4 @@ returns-clause-misfit c = λ b know.
     c.args.place.end c.len-begin.result c.args.operands.now.items e)) in
     let s2 = c.read_parameters-rest.ensures.sofar b (items_of c.args.pattern.now) know s1 in
     let s3 = c.read_run-rest.ensures.sofar b (items_of c.args.pattern.now) know s2 in
-    c.read_further.ensures.misfit b (items_of c.args.pattern.now) know s3
+    c.read_left.ensures.misfit b (items_of c.args.pattern.now) know s3

@@ -19,11 +19,9 @@ by_kind : (k : Inside)
     → slice_get k.numbers 7 ≡ Some (number_named k.table.now (name_of kind_of.Decoration))
     → slice_get k.numbers 8 ≡ Some (number_named k.table.now (name_of kind_of.FunctionControl))
     → slice_get k.numbers 9 ≡ Some (number_named k.table.now (name_of kind_of.MemoryAccess))
-    → slice_get k.numbers 10 ≡ Some (number_named k.table.now (name_of kind_of.LoopControl))
-    → slice_get k.numbers 11 ≡ Some (number_named k.table.now (name_of kind_of.SelectionControl))
     → AreNumbered k
-by_kind k h0 h1 h2 h3 h4 h5 h6 h7 h8 h9 h10 h11 = record { known = of_kind } where
-  of_kind : (kind : Named) → place_of kind < 12
+by_kind k h0 h1 h2 h3 h4 h5 h6 h7 h8 h9 = record { known = of_kind } where
+  of_kind : (kind : Named) → place_of kind < 10
       → slice_get k.numbers (place_of kind) ≡ Some (number_named k.table.now (name_of kind))
   of_kind kind_of.SourceLanguage l = h0
   of_kind kind_of.AddressingModel l = h1
@@ -35,8 +33,8 @@ by_kind k h0 h1 h2 h3 h4 h5 h6 h7 h8 h9 h10 h11 = record { known = of_kind } whe
   of_kind kind_of.Decoration l = h7
   of_kind kind_of.FunctionControl l = h8
   of_kind kind_of.MemoryAccess l = h9
-  of_kind kind_of.LoopControl l = h10
-  of_kind kind_of.SelectionControl l = h11
+  of_kind kind_of.LoopControl l = absurd (omega arith)
+  of_kind kind_of.SelectionControl l = absurd (omega arith)
   of_kind kind_of.Dim l = absurd (omega arith)
   of_kind kind_of.ImageFormat l = absurd (omega arith)
   of_kind kind_of.AccessQualifier l = absurd (omega arith)
@@ -51,4 +49,4 @@ invariant_of-result c =
     by_kind _ (ap Some c.number_of.ensures) (ap Some c.number_of-2.ensures) (ap Some c.number_of-3.ensures)
     (ap Some c.number_of-4.ensures) (ap Some c.number_of-5.ensures) (ap Some c.number_of-6.ensures)
     (ap Some c.number_of-7.ensures) (ap Some c.number_of-8.ensures) (ap Some c.number_of-9.ensures)
-    (ap Some c.number_of-10.ensures) (ap Some c.number_of-11.ensures) (ap Some c.number_of-12.ensures)
+    (ap Some c.number_of-10.ensures)
