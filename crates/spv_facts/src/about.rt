@@ -37,7 +37,8 @@ pub fn push_number(out: &mut String, number: u32) -> Result<(), AllocError>
 pub fn push_id(out: &mut String, id: u32) -> Result<(), AllocError>
     ensures { OnOk result (string_bytes out.new ≡ string_bytes out.old ++ id_part id) }
 {
-    out.push_str(" %")?;
+    out.push(' ')?;
+    out.push('%')?;
     push_number(out, id)
 }
 
