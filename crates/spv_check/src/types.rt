@@ -35,6 +35,7 @@ pub struct Types<'m, 'a> {
     definitions: Definitions<'m, 'a>,
     /// What the ids stand for, or nothing where a list of it would be large beside the module.
     meanings: Vec<Meaning>,
+    /// The capabilities that the module has.
     capabilities: Capabilities<'m, 'a>,
 }
 

@@ -72,8 +72,8 @@ fn silent_in(row: &Row) -> u8
     }
 }
 
-/// Of how many operands at the beginning of an instruction of an opcode, that fits its row, none is a text, a value or a
-/// mask: these need not be looked at.
+/// Of how many operands at the beginning of an instruction of an opcode, which fits its row, none is a text, a value or
+/// a mask: these need not be looked at.
 pub fn silent_of(opcode: u16) -> u8
     ensures { (G : Table) (i : PlainInst) → FitsShape G i → i.opcode ≡ opcode
         → AllByRecursion IsSilent (take result i.operands) }
