@@ -23,10 +23,10 @@ use crate::pending::Pending;
 use crate::plain::Rest;
 use crate::reader::{Place, Scene, take_operand};
 use crate::repeated::read_run;
-use crate::singles::{read_parameters, read_singles};
+use crate::singles::{read_head, read_parameters, read_singles};
 use crate::words::read_words;
 use spv_module::{Fault, Operand, Rule, Stop};
-use spv_table::PatternRef;
+use spv_table::{Head, PatternRef};
 use spv_words::word;
 
 /// An instruction that was read.
@@ -213,8 +213,8 @@ fn read_left<'t, 'a>(
     read_further(&scene, pending, operands, place, begin, rest)
 }
 
-/// Adds the operands of an instruction to a list, by its pattern: all of its further words, and no fewer. After an error
-/// nothing is said of what is left of the list.
+/// Adds the operands of an instruction to a list, by its pattern: all of its further words, and no fewer. `head` may tell
+/// with what the pattern begins. After an error nothing is said of what is left of the list.
 #[inline(always)]
 fn read_operands<'t, 'a>(
     scene: &Scene<'t, '_, 'a>,
@@ -222,6 +222,7 @@ fn read_operands<'t, 'a>(
     operands: &mut Vec<Operand<'a>>,
     pattern: &PatternRef<'t>,
     place: Place,
+    head: Head,
 ) -> Result<(), Stop>
     requires forms { scene.now.forms.now ≡ map form_of scene.now.table.now.kinds }
     requires whole { IsWhole scene.now.table.now }
@@ -244,7 +245,8 @@ fn read_operands<'t, 'a>(
     let begin = operands.len();
     operands.reserve((place.end - place.first) as usize)?;
     let items = DueItems::of(pattern);
-    let rest = read_singles(scene, operands, place, begin, items);
+    let rest = read_head(scene, operands, place, begin, head, items);
+    let rest = read_singles(scene, operands, place, begin, rest);
     if is_read(place, rest) {
         return Ok(());
     }
@@ -259,7 +261,8 @@ fn read_operands<'t, 'a>(
     read_left(scene, pending, operands, place, begin, rest)
 }
 
-/// Reads an instruction by the items of its pattern, as `read_instruction` says.
+/// Reads an instruction by the items of its pattern, as `read_instruction` says. `head` may tell with what the
+/// pattern begins.
 #[inline(always)]
 fn read_by_pattern<'t, 'a>(
     scene: &Scene<'t, '_, 'a>,
@@ -267,6 +270,7 @@ fn read_by_pattern<'t, 'a>(
     operands: &mut Vec<Operand<'a>>,
     number: u32,
     at: u32,
+    head: Head,
 ) -> Result<Read, Stop>
     requires forms { scene.now.forms.now ≡ map form_of scene.now.table.now.kinds }
     requires whole { IsWhole scene.now.table.now }
@@ -285,9 +289,9 @@ fn read_by_pattern<'t, 'a>(
     ensures dead { (before : List PlainInst) → Knows scene.now.definitions.now before
         → IfErr result (λ e. IsDeadFrom scene.now.table.now before scene.now.image.now number at e) }
 {
-    let head = word(scene.image, at);
-    let count = head / 65536;
-    let opcode = (head % 65536) as u16;
+    let told = word(scene.image, at);
+    let count = told / 65536;
+    let opcode = (told % 65536) as u16;
     if count == 0 {
         return Err(fault_at(number, Rule::I1, at));
     }
@@ -304,7 +308,7 @@ fn read_by_pattern<'t, 'a>(
         end: at + count,
     };
     let first = operands.len();
-    read_operands(scene, pending, operands, &pattern, place)?;
+    read_operands(scene, pending, operands, &pattern, place, head)?;
     Ok(Read {
         opcode,
         first,
@@ -349,8 +353,8 @@ pub fn read_instruction<'t, 'a>(
     let head = word(scene.image, at);
     let count = head / 65536;
     let opcode = (head % 65536) as u16;
+    let front = scene.table.front(opcode);
     if count > 0 && count <= scene.image.len() - at {
-        let front = scene.table.front(opcode);
         if front.takes(count - 1) {
             let first = operands.len();
             let end = at + count;
@@ -358,7 +362,7 @@ pub fn read_instruction<'t, 'a>(
             return Ok(Read { opcode, first, end });
         }
     }
-    read_by_pattern(scene, pending, operands, number, at)
+    read_by_pattern(scene, pending, operands, number, at, front.head)
 }
 
 /// The same as `read_operands`, in few steps of code.

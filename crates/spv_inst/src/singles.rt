@@ -1,7 +1,7 @@
 //! Operands of items that come once at most, and their parameters.
 
 ghost use Rattle.std.specs.Prelude.{◌≡◌, ℕ, List, [], ◌≤◌, ◌<◌, ◌+◌, ◌-◌, length, map, take, drop};
-ghost use Rattle.std.specs.Prelude.{Some, IfSome, IfNone, vec_len, vec_capacity};
+ghost use Rattle.std.specs.Prelude.{Some, IfSome, IfNone, IsTrue, vec_len, vec_capacity};
 ghost use Rattle.spv_table.specs.Table.{Item, Table, kind_of};
 ghost use Rattle.spv_table.specs.declared.form.Form.TheVariants.{Leaf as LeafForm};
 ghost use Rattle.spv_table.specs.declared.form.Leaf.TheVariants as due_leaf;
@@ -26,7 +26,7 @@ use crate::plain::{Rest, bare_in_form};
 use crate::reader::{Place, Scene, Taken};
 use crate::text::{short_text, take_text};
 use spv_module::Operand;
-use spv_table::{Form, Leaf, form_in};
+use spv_table::{Form, Head, Leaf, form_in};
 use spv_words::{Image, word};
 
 /// An operand that was added to a list: how many words it takes, and the kinds of its parameters, which are due after
@@ -221,16 +221,38 @@ pub fn push_next<'t, 'a>(
     Some(Pushed { words, kinds })
 }
 
-/// Takes operands at the front of an instruction's words, by the items of its pattern, and adds them to a list, which
-/// has room for as many as there are words: `begin` is the place of the first of them there. It stops behind the first
-/// that has parameters, and before the first that `push_next` does not take, before an item that comes any number of
-/// times, or where no kind or no word is left.
+/// Whether a kind of that form asks for the type of a result.
 #[inline(always)]
-pub fn read_singles<'t, 'a>(
+fn is_type(form: Form) -> bool
+    ensures { IsTrue result → form ≡ LeafForm due_leaf.ResultType }
+{
+    match form {
+        Form::Leaf(Leaf::ResultType) => true,
+        _ => false,
+    }
+}
+
+/// Whether a kind of that form asks for a result.
+#[inline(always)]
+fn is_result(form: Form) -> bool
+    ensures { IsTrue result → form ≡ LeafForm due_leaf.Result }
+{
+    match form {
+        Form::Leaf(Leaf::Result) => true,
+        _ => false,
+    }
+}
+
+/// Takes the type of a result and the result at the front of an instruction's words, if the pattern begins with these
+/// two, as `head` may tell, and adds them to a list, which has room for as many operands as there are words: `begin` is
+/// the place of the first of them there. If it does not begin with them, nothing is taken.
+#[inline(always)]
+pub fn read_head<'t, 'a>(
     scene: &Scene<'t, '_, 'a>,
     operands: &mut Vec<Operand<'a>>,
     place: Place,
     begin: usize,
+    head: Head,
     items: DueItems<'t>,
 ) -> Rest<'t>
     requires forms { scene.now.forms.now ≡ map form_of scene.now.table.now.kinds }
@@ -239,7 +261,7 @@ pub fn read_singles<'t, 'a>(
     requires room { begin ≤ length operands.now.items }
     requires spare { vec_len operands.now + (place.end - place.first) ≤ vec_capacity operands.now }
     // The operands that are added bring the decoder from what was left to what is left.
-    ensures sofar { (before : List PlainInst) (pattern : List Item) → Knows scene.now.definitions.now before
+    ensures sofar { (before : List PlainInst) (pattern : List Item)
         → SofarAt scene.now.table.now before place.opcode pattern scene.now.image.now place.first place.end
         (drop begin operands.old.items) (map due (items_of items.entry.left.now)) place.first
         → SofarAt scene.now.table.now before place.opcode pattern scene.now.image.now place.first place.end
@@ -250,11 +272,62 @@ pub fn read_singles<'t, 'a>(
     ensures within { (place.first ≤ result.at) × (result.at ≤ place.end) }
     ensures spare { vec_len operands.new + (place.end - result.at) ≤ vec_capacity operands.new }
 {
-    let mut left = Rest {
+    let none = Rest {
         kinds: &[],
         items,
         at: place.first,
     };
+    if !matches!(head, Head::TypeAndResult) || place.end - place.first < 2 {
+        return none;
+    }
+    let Some((one, behind)) = items.next_single() else {
+        return none;
+    };
+    let Some((two, left)) = behind.next_single() else {
+        return none;
+    };
+    if !is_type(form_in(scene.forms, one)) || !is_result(form_in(scene.forms, two)) {
+        return none;
+    }
+    operands.push_reserved(Operand::OfType(word(scene.image, place.first)));
+    operands.push_reserved(Operand::Result(word(scene.image, place.first + 1)));
+    Rest {
+        kinds: &[],
+        items: left,
+        at: place.first + 2,
+    }
+}
+
+/// Takes operands at the front of the words left of an instruction, by the items left of its pattern, and adds them to a
+/// list, which has room for as many as words are left: `begin` is the place of the instruction's first operand there. It
+/// stops behind the first that has parameters, and before the first that `push_next` does not take, before an item that
+/// comes any number of times, or where no kind or no word is left.
+#[inline(always)]
+pub fn read_singles<'t, 'a>(
+    scene: &Scene<'t, '_, 'a>,
+    operands: &mut Vec<Operand<'a>>,
+    place: Place,
+    begin: usize,
+    rest: Rest<'t>,
+) -> Rest<'t>
+    requires forms { scene.now.forms.now ≡ map form_of scene.now.table.now.kinds }
+    requires within { (place.first ≤ rest.at) × (rest.at ≤ place.end) }
+    requires fits { place.end ≤ length scene.now.image.now }
+    requires room { begin ≤ length operands.now.items }
+    requires spare { vec_len operands.now + (place.end - rest.at) ≤ vec_capacity operands.now }
+    // The operands that are added bring the decoder from what was left to what is left.
+    ensures sofar { (before : List PlainInst) (pattern : List Item) → Knows scene.now.definitions.now before
+        → SofarAt scene.now.table.now before place.opcode pattern scene.now.image.now place.first place.end
+        (drop begin operands.old.items) (due_first rest.entry.kinds.now rest.entry.items.left.now) rest.entry.at
+        → SofarAt scene.now.table.now before place.opcode pattern scene.now.image.now place.first place.end
+        (drop begin operands.new.items) (due_first result.kinds.now result.items.left.now) result.at }
+    ensures kept { take begin operands.new.items ≡ take begin operands.old.items }
+    ensures room { begin ≤ length operands.new.items }
+    ensures few { length operands.new.items + rest.entry.at ≤ length operands.old.items + result.at }
+    ensures within { (rest.entry.at ≤ result.at) × (result.at ≤ place.end) }
+    ensures spare { vec_len operands.new + (place.end - result.at) ≤ vec_capacity operands.new }
+{
+    let mut left = rest;
     while left.at < place.end && left.kinds.is_empty() {
         let Some((kind, later)) = left.items.next_single() else {
             return left;

@@ -9,9 +9,10 @@ returns-then-is_read-clause-read c = λ b know.
     let G = c.args.scene.now.table.now in
     let e : c.len-begin.result ≡ length c.args.operands.now.items = omega arith in
     let s1 = c.read_singles-rest.ensures.sofar b (items_of c.args.pattern.now) know
+    (c.read_head-rest.ensures.sofar b (items_of c.args.pattern.now)
     (rw (c.of-items.ensures, c.in_ok-reserve.ensures.items)
     (at_begin G b c.args.place.opcode (items_of c.args.pattern.now) c.args.scene.now.image.now c.args.place.first
-    c.args.place.end c.len-begin.result c.args.operands.now.items e)) in
+    c.args.place.end c.len-begin.result c.args.operands.now.items e))) in
     let d = c.if-is_read.ensures refl in
     words_end G (start b c.args.place.opcode) (items_of c.args.pattern.now) _ _ _ _ _ _ _ (rw e at s1) d.0 d.1
 
@@ -20,9 +21,10 @@ returns-then-is_read-2-clause-read c = λ b know.
     let G = c.args.scene.now.table.now in
     let e : c.len-begin.result ≡ length c.args.operands.now.items = omega arith in
     let s1 = c.read_singles-rest.ensures.sofar b (items_of c.args.pattern.now) know
+    (c.read_head-rest.ensures.sofar b (items_of c.args.pattern.now)
     (rw (c.of-items.ensures, c.in_ok-reserve.ensures.items)
     (at_begin G b c.args.place.opcode (items_of c.args.pattern.now) c.args.scene.now.image.now c.args.place.first
-    c.args.place.end c.len-begin.result c.args.operands.now.items e)) in
+    c.args.place.end c.len-begin.result c.args.operands.now.items e))) in
     let s2 = c.read_parameters-rest.ensures.sofar b (items_of c.args.pattern.now) know s1 in
     let d = c.if-is_read-2.ensures refl in
     words_end G (start b c.args.place.opcode) (items_of c.args.pattern.now) _ _ _ _ _ _ _ (rw e at s2) d.0 d.1
@@ -32,9 +34,10 @@ returns-then-is_read-3-clause-read c = λ b know.
     let G = c.args.scene.now.table.now in
     let e : c.len-begin.result ≡ length c.args.operands.now.items = omega arith in
     let s1 = c.read_singles-rest.ensures.sofar b (items_of c.args.pattern.now) know
+    (c.read_head-rest.ensures.sofar b (items_of c.args.pattern.now)
     (rw (c.of-items.ensures, c.in_ok-reserve.ensures.items)
     (at_begin G b c.args.place.opcode (items_of c.args.pattern.now) c.args.scene.now.image.now c.args.place.first
-    c.args.place.end c.len-begin.result c.args.operands.now.items e)) in
+    c.args.place.end c.len-begin.result c.args.operands.now.items e))) in
     let s2 = c.read_parameters-rest.ensures.sofar b (items_of c.args.pattern.now) know s1 in
     let s3 = c.read_run-rest.ensures.sofar b (items_of c.args.pattern.now) know s2 in
     let d = c.if-is_read-3.ensures refl in
@@ -45,9 +48,10 @@ returns-clause-read c = λ b know.
     let G = c.args.scene.now.table.now in
     let e : c.len-begin.result ≡ length c.args.operands.now.items = omega arith in
     let s1 = c.read_singles-rest.ensures.sofar b (items_of c.args.pattern.now) know
+    (c.read_head-rest.ensures.sofar b (items_of c.args.pattern.now)
     (rw (c.of-items.ensures, c.in_ok-reserve.ensures.items)
     (at_begin G b c.args.place.opcode (items_of c.args.pattern.now) c.args.scene.now.image.now c.args.place.first
-    c.args.place.end c.len-begin.result c.args.operands.now.items e)) in
+    c.args.place.end c.len-begin.result c.args.operands.now.items e))) in
     let s2 = c.read_parameters-rest.ensures.sofar b (items_of c.args.pattern.now) know s1 in
     let s3 = c.read_run-rest.ensures.sofar b (items_of c.args.pattern.now) know s2 in
     rw e at (c.read_left.ensures.read b (items_of c.args.pattern.now) know s3)
@@ -57,9 +61,10 @@ returns-clause-misfit c = λ b know.
     let G = c.args.scene.now.table.now in
     let e : c.len-begin.result ≡ length c.args.operands.now.items = omega arith in
     let s1 = c.read_singles-rest.ensures.sofar b (items_of c.args.pattern.now) know
+    (c.read_head-rest.ensures.sofar b (items_of c.args.pattern.now)
     (rw (c.of-items.ensures, c.in_ok-reserve.ensures.items)
     (at_begin G b c.args.place.opcode (items_of c.args.pattern.now) c.args.scene.now.image.now c.args.place.first
-    c.args.place.end c.len-begin.result c.args.operands.now.items e)) in
+    c.args.place.end c.len-begin.result c.args.operands.now.items e))) in
     let s2 = c.read_parameters-rest.ensures.sofar b (items_of c.args.pattern.now) know s1 in
     let s3 = c.read_run-rest.ensures.sofar b (items_of c.args.pattern.now) know s2 in
     c.read_left.ensures.misfit b (items_of c.args.pattern.now) know s3

@@ -17,6 +17,7 @@ loop-left-preserved c =
     let f = c.loop-left.invariant.from in
     let w = c.loop-left.invariant.few in
     let t = c.loop-left-test.true in
+    let q = c.requires.within.0 in
     let wa = c.in-Some-push_next.ensures.within.0 in
     let wb = c.in-Some-push_next.ensures.within.1 in
     let none : c.loop-left.left.kinds.now ≡ [] = by_empty c.loop-left.left.kinds.now
