@@ -91,11 +91,8 @@ fn is_on_some(definitions: &Definitions, lines: &[Line], d: u32, inst: &Inst<'_>
 pub fn stands_on(definitions: &Definitions, d: u32, x: u32) -> bool
     ensures { IsTrue result ↔ spec.StandsOn definitions.now d x }
 {
-    if !is_listed(d) {
-        return true;
-    }
     match definitions.definition(x) {
-        Some(inst) => is_on_some(definitions, &TABLE, d, inst, x),
-        None => false,
+        Some(inst) => is_on_some(definitions, &TABLE, d, inst, x) || !is_listed(d),
+        None => !is_listed(d),
     }
 }

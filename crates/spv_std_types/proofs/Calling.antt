@@ -16,7 +16,7 @@ drop_none : (os : List Operand) → os ≡ drop 0 os
 drop_none [] = refl
 drop_none (x ∷ os) = refl
 
-four_of : (os : List Operand) (d : Operand) → 4 ≤ length os
+pub four_of : (os : List Operand) (d : Operand) → 4 ≤ length os
     → get_or os 0 d ∷ get_or os 1 d ∷ get_or os 2 d ∷ get_or os 3 d ∷ drop 4 os ≡ os
 four_of [] d l = absurd (omega (arith, l))
 four_of (a ∷ []) d l = absurd (let m : 4 ≤ 1 = l in omega (arith, m))

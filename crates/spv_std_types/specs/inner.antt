@@ -1,3 +1,4 @@
 -- Definitions that serve the code alone.
 pub mod Failing
+pub mod Looking
 pub mod Table

@@ -3,6 +3,7 @@
 #![tactic(auto)]
 
 mod asked;
+mod calls;
 mod condition;
 mod decide;
 mod first;
@@ -11,6 +12,7 @@ mod mistyped;
 mod table;
 
 pub use asked::asks_types;
+pub use calls::{Miscalls, first_miscalls};
 pub use condition::{Among, Classes, Condition, Number, Relation, Subject, Wanted, operand_of};
-pub use mistyped::{first_mistyped, is_std, mistyping_at};
+pub use mistyped::{is_std, mistyping_at};
 pub use table::conditions_of;

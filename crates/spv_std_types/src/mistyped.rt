@@ -4,7 +4,7 @@ ghost use Rattle.std.specs.Prelude.{◌≡◌, ◌<◌, ◌↔◌, IsTrue, Match
 ghost use Rattle.spv_module.specs.Module.{plain_inst, plain_operands};
 ghost use Rattle.spv_extended.specs.declared.set.Set.TheVariants.{OpenClStd, Other};
 ghost use Rattle.spv_extended.specs.Sets.{imported_by, or_later, set_in};
-ghost use Rattle.spv_std_types.specs.Mistyped.{BreaksCall, IsFirstMistyped, IsMistyped, IsMistypedBy, Mistypes};
+ghost use Rattle.spv_std_types.specs.Mistyped.{BreaksCall, IsMistyped, IsMistypedBy, Mistypes};
 ghost use Rattle.spv_std_types.specs.inner.Failing.{BreaksBy, IsFound};
 
 use crate::condition::Condition;
@@ -100,21 +100,4 @@ pub fn mistyping_at(definitions: &Definitions, number: u32) -> Option<Condition>
     ensures { MatchOption result (¬ (IsMistyped definitions.now number)) (IsMistypedBy definitions.now number) }
 {
     failing_inst(definitions, definitions.inst(number))
-}
-
-/// The number, from 0, of the first instruction that breaks Y10: a call of OpenCL.std whose result type, the type of an
-/// operand or a number among the operands is not what the instruction of the set asks (own; the OpenCL Extended
-/// Instruction Set Specification). None where there is no such instruction. `count` is how many instructions there are.
-///
-/// Time is linear in the number of instructions. It takes no memory.
-pub fn first_mistyped(definitions: &Definitions, count: u32) -> Option<u32>
-    requires { count ≡ length definitions.now }
-    ensures { IsFirstMistyped definitions.now result }
-{
-    for number in 0..count {
-        if let Some(_condition) = mistyping_at(definitions, number) {
-            return Some(number);
-        }
-    }
-    None
 }
