@@ -10,7 +10,7 @@ returns-then-count-eq0-clause-dead c = λ b know.
       refl,
       omega arith,
       dies_uncounted c.args.scene.now.table.now b c.args.scene.now.image.now c.args.at
-          c.word-head.result c.requires.fits c.word-head.ensures c.if-count-eq0.true,
+          c.word-told.result c.requires.fits c.word-told.ensures c.if-count-eq0.true,
     )
 
 pub returns-then-count-len-clause-dead : goal.returns-then-count-len-clause-dead
@@ -18,15 +18,15 @@ returns-then-count-len-clause-dead c = λ b know.
     rw c.fault_at-then-count-len.ensures (
       refl,
       omega arith,
-      dies_past c.args.scene.now.table.now b c.args.scene.now.image.now c.args.at c.word-head.result c.requires.fits
-          c.word-head.ensures (rw c.len.ensures.words at c.if-count-len.true),
+      dies_past c.args.scene.now.table.now b c.args.scene.now.image.now c.args.at c.word-told.result c.requires.fits
+          c.word-told.ensures (rw c.len.ensures.words at c.if-count-len.true),
     )
 
 pub returns-in_default-clause-dead : goal.returns-in_default-clause-dead
 returns-in_default-clause-dead c = λ b know.
-    let f = front_of c.args.scene.now.image.now c.args.at c.word-head.result c.len.result c.requires.fits
-    c.word-head.ensures c.len.ensures.words c.if-count-eq0.false c.if-count-len.false in
-    let n : c.word-head.result % 65536 < 65536 = omega arith in
+    let f = front_of c.args.scene.now.image.now c.args.at c.word-told.result c.len.result c.requires.fits
+    c.word-told.ensures c.len.ensures.words c.if-count-eq0.false c.if-count-len.false in
+    let n : c.word-told.result % 65536 < 65536 = omega arith in
     rw c.fault_at-in_default.ensures (
       refl,
       omega arith,
@@ -36,9 +36,9 @@ returns-in_default-clause-dead c = λ b know.
 
 pub returns-in_err-read_operands-clause-dead : goal.returns-in_err-read_operands-clause-dead
 returns-in_err-read_operands-clause-dead c = λ b know.
-    let f = front_of c.args.scene.now.image.now c.args.at c.word-head.result c.len.result c.requires.fits
-    c.word-head.ensures c.len.ensures.words c.if-count-eq0.false c.if-count-len.false in
-    let n : c.word-head.result % 65536 < 65536 = omega arith in
+    let f = front_of c.args.scene.now.image.now c.args.at c.word-told.result c.len.result c.requires.fits
+    c.word-told.ensures c.len.ensures.words c.if-count-eq0.false c.if-count-len.false in
+    let n : c.word-told.result % 65536 < 65536 = omega arith in
     let r = err_from_is_err_and c.from_residual.result c.from_residual.ensures.1 in
     let k = entry_known c.args.scene.now.table.now _ c.in-Some.pattern c.in-Some.ensures in
     rw (r.1, r.2)
@@ -47,11 +47,11 @@ returns-in_err-read_operands-clause-dead c = λ b know.
 
 pub returns-clause-read : goal.returns-clause-read
 returns-clause-read c = λ b know.
-    let f = front_of c.args.scene.now.image.now c.args.at c.word-head.result c.len.result c.requires.fits
-    c.word-head.ensures c.len.ensures.words c.if-count-eq0.false c.if-count-len.false in
-    let n : c.word-head.result % 65536 < 65536 = omega arith in
-    let w = c.word-head.type_inv in
-    let l : c.word-head.result / 65536 < 65536 = omega arith in
+    let f = front_of c.args.scene.now.image.now c.args.at c.word-told.result c.len.result c.requires.fits
+    c.word-told.ensures c.len.ensures.words c.if-count-eq0.false c.if-count-len.false in
+    let n : c.word-told.result % 65536 < 65536 = omega arith in
+    let w = c.word-told.type_inv in
+    let l : c.word-told.result / 65536 < 65536 = omega arith in
     let n2 : c.len-first.result ≡ length c.args.operands.now.items = omega arith in
     let k = entry_known c.args.scene.now.table.now _ c.in-Some.pattern c.in-Some.ensures in
     is_instruction c.args.scene.now.table.now b c.args.scene.now.image.now c.args.at _ _ k.entry
