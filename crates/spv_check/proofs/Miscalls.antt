@@ -1,6 +1,7 @@
 -- Y9: what a look at the calls of extended instructions finds.
-use Rattle.std.proofs.Common.{◌≡◌, ◌<◌, ◌≤◌, ℕ, List, Some, None, inl, inr, refl, true, false, IsTrue, ap, length, arith}
+use Rattle.std.proofs.Common.{◌≡◌, ◌<◌, ◌≤◌, ℕ, List, Option, Some, None, Result, Ok, Err, inl, inr, refl, true, false, IsTrue, ap, length, arith}
 use Rattle.std.proofs.Math.Nat.{eq-or-lt_of_le}
+use Rattle.std.specs.Prelude.{IfErr, IfOk}
 use Rattle.std.proofs.lemmas.Bool.{cases_lt}
 use Rattle.std.proofs.lemmas.Option.{slice_get_within}
 use Rattle.spv_module.specs.Operand.{PlainInst}
@@ -12,7 +13,10 @@ use Rattle.spv_extended.specs.Broken.{Broken, miscalled}
 use Rattle.spv_extended.specs.Miscalled.{IsFirstMiscalled}
 use Rattle.spv_extended.specs.Reach.{opens}
 use Rattle.spv_extended.specs.declared.reach.Reach.{Reach}
+use Rattle.spv_extended.specs.declared.reach.Reach.TheVariants.{Profile, Extended, OpenCl}
 use Rattle.spv_extended.proofs.Brokens.{of_call, of_reach, of_rule}
+use Rattle.spv_std_types.specs.Broken.{asks_types}
+use Rattle.spv_std_types.specs.Mistyped.{IsFirstMistyped}
 use Rattle.spv_layout.specs.First.{IsFirst, rank_of}
 use Rattle.spv_layout.specs.Stage.{of_extended}
 use Rattle.spv_layout.specs.inner.Outcome.{IsStopAt}
@@ -57,3 +61,25 @@ refused_at reach is n (Fault f) o h s = (rw (s.0, s.1) (first reach is n o h), r
 
 pub call_within : (is : List PlainInst) (n : ℕ) → IsFirstMiscalled is (Some n) → n < length is
 call_within is n h = slice_get_within is n h.0.inst h.0.there
+
+-- where the types of calls are asked, extended instructions are looked at whole
+pub asked_opens : (reach : Reach) → asks_types reach ≡ true → opens reach ≡ true
+asked_opens Profile e = absurd (let no : false ≡ true = e in cc)
+asked_opens Extended e = refl
+asked_opens (OpenCl minor) e = refl
+
+-- what one look at the calls for both rules says of how far the module is looked at
+pub unbroken_by : (reach : Reach) (is : List PlainInst) (o : Result (Option ℕ) Stop)
+    → IfOk o (λ _. IsFirstMiscalled is None) → IfOk o (λ _. (r : Rule) (n : ℕ) → ¬ (Broken reach is r n))
+unbroken_by reach is (Ok m) h = none_broken reach is h
+unbroken_by reach is (Err s) h = tt
+
+pub refused_by : (reach : Reach) (is : List PlainInst) (o : Result (Option ℕ) Stop) → opens reach ≡ true
+    → IfErr o (λ s. (r : Reach) → opens r ≡ true → IsRefusal r is s) → IfErr o (λ s. IsRefusal reach is s)
+refused_by reach is (Ok m) e h = tt
+refused_by reach is (Err s) e h = h reach e
+
+pub mistyped_by : (reach : Reach) (is : List PlainInst) (o : Result (Option ℕ) Stop) → IfOk o (IsFirstMistyped is)
+    → IfOk o (λ m. asks_types reach ≡ true → IsFirstMistyped is m)
+mistyped_by reach is (Ok m) h = λ _. h
+mistyped_by reach is (Err s) h = tt

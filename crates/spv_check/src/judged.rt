@@ -109,14 +109,14 @@ pub fn judge<'a>(
             return refused(stop, module, Reached::Typed(plan, ids));
         }
     };
-    match extended_check(alloc, reach, &module, &plan) {
-        Ok(()) => (),
+    let mistyped = match extended_check(alloc, reach, &module, &plan, &types) {
+        Ok(mistyped) => mistyped,
         Err(stop) => {
             drop(types);
             return refused(stop, module, Reached::Sound);
         }
-    }
-    match std_types_check(reach, &module, &plan, &types) {
+    };
+    match std_types_check(reach, &module, &plan, mistyped) {
         Ok(()) => (),
         Err(stop) => {
             drop(types);

@@ -33,8 +33,8 @@ fn stopped<'a>(stop: Stop) -> Result<Verdict<'a>, Memory>
 /// (SPIR-V Specification 1.6, section 2.3; instructions and words from 0); or, where the words spell a list, the first
 /// rule that it breaks, by stage, then by instruction, then by rule, with the first word of the instruction. The stages
 /// are P, L, D, Y1, then C, M, E and the other rules Y, then F, A, G, Y9, Y10, and at last O; `lay_out`, `number`,
-/// `type_check`, `flow_check` and `standard_check` tell their rules, `first_miscalled` tells Y9, and `first_mistyped`
-/// Y10.
+/// `type_check`, `flow_check` and `standard_check` tell their rules, `first_miscalled` tells Y9, and `first_miscalls`
+/// of a kernel of OpenCL both Y9 and Y10.
 ///
 /// `Memory` comes only where a growth of memory was refused.
 pub fn check<'a>(

@@ -1,8 +1,19 @@
 use Rattle.std.proofs.Common.{◌∙◌, None, sym}
 use Rattle.spv_module.specs.Module.{plain_insts}
 use Rattle.spv_extended.specs.Miscalled.{IsFirstMiscalled}
-use Rattle.spv_check.proofs.Miscalls.{none_broken, not_asked, refused_at}
+use Rattle.spv_check.proofs.Miscalls.{asked_opens, mistyped_by, none_broken, not_asked, refused_at, refused_by, unbroken_by}
 use Rattle.spv_check.proofs.extended.extended_check.Goals as goal
+
+pub returns-then-asks_types : goal.returns-then-asks_types
+returns-then-asks_types c =
+    let reach = c.args.reach in
+    let is = plain_insts c.args.module.now in
+    let r = c.calls_check.result in record {
+      unbroken = unbroken_by reach is r c.calls_check.ensures.none;
+      refused = refused_by reach is r (asked_opens reach (sym c.asks_types.ensures ∙ c.if-asks_types.true))
+          c.calls_check.ensures.refused;
+      mistyped = mistyped_by reach is r c.calls_check.ensures.mistyped;
+    }
 
 pub returns-then-not-opens-clause-unbroken : goal.returns-then-not-opens-clause-unbroken
 returns-then-not-opens-clause-unbroken c =

@@ -56,14 +56,14 @@ flow_check-requires-clause-known c =
     let plan = c.in-Ok.ensures.plan in
     (G, plan, c.in-Ok-number.ensures.ids G plan)
 
-pub extended_check-requires : goal.extended_check-requires
-extended_check-requires c = record { plan = (c.args.table.now, c.in-Ok.ensures.plan) }
+pub extended_check-requires-clause-plan : goal.extended_check-requires-clause-plan
+extended_check-requires-clause-plan c = (c.args.table.now, c.in-Ok.ensures.plan)
+
+pub extended_check-requires-clause-types : goal.extended_check-requires-clause-types
+extended_check-requires-clause-types c = ap (λ (s : Subject). s.insts) c.in-Ok-type_check.ensures.types.same
 
 pub std_types_check-requires-clause-plan : goal.std_types_check-requires-clause-plan
 std_types_check-requires-clause-plan c = (c.args.table.now, c.in-Ok.ensures.plan)
-
-pub std_types_check-requires-clause-types : goal.std_types_check-requires-clause-types
-std_types_check-requires-clause-types c = ap (λ (s : Subject). s.insts) c.in-Ok-type_check.ensures.types.same
 
 pub standard_of-standard-requires-clause-ids : goal.standard_of-standard-requires-clause-ids
 standard_of-standard-requires-clause-ids c =
